@@ -5,7 +5,6 @@ ghost use Rattle.msp_assign.specs.Prices.{greatest_cost, HasCosts};
 use msp_assign::{Assignment, Stored, assign};
 use msp_samples::list_of;
 use std::alloc::Global;
-use std::test::Fail;
 
 /// The most that a row costs at a column.
 const GREATEST_COST: i128 = 1 << 100;
@@ -40,47 +39,51 @@ fn assigned(alloc: Global, rows: u32, columns: u32, cells: &[i128]) -> Option<As
 }
 
 /// A table, its least assignment and the prices, worked out by hand: row after row takes the shortest way to a free column.
-#[derive(Clone, Copy)]
-struct Case<'a> {
-    cells: &'a [i128],
-    column: &'a [u32],
-    row_price: &'a [i128],
-    column_price: &'a [i128],
+struct Case {
+    cells: &'static [i128],
+    column: &'static [u32],
+    row_price: &'static [i128],
+    column_price: &'static [i128],
+}
+
+const CASES: &[Case] = &[
+    // The first row takes column 0 at 2. The second costs 1 there, and the first gives way to column 1 for 2 more. The third
+    // costs 1 at column 0: the second gives way to column 1 for 5 more, and the first to column 2 for 1 more.
+    Case {
+        cells: &[2, 4, 5, 9, 1, 6, 8, 9, 1, 9, 12, 12],
+        column: &[2, 1, 0],
+        row_price: &[5, 7, 7],
+        column_price: &[-6, -1, 0, 0],
+    },
+    // No column is left over.
+    Case {
+        cells: &[1, 2, 1, 9],
+        column: &[1, 0],
+        row_price: &[2, 2],
+        column_price: &[-1, 0],
+    },
+    // The greatest cost.
+    Case {
+        cells: &[GREATEST_COST],
+        column: &[0],
+        row_price: &[GREATEST_COST],
+        column_price: &[0],
+    },
+];
+
+/// Whether the assignment and the prices are those of the case.
+fn is_as_by_hand(all: &Assignment, case: &Case) -> bool {
+    all.column.as_slice() == case.column
+        && all.row_price.as_slice() == case.row_price
+        && all.column_price.as_slice() == case.column_price
 }
 
 #[test]
-fn tables_by_hand(rt: HostRuntime) -> Result<(), Fail> {
-    let cases = [
-        // The first row takes column 0 at 2. The second costs 1 there, and the first gives way to column 1 for 2 more. The third
-        // costs 1 at column 0: the second gives way to column 1 for 5 more, and the first to column 2 for 1 more.
-        Case {
-            cells: &[2, 4, 5, 9, 1, 6, 8, 9, 1, 9, 12, 12],
-            column: &[2, 1, 0],
-            row_price: &[5, 7, 7],
-            column_price: &[-6, -1, 0, 0],
-        },
-        // No column is left over.
-        Case {
-            cells: &[1, 2, 1, 9],
-            column: &[1, 0],
-            row_price: &[2, 2],
-            column_price: &[-1, 0],
-        },
-        // The greatest cost.
-        Case {
-            cells: &[GREATEST_COST],
-            column: &[0],
-            row_price: &[GREATEST_COST],
-            column_price: &[0],
-        },
-    ];
-    for case in cases {
+fn tables_by_hand(rt: HostRuntime) {
+    for case in CASES {
         let rows = case.column.len() as u32;
         let columns = case.column_price.len() as u32;
-        let all = assigned(rt.alloc(), rows, columns, case.cells).ok_or("no assignment")?;
-        assert_eq!(rt; all.column.as_slice(), case.column);
-        assert_eq!(rt; all.row_price.as_slice(), case.row_price);
-        assert_eq!(rt; all.column_price.as_slice(), case.column_price);
+        let all = assigned(rt.alloc(), rows, columns, case.cells).expect(&rt, "an assignment");
+        assert!(rt; is_as_by_hand(&all, case));
     }
-    Ok(())
 }

@@ -13,7 +13,6 @@ use msp_route::Solver;
 use msp_samples::{JobData, class, instance, instance_by_needs, list_of, need, piece, timed};
 use msp_schedule::{Schedule, first_break};
 use std::alloc::Global;
-use std::test::Fail;
 
 /// Jobs of times 2 and 3 with due dates 4 and -2.
 fn pair(alloc: Global) -> Option<Instance>
@@ -56,43 +55,57 @@ fn is_small(inst: &Instance, s: &Schedule) -> bool
             .all(|p| 0 <= p.from && p.from <= 9 && 0 <= p.to && p.to <= 9)
 }
 
-/// Whether the schedule, which has to be feasible, meets the bound.
-fn is_met(inst: &Instance, s: &Schedule, bound: i64) -> Result<bool, Fail>
+/// Whether the schedule meets the bound, or None where it is not feasible.
+fn is_met(inst: &Instance, s: &Schedule, bound: i64) -> Option<bool>
     requires inner { Inner inst.now }
     requires one { inst.now.class.env ≡ One }
     requires lateness { inst.now.class.crit ≡ Lmax }
     requires bound { LiesWithin 1000 bound }
 {
     if !is_small(inst, s) || first_break(inst, s).is_some() {
-        return Err("the schedule is not feasible".into());
+        return None;
     }
-    Ok(meets(inst, s, bound))
+    Some(meets(inst, s, bound))
+}
+
+/// Whether the bound is met where the second job is done before the first.
+fn is_met_in_turn(alloc: Global, bound: i64) -> Option<bool>
+    requires { LiesWithin 1000 bound }
+{
+    let inst = pair(alloc)?;
+    let pieces = list_of(alloc, &[piece(1, 0, 3), piece(0, 3, 5)]).ok()?;
+    is_met(&inst, &Schedule { unit: 1, pieces }, bound)
 }
 
 #[test]
-fn a_bound_is_met_at_its_end(rt: HostRuntime) -> Result<(), Fail> {
-    let inst = pair(rt.alloc()).ok_or("no instance")?;
-    let schedule = Schedule {
-        unit: 1,
-        pieces: list_of(rt.alloc(), &[piece(1, 0, 3), piece(0, 3, 5)])?,
-    };
+fn a_bound_is_met_at_its_end(rt: HostRuntime) {
     // the jobs end at 3 and 5, and are late by 5 and 1
-    assert!(rt; is_met(&inst, &schedule, 5)? && !is_met(&inst, &schedule, 4)?);
-    Ok(())
+    assert!(rt; is_met_in_turn(rt.alloc(), 5) == Some(true));
+    assert!(rt; is_met_in_turn(rt.alloc(), 4) == Some(false));
+}
+
+/// The instance with its due dates raised by 5.
+fn raised(alloc: Global) -> Option<Instance> {
+    let inst = pair(alloc)?;
+    if !may_be_raised(inst.jobs.as_slice()) {
+        return None;
+    }
+    shifted(alloc, &inst, 5, Crit::SumU).ok()
+}
+
+/// Whether the job has this due date.
+fn has_due(inst: &Instance, job: usize, due: i64) -> bool {
+    match inst.jobs.get(job) {
+        Some(job) => job.due == due,
+        None => false,
+    }
 }
 
 #[test]
-fn due_dates_are_raised(rt: HostRuntime) -> Result<(), Fail> {
-    let inst = pair(rt.alloc()).ok_or("no instance")?;
-    if !may_be_raised(inst.jobs.as_slice()) {
-        return Err("due dates that are too large".into());
-    }
-    let raised = shifted(rt.alloc(), &inst, 5, Crit::SumU)?;
-    let [first, second] = raised.jobs.as_slice() else {
-        return Err("two jobs".into());
-    };
-    assert!(rt; first.due == 9 && second.due == 3 && raised.class.crit == Crit::SumU);
-    Ok(())
+fn due_dates_are_raised(rt: HostRuntime) {
+    let raised = raised(rt.alloc()).expect(&rt, "an instance");
+    assert!(rt; raised.jobs.len() == 2 && raised.class.crit == Crit::SumU);
+    assert!(rt; has_due(&raised, 0, 9) && has_due(&raised, 1, 3));
 }
 
 /// Whether two jobs of cost 0 can cost at most a bound.
@@ -104,6 +117,6 @@ fn can_cost(alloc: Global, bound: i128) -> Option<bool> {
 
 #[test]
 fn a_cost_can_be_met(rt: HostRuntime) {
-    assert_eq!(rt; can_cost(rt.alloc(), 0), Some(true));
-    assert_eq!(rt; can_cost(rt.alloc(), -1), Some(false));
+    assert!(rt; can_cost(rt.alloc(), 0) == Some(true));
+    assert!(rt; can_cost(rt.alloc(), -1) == Some(false));
 }

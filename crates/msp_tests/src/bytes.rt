@@ -1,10 +1,12 @@
 // Each call once where it succeeds, and one fault in mid-stream of each kind.
 use msp_io::{
-    MemorySink, MemorySource, StdSink, StdSource, SureSink, SureSource, Taken, read_all, write_all,
+    MemorySink, MemorySource, Sink, Source, StdSink, StdSource, SureSink, SureSource, Taken,
+    read_all, write_all,
 };
+use std::alloc::Global;
 use std::io;
 use std::io::{Read, Write};
-use std::test::Fail;
+use std::process::Abort;
 
 const TEXT: &[u8] = b"name 1||sumC\njob 1 3\nend\n";
 
@@ -28,56 +30,72 @@ impl Write for Broken {
     }
 }
 
-#[test]
-fn whole_reads(rt: HostRuntime) -> Result<(), Fail> {
-    let alloc = rt.alloc();
-    let mut source = SureSource::new(TEXT.to_vec(alloc)?, 10);
-    let all = read_all(alloc, &mut source, 25)?;
-    assert_eq!(rt; all.as_slice(), TEXT);
-    let mut source = StdSource::new(TEXT);
-    let all = read_all(alloc, &mut source, 1000)?;
-    assert_eq!(rt; all.as_slice(), TEXT);
-    let mut source = SureSource::new(TEXT.to_vec(alloc)?, 10);
-    assert!(rt; matches!(read_all(alloc, &mut source, 24), Err(Taken::TooLong)));
-    Ok(())
+/// A source of the text that does not fail.
+fn sure(rt: &impl Abort, alloc: Global) -> SureSource {
+    SureSource::new(TEXT.to_vec(alloc).expect(rt, "memory"), 10)
+}
+
+/// Whether these bytes are read, and nothing more.
+fn gives<S: Source>(alloc: Global, source: &mut S, limit: u32, bytes: &[u8]) -> bool {
+    match read_all(alloc, source, u64::from(limit)) {
+        Ok(all) => all.as_slice() == bytes,
+        Err(_) => false,
+    }
+}
+
+/// Why reading stops.
+fn stops<S: Source>(alloc: Global, source: &mut S, limit: u32) -> Option<Taken> {
+    read_all(alloc, source, u64::from(limit)).err()
 }
 
 #[test]
-fn the_second_read_fails(rt: HostRuntime) -> Result<(), Fail> {
+fn whole_reads(rt: HostRuntime) {
     let alloc = rt.alloc();
-    let mut source = MemorySource::new(TEXT.to_vec(alloc)?, 10, [2].to_vec(alloc)?);
-    assert!(rt; matches!(read_all(alloc, &mut source, 1000), Err(Taken::ReadFault)));
-    let rest = read_all(alloc, &mut source, 1000)?;
-    assert_eq!(rt; rest.as_slice(), b"mC\njob 1 3\nend\n".as_slice());
-    let mut source = StdSource::new(Broken);
-    assert!(rt; matches!(read_all(alloc, &mut source, 1000), Err(Taken::ReadFault)));
-    Ok(())
+    assert!(rt; gives(alloc, &mut sure(&rt, alloc), 25, TEXT));
+    assert!(rt; gives(alloc, &mut StdSource::new(TEXT), 1000, TEXT));
+    assert!(rt; stops(alloc, &mut sure(&rt, alloc), 24) == Some(Taken::TooLong));
 }
 
 #[test]
-fn whole_writes(rt: HostRuntime) -> Result<(), Fail> {
+fn the_second_read_fails(rt: HostRuntime) {
     let alloc = rt.alloc();
-    let mut sink = MemorySink::new(alloc, 25, 10, Vec::new(alloc))?;
-    write_all(&mut sink, TEXT)?;
-    assert_eq!(rt; sink.bytes(), TEXT);
-    write_all(&mut SureSink::new(), TEXT)?;
+    let text = TEXT.to_vec(alloc).expect(&rt, "memory");
+    let mut source = MemorySource::new(text, 10, [2].to_vec(alloc).expect(&rt, "memory"));
+    assert!(rt; stops(alloc, &mut source, 1000) == Some(Taken::ReadFault));
+    assert!(rt; gives(alloc, &mut source, 1000, b"mC\njob 1 3\nend\n"));
+    assert!(rt; stops(alloc, &mut StdSource::new(Broken), 1000) == Some(Taken::ReadFault));
+}
+
+/// Whether the whole text is written.
+fn takes<K: Sink>(sink: &mut K) -> bool {
+    write_all(sink, TEXT).is_ok()
+}
+
+/// A sink of so many bytes, of which the call of the number fails.
+fn sink(rt: &impl Abort, alloc: Global, room: u32, fails: u64) -> MemorySink {
+    let fails = [fails].to_vec(alloc).expect(rt, "memory");
+    MemorySink::new(alloc, room, 10, fails).expect(rt, "memory")
+}
+
+#[test]
+fn whole_writes(rt: HostRuntime) {
+    let alloc = rt.alloc();
+    let mut whole = sink(&rt, alloc, 25, 0);
+    assert!(rt; takes(&mut whole) && whole.bytes() == TEXT);
+    assert!(rt; takes(&mut SureSink::new()));
     let mut out = Vec::new(alloc);
-    write_all(&mut StdSink::new(&mut out), TEXT)?;
-    assert_eq!(rt; out.as_slice(), TEXT);
-    Ok(())
+    assert!(rt; takes(&mut StdSink::new(&mut out)));
+    assert!(rt; out.as_slice() == TEXT);
 }
 
 #[test]
-fn a_write_fails(rt: HostRuntime) -> Result<(), Fail> {
+fn a_write_fails(rt: HostRuntime) {
     let alloc = rt.alloc();
-    let mut sink = MemorySink::new(alloc, 100, 10, [2].to_vec(alloc)?)?;
-    assert!(rt; write_all(&mut sink, TEXT).is_err());
-    assert_eq!(rt; sink.bytes(), b"name 1||su".as_slice());
-    let mut sink = MemorySink::new(alloc, 12, 10, Vec::new(alloc))?;
-    assert!(rt; write_all(&mut sink, TEXT).is_err());
-    assert_eq!(rt; sink.bytes(), b"name 1||sumC".as_slice());
+    let mut second = sink(&rt, alloc, 100, 2);
+    assert!(rt; !takes(&mut second) && second.bytes() == b"name 1||su".as_slice());
+    let mut short = sink(&rt, alloc, 12, 0);
+    assert!(rt; !takes(&mut short) && short.bytes() == b"name 1||sumC".as_slice());
     let mut room = [0; 12];
-    assert!(rt; write_all(&mut StdSink::new(room.as_mut_slice()), TEXT).is_err());
-    assert!(rt; write_all(&mut StdSink::new(Broken), TEXT).is_err());
-    Ok(())
+    assert!(rt; !takes(&mut StdSink::new(room.as_mut_slice())));
+    assert!(rt; !takes(&mut StdSink::new(Broken)));
 }

@@ -1,11 +1,11 @@
 // Certificates that are read and printed again, and the most lines of one.
-ghost use Rattle.std.specs.Prelude.{◌≡◌, ◌≤◌, length};
-ghost use Rattle.msp_grammar.specs.declared.lines.limits.TheConstants.{MOST_BYTES};
+ghost use Rattle.std.specs.Prelude.{◌≡◌, length};
 
-use crate::texts::is_lowest;
+use crate::texts::{is_lowest, is_text};
+use msp_class::NoMemory;
 use msp_file::{Filed, print_certificate, read_certificate, read_instance};
 use std::alloc::Global;
-use std::test::Fail;
+use std::process::Abort;
 
 const CUT: &[u8] = b"msp 1\nclass P|pmtn|Cmax\nmachines 2\njob a p=3\njob b p=3\njob c p=3\nend\n";
 
@@ -64,30 +64,38 @@ const PRINTED: &[(&[u8], &[u8])] = &[
 ];
 
 /// The certificate text behind the instance, read and printed again.
-fn printed_again(alloc: Global, filed: &Filed, text: &[u8]) -> Result<Vec<u8>, Fail>
-    requires named { length filed.now.names ≡ length filed.now.instance.jobs }
-    requires text { length text.now ≤ MOST_BYTES }
+fn certificate_again(alloc: Global, filed: &Filed, text: &[u8]) -> Option<Vec<u8>>
+    requires { length filed.now.names ≡ length filed.now.instance.jobs }
 {
-    let Filed { instance, names } = filed;
-    let certificate = read_certificate(alloc, names, instance, text, 1)?;
-    if !is_lowest(certificate.bound) {
-        return Err(Fail::new("a bound that is not in lowest terms"));
+    if text.len() >= 300 {
+        return None;
     }
-    Ok(print_certificate(alloc, names, instance, &certificate)?)
+    let Filed { instance, names } = filed;
+    let certificate = read_certificate(alloc, names, instance, text, 1).ok()?;
+    if !is_lowest(certificate.bound) {
+        return None;
+    }
+    print_certificate(alloc, names, instance, &certificate).ok()
+}
+
+/// The same, behind the text of the instance.
+fn printed_again(alloc: Global, instance: &[u8], text: &[u8]) -> Option<Vec<u8>> {
+    if instance.len() >= 300 {
+        return None;
+    }
+    let filed = read_instance(alloc, instance).ok()?;
+    certificate_again(alloc, &filed, text)
 }
 
 #[test]
-fn certificates_are_printed_again(rt: HostRuntime) -> Result<(), Fail> {
+fn certificates_are_printed_again(rt: HostRuntime) {
     for (instance, text) in PRINTED {
-        assert!(rt; instance.len() < 300 && text.len() < 300);
-        let filed = read_instance(rt.alloc(), instance)?;
-        assert_eq!(rt; printed_again(rt.alloc(), &filed, text)?.as_slice(), *text);
+        assert!(rt; is_text(printed_again(rt.alloc(), instance, text), text));
     }
-    Ok(())
 }
 
 /// A certificate of the group of so many jobs, all the same.
-fn repeated_job(alloc: Global, lines: usize) -> Result<Vec<u8>, Fail> {
+fn repeated_job(alloc: Global, lines: usize) -> Result<Vec<u8>, NoMemory> {
     let mut text = Vec::new(alloc);
     text.extend_from_slice(b"certificate\nbound 1\nkind group\n")?;
     for _ in 0..lines {
@@ -97,20 +105,19 @@ fn repeated_job(alloc: Global, lines: usize) -> Result<Vec<u8>, Fail> {
     Ok(text)
 }
 
+/// Whether a certificate of so many lines is refused for this fault, or is read where there is none.
+fn answers(rt: &impl Abort, alloc: Global, lines: usize, fault: &[u8]) -> bool {
+    let Filed { instance, names } = read_instance(alloc, CUT).expect(rt, "an instance");
+    let text = repeated_job(alloc, lines).expect(rt, "memory");
+    assert!(rt; text.len() < 200_000);
+    match read_certificate(alloc, &names, &instance, &text, 8) {
+        Ok(_) => fault.is_empty(),
+        Err(why) => why.text().bytes() == fault,
+    }
+}
+
 #[test]
-fn lines_of_a_kind(rt: HostRuntime) -> Result<(), Fail> {
-    let Filed { instance, names } = read_instance(rt.alloc(), CUT)?;
-    let most = repeated_job(rt.alloc(), 20_000)?;
-    assert!(rt; most.len() < 200_000);
-    assert!(rt; read_certificate(rt.alloc(), &names, &instance, &most, 8).is_ok());
-    let over = repeated_job(rt.alloc(), 20_001)?;
-    assert!(rt; over.len() < 200_000);
-    let fault = read_certificate(rt.alloc(), &names, &instance, &over, 8)
-        .err()
-        .ok_or("no fault")?;
-    assert_eq!(rt;
-        fault.text().bytes(),
-        b"line 20011: limit of lines".as_slice()
-    );
-    Ok(())
+fn lines_of_a_kind(rt: HostRuntime) {
+    assert!(rt; answers(&rt, rt.alloc(), 20_000, b""));
+    assert!(rt; answers(&rt, rt.alloc(), 20_001, b"line 20011: limit of lines"));
 }

@@ -14,32 +14,26 @@ fn facts_of_criteria(rt: HostRuntime) {
 
 #[test]
 fn facts_of_environments(rt: HostRuntime) {
-    assert_eq!(rt; fixed_machines(Env::One), Some(1));
-    assert_eq!(rt; fixed_machines(Env::J2Short), Some(2));
-    assert_eq!(rt; fixed_machines(Env::JShort), None);
+    assert!(rt; fixed_machines(Env::One) == Some(1));
+    assert!(rt; fixed_machines(Env::J2Short) == Some(2));
+    assert!(rt; fixed_machines(Env::JShort).is_none());
     assert!(rt; is_shop(Env::O3) && !is_shop(Env::R));
     assert!(rt; is_mirror(Env::O3) && !is_mirror(Env::F2));
-    assert_eq!(rt; most_operations(Env::JShort), 2);
-    assert_eq!(rt; most_operations(Env::J2), 32);
+    assert!(rt; most_operations(Env::JShort) == 2 && most_operations(Env::J2) == 32);
 }
 
 #[test]
 fn keeps_order(rt: HostRuntime) {
     let mut list = List::new(rt.alloc());
-    assert_eq!(rt; list.push(3u8), Ok(()));
-    assert_eq!(rt; list.put(5), Ok(()));
-    assert_eq!(rt; list.len(), 2);
-    assert_eq!(rt; list.get(1).copied(), Some(5));
-    assert_eq!(rt; list.get(2).copied(), None);
+    assert!(rt; list.push(3u8).is_ok() && list.put(5).is_ok());
+    assert!(rt; list.len() == 2 && list.get(1).copied() == Some(5) && list.get(2).is_none());
     let again = List::from_vec(list.take_all());
-    assert_eq!(rt; list.len(), 0);
-    assert_eq!(rt; again.as_slice(), [3, 5].as_slice());
+    assert!(rt; list.len() == 0 && again.as_slice() == [3, 5].as_slice());
 }
 
 #[test]
 fn turns_trees(rt: HostRuntime) {
-    assert_eq!(rt; turned(Order::Intree), Order::Outtree);
-    assert_eq!(rt; turned(Order::Prec), Order::Prec);
+    assert!(rt; turned(Order::Intree) == Order::Outtree && turned(Order::Prec) == Order::Prec);
 }
 
 const PLAIN: Class = Class {
@@ -51,45 +45,47 @@ const PLAIN: Class = Class {
     crit: Crit::Cmax,
 };
 
+const LAST: Class = Class {
+    env: Env::J,
+    cut: true,
+    order: Order::Prec,
+    heads: true,
+    times: Times::Equal,
+    crit: Crit::SumWT,
+};
+
+/// Classes, and their ranks.
+const RANKS: &[(Class, u16)] = &[
+    (PLAIN, 0),
+    (
+        Class {
+            crit: Crit::SumWC,
+            ..PLAIN
+        },
+        4,
+    ),
+    (
+        Class {
+            times: Times::Unit,
+            ..PLAIN
+        },
+        9,
+    ),
+    (
+        Class {
+            times: Times::Equal,
+            ..PLAIN
+        },
+        18,
+    ),
+    (Class { cut: true, ..PLAIN }, 270),
+    (LAST, 9719),
+];
+
 #[test]
 fn ranks_by_table(rt: HostRuntime) {
-    let last = Class {
-        env: Env::J,
-        cut: true,
-        order: Order::Prec,
-        heads: true,
-        times: Times::Equal,
-        crit: Crit::SumWT,
-    };
-    let table = [
-        (PLAIN, 0),
-        (
-            Class {
-                crit: Crit::SumWC,
-                ..PLAIN
-            },
-            4,
-        ),
-        (
-            Class {
-                times: Times::Unit,
-                ..PLAIN
-            },
-            9,
-        ),
-        (
-            Class {
-                times: Times::Equal,
-                ..PLAIN
-            },
-            18,
-        ),
-        (Class { cut: true, ..PLAIN }, 270),
-        (last, 9719),
-    ];
-    for (class, number) in table {
-        assert_eq!(rt; rank(class), number);
+    for (class, number) in RANKS {
+        assert!(rt; rank(*class) == *number, "rank {number}");
     }
-    assert_eq!(rt; unrank(9719), Some(last));
-    assert_eq!(rt; unrank(9720), None);
+    assert!(rt; unrank(9719) == Some(LAST) && unrank(9720).is_none());
 }

@@ -7,7 +7,6 @@ use msp_class::NoMemory;
 use msp_route::{Question, Range, least_in};
 use std::alloc::Global;
 use std::cell::Cell;
-use std::test::Fail;
 
 /// Bounds from `least` on are met. It counts how often it is asked.
 #[derive(Drop)]
@@ -47,10 +46,9 @@ fn searched(alloc: Global, low: i128, high: i128, least: i128) -> Result<(i128, 
 }
 
 #[test]
-fn wide_ranges_are_halved(rt: HostRuntime) -> Result<(), Fail> {
-    assert_eq!(rt; searched(rt.alloc(), 0, 1000, 347)?, (347, 11));
-    assert_eq!(rt; searched(rt.alloc(), -1000, 0, -653)?, (-653, 11));
+fn wide_ranges_are_halved(rt: HostRuntime) {
+    assert!(rt; searched(rt.alloc(), 0, 1000, 347).ok() == Some((347, 11)));
+    assert!(rt; searched(rt.alloc(), -1000, 0, -653).ok() == Some((-653, 11)));
     // the one below the greatest is asked about alone
-    assert_eq!(rt; searched(rt.alloc(), 0, 1000, 1000)?, (1000, 1));
-    Ok(())
+    assert!(rt; searched(rt.alloc(), 0, 1000, 1000).ok() == Some((1000, 1)));
 }

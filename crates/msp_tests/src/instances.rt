@@ -1,10 +1,9 @@
 // Instances of the classes, and the conditions that they break.
 use msp_class::{Class, Crit, Env, List, Order, Times};
-use msp_instance::{
-    Arc, ClassFault, Curve, Instance, Job, Need, OrderFault, check, check_distinct_arcs, forward,
-};
-use std::alloc::{AllocError, Global};
-use std::test::Fail;
+use msp_instance::{Arc, ClassFault, Instance, OrderFault, check, check_distinct_arcs, forward};
+use msp_samples::{JobData, UNIT_JOB, jobs, list_of};
+use std::alloc::Global;
+use std::process::Abort;
 
 const PLAIN: Class = Class {
     env: Env::One,
@@ -55,64 +54,52 @@ const OUTTREE: Class = Class {
     ..PLAIN
 };
 
-/// A job of one need: time, release date, due date, weight and slope.
-#[derive(Clone, Copy)]
-struct Data(u64, u64, i64, u64, u64);
+const JOB: JobData = JobData {
+    time: 3,
+    ..UNIT_JOB
+};
 
-const JOB: Data = Data(3, 0, 0, 1, 0);
+const IDLE: JobData = JobData {
+    time: 0,
+    ..UNIT_JOB
+};
 
-const IDLE: Data = Data(0, 0, 0, 1, 0);
-
-fn job_of(alloc: Global, data: Data) -> Result<Job, AllocError> {
-    let Data(time, release, due, weight, slope) = data;
-    Ok(Job {
-        release,
-        due,
-        weight,
-        needs: List::from_vec(vec![in alloc; Need { machine: 0, time }]?),
-        curve: Curve {
-            slope,
-            base: 0,
-            steps: List::new(alloc),
-        },
-    })
+/// Arcs by pairs: the first job of each is complete when the second begins.
+fn arcs_of(rt: &impl Abort, alloc: Global, pairs: &[(u32, u32)]) -> List<Arc> {
+    let mut arcs = List::new(alloc);
+    for pair in pairs {
+        let (before, after) = *pair;
+        arcs.put(Arc { before, after }).expect(rt, "memory");
+    }
+    arcs
 }
 
 fn instance(
+    rt: &impl Abort,
     alloc: Global,
     class: Class,
     speeds: &[u64],
-    data: &[Data],
+    data: &[JobData],
     pairs: &[(u32, u32)],
-) -> Result<Instance, AllocError> {
-    let mut jobs = Vec::new(alloc);
-    for one in data {
-        jobs.push(job_of(alloc, *one)?)?;
-    }
-    let mut arcs = Vec::new(alloc);
-    for (before, after) in pairs {
-        let before = *before;
-        let after = *after;
-        arcs.push(Arc { before, after })?;
-    }
-    Ok(Instance {
+) -> Instance {
+    Instance {
         class,
         machines: if speeds.is_empty() { 1 } else { 2 },
-        speeds: List::from_vec(Vec::from_slice(alloc, speeds)?),
-        jobs: List::from_vec(jobs),
-        arcs: List::from_vec(arcs),
-    })
+        speeds: list_of(alloc, speeds).expect(rt, "memory"),
+        jobs: jobs(alloc, data).expect(rt, "memory"),
+        arcs: arcs_of(rt, alloc, pairs),
+    }
 }
 
 type Case = (
     Class,
     &'static [u64],
-    &'static [Data],
+    &'static [JobData],
     &'static [(u32, u32)],
     Option<ClassFault>,
 );
 
-const CASES: [Case; 21] = [
+const CASES: &[Case] = &[
     (PLAIN, &[], &[JOB, JOB], &[], None),
     (PLAIN, &[], &[], &[], Some(ClassFault::Jobs)),
     (P2, &[], &[JOB], &[], Some(ClassFault::Machines)),
@@ -137,43 +124,53 @@ const CASES: [Case; 21] = [
     (
         EQUAL,
         &[],
-        &[JOB, Data(4, 0, 0, 1, 0)],
+        &[JOB, JobData { time: 4, ..JOB }],
         &[],
         Some(ClassFault::Unit { job: 1 }),
     ),
     (
         EQUAL,
         &[],
-        &[Data(1_000_001, 0, 0, 1, 0)],
+        &[JobData {
+            time: 1_000_001,
+            ..JOB
+        }],
         &[],
         Some(ClassFault::Need { job: 0 }),
     ),
     (
         PLAIN,
         &[],
-        &[JOB, Data(3, 1, 0, 1, 0)],
+        &[JOB, JobData { release: 1, ..JOB }],
         &[],
         Some(ClassFault::Head { job: 1 }),
     ),
     (
         PLAIN,
         &[],
-        &[Data(3, 0, -1, 2, 0), IDLE],
+        &[
+            JobData {
+                due: -1,
+                weight: 2,
+                ..JOB
+            },
+            IDLE,
+        ],
         &[],
         Some(ClassFault::Due { job: 0 }),
     ),
     (
         PLAIN,
         &[],
-        &[Data(3, 0, 0, 2, 0), IDLE],
+        &[JobData { weight: 2, ..JOB }, IDLE],
         &[],
         Some(ClassFault::Weight { job: 0 }),
     ),
-    (WEIGHTED, &[], &[Data(3, 0, 0, 2, 0)], &[], None),
+    (WEIGHTED, &[], &[JobData { weight: 2, ..JOB }], &[], None),
     (
         PLAIN,
         &[],
-        &[Data(3, 0, 0, 1, 1)],
+        &[JobData { slope: 1, ..JOB }],
         &[],
         Some(ClassFault::Curve { job: 0 }),
     ),
@@ -202,53 +199,59 @@ const CASES: [Case; 21] = [
     (OUTTREE, &[], &[JOB, JOB, JOB], &[(1, 0), (1, 2)], None),
 ];
 
-#[test]
-fn first_faults(rt: HostRuntime) -> Result<(), Fail> {
-    let alloc = rt.alloc();
-    for (class, speeds, jobs, arcs, fault) in CASES {
-        let inst = instance(alloc, class, speeds, jobs, arcs)?;
-        assert_eq!(rt; check(&inst).err(), fault);
-    }
-    Ok(())
+/// The first fault of the instance of the case.
+fn fault_of(rt: &impl Abort, alloc: Global, case: &Case) -> Option<ClassFault> {
+    let (class, speeds, data, pairs, _) = *case;
+    check(&instance(rt, alloc, class, speeds, data, pairs)).err()
 }
 
 #[test]
-fn faults_of_distinct_arcs(rt: HostRuntime) -> Result<(), Fail> {
+fn first_faults(rt: HostRuntime) {
+    for case in CASES {
+        assert!(rt; fault_of(&rt, rt.alloc(), case) == case.4);
+    }
+}
+
+/// The fault of the instance where it has the arc alone.
+fn fault_with_arc(alloc: Global, inst: Instance, arc: Arc) -> Option<ClassFault> {
+    let arcs = list_of(alloc, &[arc]).ok()?;
+    let inst = Instance { arcs, ..inst };
+    check_distinct_arcs(&inst).err()
+}
+
+#[test]
+fn faults_of_distinct_arcs(rt: HostRuntime) {
     let alloc = rt.alloc();
-    let mut inst = instance(alloc, PREC, &[], &[JOB, JOB], &[])?;
+    let mut inst = instance(&rt, alloc, PREC, &[], &[JOB, JOB], &[]);
     inst.arcs = List::new(alloc);
-    assert_eq!(rt; check_distinct_arcs(&inst), Ok(()));
-    inst.arcs = List::from_vec(vec![in alloc;
-        Arc {
-            before: 1,
-            after: 2
-        },
-    ]?);
-    assert_eq!(rt;
-        check_distinct_arcs(&inst).err(),
-        Some(ClassFault::Arc { at: 0 })
-    );
-    Ok(())
+    assert!(rt; check_distinct_arcs(&inst).is_ok());
+    let first = Arc {
+        before: 1,
+        after: 2,
+    };
+    assert!(rt; fault_with_arc(alloc, inst, first) == Some(ClassFault::Arc { at: 0 }));
 }
 
 /// The order of four jobs.
-fn order_of(alloc: Global, arcs: &[(u32, u32)]) -> Result<Vec<u32>, OrderFault> {
-    let inst = instance(alloc, PREC, &[], &[JOB, JOB, JOB, JOB], arcs)?;
-    if check(&inst).is_err() {
-        return Err(OrderFault::Memory);
-    }
-    let mut order = forward(alloc, &inst)?;
-    Ok(order.take_all())
+fn order_of(rt: &impl Abort, alloc: Global, pairs: &[(u32, u32)]) -> Result<List<u32>, OrderFault> {
+    let inst = instance(rt, alloc, PREC, &[], &[JOB; 4], pairs);
+    assert!(rt; check(&inst).is_ok());
+    forward(alloc, &inst)
+}
+
+/// Where the least job stands that is on a cycle.
+fn cycle_of(rt: &impl Abort, alloc: Global, pairs: &[(u32, u32)]) -> Option<OrderFault> {
+    order_of(rt, alloc, pairs).err()
 }
 
 #[test]
-fn orders_and_cycles(rt: HostRuntime) -> Result<(), Fail> {
+fn orders_and_cycles(rt: HostRuntime) {
     let alloc = rt.alloc();
-    let chain = order_of(alloc, &[(2, 0), (0, 1), (2, 1), (3, 2)])?;
-    assert_eq!(rt; chain.as_slice(), [3, 2, 0, 1].as_slice());
-    let behind = order_of(alloc, &[(0, 3), (3, 2), (2, 3), (2, 1)]);
-    assert_eq!(rt; behind.err(), Some(OrderFault::Cycle { job: 2 }));
-    let itself = order_of(alloc, &[(0, 1), (1, 1)]);
-    assert_eq!(rt; itself.err(), Some(OrderFault::Cycle { job: 1 }));
-    Ok(())
+    let chain = [(2, 0), (0, 1), (2, 1), (3, 2)];
+    let order = order_of(&rt, alloc, &chain).expect(&rt, "an order");
+    assert!(rt; order.as_slice() == [3, 2, 0, 1].as_slice());
+    let behind = cycle_of(&rt, alloc, &[(0, 3), (3, 2), (2, 3), (2, 1)]);
+    assert!(rt; behind == Some(OrderFault::Cycle { job: 2 }));
+    let itself = cycle_of(&rt, alloc, &[(0, 1), (1, 1)]);
+    assert!(rt; itself == Some(OrderFault::Cycle { job: 1 }));
 }

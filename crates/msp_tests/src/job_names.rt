@@ -2,40 +2,56 @@
 use msp_class::List;
 use msp_job_name::{JobName, Names};
 use std::alloc::Global;
-use std::test::Fail;
+use std::process::Abort;
 
-fn names_of(alloc: Global, words: &[&[u8]]) -> Result<Option<Names>, Fail> {
+fn names_of(rt: &impl Abort, alloc: Global, words: &[&[u8]]) -> Option<Names> {
     let mut list = List::new(alloc);
     for word in words {
-        list.push(JobName::new(word).ok_or("no name")?)
-            .ok()
-            .ok_or("no memory")?;
+        let name = JobName::new(word).expect(rt, "a name");
+        list.put(name).expect(rt, "memory");
     }
-    Ok(Names::gather(alloc, &list)?)
+    Names::gather(alloc, &list).expect(rt, "memory")
+}
+
+/// Byte strings, and whether they are names.
+const WORDS: &[(&[u8], bool)] = &[
+    (b"", false),
+    (b"Az_0-9.", true),
+    (b"a b", false),
+    (b"a/b", false),
+    (b"12345678901234567890123456789012", true),
+    (b"123456789012345678901234567890123", false),
+];
+
+fn try_words(rt: &impl Abort) {
+    for (bytes, is_name) in WORDS {
+        assert!(rt; JobName::new(bytes).is_some() == *is_name, "{bytes:?}");
+    }
+}
+
+/// Whether the name stands at the place, and nowhere else.
+fn stands_at(names: &Names, at: usize, bytes: &[u8]) -> bool {
+    match names.get(at) {
+        Some(name) => name.bytes() == bytes && names.place(&name) == Some(at),
+        None => false,
+    }
+}
+
+/// Whether they are the names a, b and c.
+fn are_a_b_c(names: &Names) -> bool {
+    names.len() == 3
+        && names.get(3).is_none()
+        && stands_at(names, 0, b"a")
+        && stands_at(names, 1, b"b")
+        && stands_at(names, 2, b"c")
 }
 
 #[test]
-fn names_of_jobs(rt: HostRuntime) -> Result<(), Fail> {
-    for (bytes, is_name) in [
-        (b"".as_slice(), false),
-        (b"Az_0-9.".as_slice(), true),
-        (b"a b".as_slice(), false),
-        (b"a/b".as_slice(), false),
-        (b"12345678901234567890123456789012".as_slice(), true),
-        (b"123456789012345678901234567890123".as_slice(), false),
-    ] {
-        assert_eq!(rt; JobName::new(bytes).is_some(), is_name, "{bytes:?}");
-    }
-    let three = [b"a".as_slice(), b"b", b"c"];
-    let names = names_of(rt.alloc(), three.as_slice())?.ok_or("a name twice")?;
-    assert_eq!(rt; names.len(), 3);
-    for at in 0..3 {
-        let name = names.get(at).ok_or("no name")?;
-        assert_eq!(rt; name.bytes(), three[at]);
-        assert_eq!(rt; names.place(&name), Some(at));
-    }
-    assert!(rt; names.get(3).is_none());
-    assert!(rt; names_of(rt.alloc(), [b"a".as_slice(), b"b", b"a"].as_slice())?.is_none());
-    assert!(rt; names_of(rt.alloc(), [b"a".as_slice(), b"a"].as_slice())?.is_none());
-    Ok(())
+fn names_of_jobs(rt: HostRuntime) {
+    let alloc = rt.alloc();
+    try_words(&rt);
+    let three = names_of(&rt, alloc, &[b"a", b"b", b"c"]).expect(&rt, "three names");
+    assert!(rt; are_a_b_c(&three));
+    assert!(rt; names_of(&rt, alloc, &[b"a", b"b", b"a"]).is_none());
+    assert!(rt; names_of(&rt, alloc, &[b"a", b"a"]).is_none());
 }

@@ -1,18 +1,14 @@
 // Numbers and pieces, on examples.
 use msp_text::{Part, put, put_all, put_integer, put_number, read_number};
-use std::test::Fail;
 
 #[test]
-fn puts_pieces(rt: HostRuntime) -> Result<(), Fail> {
+fn puts_pieces(rt: HostRuntime) {
     let mut out = Vec::new(rt.alloc());
-    assert!(rt; put(&mut out, b"cost ").is_ok());
-    assert!(rt; put_integer(&mut out, -14).is_ok());
-    assert!(rt; put(&mut out, b"/").is_ok());
-    assert!(rt; put_number(&mut out, 30).is_ok());
+    assert!(rt; put(&mut out, b"cost ").is_ok() && put_integer(&mut out, -14).is_ok());
+    assert!(rt; put(&mut out, b"/").is_ok() && put_number(&mut out, 30).is_ok());
     let unit = [Part::Text(b" unit "), Part::Integer(-1), Part::Number(2)];
-    assert!(rt; put_all(&mut out, unit.as_slice()).is_ok());
-    assert_eq!(rt; out.as_slice(), b"cost -14/30 unit -12".as_slice());
-    Ok(())
+    assert!(rt; put_all(&mut out, &unit).is_ok());
+    assert!(rt; out.as_slice() == b"cost -14/30 unit -12".as_slice());
 }
 
 /// What the bytes spell: whether there is a minus, and the size.
@@ -23,7 +19,7 @@ fn spelled(bytes: &[u8]) -> Option<(bool, u128)> {
     }
 }
 
-const SPELLINGS: [(&[u8], Option<(bool, u128)>); 10] = [
+const SPELLINGS: &[(&[u8], Option<(bool, u128)>)] = &[
     (b"0", Some((false, 0))),
     (b"30", Some((false, 30))),
     (b"-7", Some((true, 7))),
@@ -42,6 +38,6 @@ const SPELLINGS: [(&[u8], Option<(bool, u128)>); 10] = [
 #[test]
 fn reads_numbers(rt: HostRuntime) {
     for (bytes, number) in SPELLINGS {
-        assert!(rt; spelled(bytes) == number);
+        assert!(rt; spelled(bytes) == *number);
     }
 }

@@ -2,10 +2,10 @@
 ghost use Rattle.std.specs.Prelude.{◌≡◌, IfOk};
 ghost use Rattle.msp_timetable.specs.Split.{IsMatrix};
 
-use msp_class::{Class, Crit, Env, NoMemory, Order, Times};
+use msp_class::{Class, Crit, Env, List, NoMemory, Order, Times};
 use msp_samples::{JobData, UNIT_JOB, instance, list_of};
 use msp_threshold::squeezed;
-use msp_timetable::{Matrix, split};
+use msp_timetable::{Matrix, Slice, split};
 use std::alloc::Global;
 use std::process::Abort;
 use std::test::Fail;
@@ -50,19 +50,31 @@ fn bounds_on_the_greatest_lateness(rt: HostRuntime) -> Result<(), Fail> {
     Ok(())
 }
 
-#[test]
-fn splits_of_tables(rt: HostRuntime) -> Result<(), Fail> {
-    let idle = table(rt.alloc(), 0, 0, 0, 0)?;
-    assert!(rt; split(rt.alloc(), &idle)?.as_slice().is_empty());
-    // each row has each column for a time of 1
-    let busy = table(rt.alloc(), 1, 1, 1, 1)?;
-    let slices = split(rt.alloc(), &busy)?;
-    let [first, second] = slices.as_slice() else {
-        return Err("not two slices".into());
+/// The split of the table of two rows and two columns with these cells.
+fn slices(alloc: Global, a: u8, b: u8, c: u8, d: u8) -> Option<List<Slice>> {
+    let table = table(alloc, a, b, c, d).ok()?;
+    split(alloc, &table).ok()
+}
+
+/// Whether the rows have these columns for a time of 1.
+fn has_columns(slice: &Slice, columns: [u32; 2]) -> bool {
+    slice.length == 1 && slice.column.as_slice() == columns.as_slice()
+}
+
+/// Whether each row has each column for a time of 1.
+fn have_each(slices: &[Slice]) -> bool {
+    let [first, second] = slices else {
+        return false;
     };
-    assert_eq!(rt; (first.length, second.length), (1, 1));
     let (straight, crossed) = ([0, 1], [1, 0]);
-    let columns = (first.column.as_slice(), second.column.as_slice());
-    assert!(rt; columns == (&straight, &crossed) || columns == (&crossed, &straight));
-    Ok(())
+    has_columns(first, straight) && has_columns(second, crossed)
+        || has_columns(first, crossed) && has_columns(second, straight)
+}
+
+#[test]
+fn splits_of_tables(rt: HostRuntime) {
+    let idle = slices(rt.alloc(), 0, 0, 0, 0).expect(&rt, "memory");
+    assert!(rt; idle.len() == 0);
+    let busy = slices(rt.alloc(), 1, 1, 1, 1).expect(&rt, "memory");
+    assert!(rt; have_each(busy.as_slice()));
 }
