@@ -1,11 +1,12 @@
 -- The last moment at which a piece is in time fits its type.
-use Rattle.std.proofs.Common.{◌≡◌, ℕ, ◌+◌, ◌^◌, ◌<◌, ◌≤◌, Bool, true, false, List, length, get_or, take, All, ℤ, ◌+ℤ◌, ◌*ℤ◌, ◌≤ℤ◌, FitsSigned, to_z, of_z, ap, ap₂, subst, subst₂}
+use Rattle.std.proofs.Common.{◌≡◌, ℕ, ◌+◌, ◌^◌, ◌<◌, ◌≤◌, Bool, true, false, List, length, get_or, take, All, ℤ, ◌+ℤ◌, ◌*ℤ◌, ◌≤ℤ◌, FitsSigned, to_z, of_z, unsigned_abs, ap, ap₂, subst, subst₂}
 use Rattle.std.proofs.Common.{refl, sym, ◌∙◌, arith}
 use Rattle.std.specs.Prelude.{IsTrue, int_le, ◌↔◌}
 use Rattle.std.specs.Int.{w64, w128}
 use Rattle.std.proofs.lemmas.Int.{ints, to_z-of_z}
 use Rattle.std.proofs.lemmas.List.{take_more, take_all}
 use Rattle.std.proofs.lemmas.List.Elements.{All-push}
+use Rattle.msp_class.specs.declared.sizes.TheConstants.{GREATEST_UNIT}
 use Rattle.msp_class.proofs.IntegerRing.{natural_some}
 use Rattle.msp_instance.specs.Conditions.{LiesWithin}
 use Rattle.msp_instance.specs.declared.Job.{Job}
@@ -25,7 +26,7 @@ within_fits x h = omega (arith, ints, h.0, h.1)
 pub latest_fits : (unit d b : ℤ) → IsUnit unit → LiesWithin greatest_row_date d → LiesWithin greatest_threshold b → FitsSigned w128 (unit *ℤ (d +ℤ b))
 latest_fits unit d b u h k =
     let (n, e) = natural_some unit (omega (arith, ints, u.0)) in
-    subst (λ z. FitsSigned w128 (z *ℤ (d +ℤ b))) (sym e) (within_fits _ (product_within n (d +ℤ b) (10 ^ 13) (10 ^ 19) (10 ^ 32) (omega (arith, ints, e, u.1)) (both_within d b h k) (omega arith)))
+    subst (λ z. FitsSigned w128 (z *ℤ (d +ℤ b))) (sym e) (within_fits _ (product_within n (d +ℤ b) (unsigned_abs GREATEST_UNIT) (10 ^ 19) (10 ^ 32) (omega (arith, ints, e, u.1)) (both_within d b h k) (omega arith)))
 
 pub fits_again : (u s x y : ℤ) → u ≡ x → s ≡ y → FitsSigned w128 (x *ℤ y) → FitsSigned w128 (u *ℤ s)
 fits_again u s x y e f h = subst (FitsSigned w128) (sym (ap₂ (λ a b. a *ℤ b) e f)) h

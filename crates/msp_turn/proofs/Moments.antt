@@ -1,8 +1,9 @@
 -- Moments, their sums and their differences fit their type.
-use Rattle.std.proofs.Common.{◌≡◌, ℕ, ◌*◌, ◌^◌, ◌<◌, ◌≤◌, ℤ, pos, ◌+ℤ◌, ◌-ℤ◌, ◌*ℤ◌, ◌≤ℤ◌, FitsSigned, to_z, of_z, sym, ap, ap₂, subst, ◌∙◌, arith}
+use Rattle.std.proofs.Common.{◌≡◌, ℕ, ◌*◌, ◌^◌, ◌<◌, ◌≤◌, ℤ, pos, ◌+ℤ◌, ◌-ℤ◌, ◌*ℤ◌, ◌≤ℤ◌, FitsSigned, to_z, of_z, unsigned_abs, sym, ap, ap₂, subst, ◌∙◌, arith}
 use Rattle.std.specs.Int.{w128}
 use Rattle.std.proofs.lemmas.Int.{ints, to_z-of_z, to_z_pos}
 use Rattle.std.proofs.lemmas.Nat.{mul-le}
+use Rattle.msp_class.specs.declared.sizes.TheConstants.{GREATEST_UNIT}
 use Rattle.msp_class.proofs.IntegerRing.{natural_some}
 use Rattle.msp_schedule.specs.Within.{IsMoment, IsUnit}
 
@@ -18,8 +19,8 @@ product_fits u r h k =
     let (n, e) = natural_some u (omega (arith, ints, h.0)) in
     subst (λ z. (pos 0 ≤ℤ (z *ℤ pos r)) × ((z *ℤ pos r) ≤ℤ pos (10 ^ 32 * 2))) (sym e) (within n (omega (arith, ints, e, h.1)))
   where
-    within : (n : ℕ) → n ≤ 10 ^ 13 → (pos 0 ≤ℤ pos (n * r)) × (pos (n * r) ≤ℤ pos (10 ^ 32 * 2))
-    within n l = let p = mul-le n r (10 ^ 13) (2 ^ 64) l (omega arith) in (omega (arith, ints), omega (arith, ints))
+    within : (n : ℕ) → n ≤ unsigned_abs GREATEST_UNIT → (pos 0 ≤ℤ pos (n * r)) × (pos (n * r) ≤ℤ pos (10 ^ 32 * 2))
+    within n l = let p = mul-le n r (unsigned_abs GREATEST_UNIT) (2 ^ 64) l (omega arith) in (omega (arith, ints), omega (arith, ints))
 
 product_is : (u : ℤ) (r : ℕ) → IsUnit u → r < 2 ^ 64 → read (read u *ℤ to_z w128 r) ≡ u *ℤ pos r
 product_is u r h k =

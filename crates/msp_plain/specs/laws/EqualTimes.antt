@@ -240,8 +240,8 @@ module _ (i : Instance) (inner : Inner i) (leads : LeadsToUnit i) where
     where
       bounded : (e : ℕ) (unit : ℤ) (m : ℕ) → e ≤ GREATEST_EQUAL_TIME → pos 1 ≤ℤ unit → unit ≤ℤ GREATEST_UNIT → m ≤ MOST_JOBS * MOST_OPERATIONS * nat_abs unit → pos (e * m) ≤ℤ GREATEST_CLOSED_UP
       bounded e unit m h one k l =
-          let low : nat_abs unit ≤ 10 ^ 13 = omega (arith, ints) in
-          let most = mul-le e m GREATEST_EQUAL_TIME (MOST_JOBS * MOST_OPERATIONS * 10 ^ 13) h (omega arith) in
+          let low : nat_abs unit ≤ nat_abs GREATEST_UNIT = omega (arith, ints) in
+          let most = mul-le e m GREATEST_EQUAL_TIME (MOST_JOBS * MOST_OPERATIONS * nat_abs GREATEST_UNIT) h (omega arith) in
           pos-le (omega arith)
 
 -- ---- as the row states them

@@ -11,7 +11,7 @@ use Rattle.std.proofs.lemmas.List.Kept.{AllPairs-filter}
 use Rattle.std.proofs.lemmas.List.Filters.{length-filter_both}
 use Rattle.std.proofs.lemmas.Nat.{mul-le}
 use Rattle.std.proofs.lemmas.Option.{slice_get-get_or}
-use Rattle.msp_class.specs.declared.sizes.TheConstants.{MOST_JOBS, MOST_MACHINES, GREATEST_EQUAL_TIME, GREATEST_UNIT}
+use Rattle.msp_class.specs.declared.sizes.TheConstants.{MOST_JOBS, MOST_MACHINES, GREATEST, GREATEST_EQUAL_TIME, GREATEST_UNIT}
 use Rattle.msp_class.specs.declared.class.Crit.TheVariants.{Cmax, Lmax}
 use Rattle.msp_class.specs.declared.environments.EnvKind.{EnvKind}
 use Rattle.msp_class.specs.declared.environments.EnvKind.TheVariants.{Identical, Uniform, Unrelated, OpenShop, FlowShop, JobShop}
@@ -318,7 +318,7 @@ abbrev pub unit_limit : EnvKind → ℕ
 unit_limit Identical = unsigned_abs GREATEST_UNIT
 unit_limit Uniform = unsigned_abs GREATEST_UNIT
 unit_limit Unrelated = unsigned_abs GREATEST_CARRIED_UNIT
-unit_limit OpenShop = 10 ^ 9
+unit_limit OpenShop = GREATEST
 unit_limit FlowShop = unsigned_abs GREATEST_UNIT
 unit_limit JobShop = unsigned_abs GREATEST_UNIT
 
