@@ -1,5 +1,4 @@
 // The two searches for a broken condition: none is found in what the solvers answer, and both find the same one in damaged schedules.
-ghost use Rattle.std.specs.Prelude.{IfOk};
 ghost use Rattle.msp_instance.specs.Conditions.{InClass, Inner};
 
 use crate::rows::{class_of, is_small};
@@ -10,6 +9,7 @@ use msp_gen::generate;
 use msp_instance::Instance;
 use msp_schedule::{Break, Piece, Schedule, first_break, swept};
 use std::alloc::Global;
+use std::process::Abort;
 use std::test::Fail;
 
 /// What is done to a schedule at one of its pieces.
@@ -60,79 +60,81 @@ fn turned(piece: Piece, moment: i128) -> Piece {
     }
 }
 
+/// Puts a piece behind the others.
+fn put(rt: &impl Abort, pieces: &mut Vec<Piece>, piece: Piece) {
+    pieces.push(piece).expect(rt, "memory");
+}
+
+/// Puts the piece twice, the second time on the next of the machines.
+fn put_twice(rt: &impl Abort, pieces: &mut Vec<Piece>, piece: Piece, machines: u32) {
+    let machine = piece.machine.wrapping_add(1) % machines.max(1);
+    put(rt, pieces, piece);
+    put(rt, pieces, Piece { machine, ..piece });
+}
+
 /// Puts what comes in the place of the piece, before which stands another one.
 fn put_damaged(
+    rt: &impl Abort,
     pieces: &mut Vec<Piece>,
     piece: Piece,
     before: Piece,
     machines: u32,
     damage: Damage,
-) -> Result<(), Fail> {
+) {
+    let to = piece.from;
+    let machine = machines;
     match damage {
-        Damage::Empty => pieces.push(Piece {
-            to: piece.from,
-            ..piece
-        })?,
-        Damage::Elsewhere => pieces.push(Piece {
-            machine: machines,
-            ..piece
-        })?,
-        Damage::AtOnce => pieces.push(begun(piece, before.from))?,
-        Damage::Twice => {
-            let machine = piece.machine.wrapping_add(1) % machines.max(1);
-            pieces.push(piece)?;
-            pieces.push(Piece { machine, ..piece })?;
-        }
+        Damage::Empty => put(rt, pieces, Piece { to, ..piece }),
+        Damage::Elsewhere => put(rt, pieces, Piece { machine, ..piece }),
+        Damage::AtOnce => put(rt, pieces, begun(piece, before.from)),
+        Damage::Twice => put_twice(rt, pieces, piece, machines),
         Damage::Lost => {}
-        Damage::Turned => pieces.push(turned(piece, piece.to))?,
+        Damage::Turned => put(rt, pieces, turned(piece, piece.to)),
     }
-    Ok(())
 }
 
 /// The schedule with the damage at the piece of the number.
 fn damaged(
+    rt: &impl Abort,
     alloc: Global,
     s: &Schedule,
     machines: u32,
     damage: Damage,
     at: usize,
-) -> Result<Schedule, Fail> {
+) -> Schedule {
     let given = s.pieces.as_slice();
-    let hit = *given.get(at).ok_or("no such piece")?;
-    let mut before = *given.last().ok_or("no piece")?;
+    let hit = *given.get(at).expect(rt, "a piece");
+    let mut before = *given.last().expect(rt, "a piece");
     let mut pieces = Vec::new(alloc);
     for k in 0..given.len() {
         let piece = given[k];
         if k == at {
-            put_damaged(&mut pieces, piece, before, machines, damage)?;
+            put_damaged(rt, &mut pieces, piece, before, machines, damage);
         } else if let Damage::Turned = damage {
-            pieces.push(turned(piece, hit.to))?;
+            put(rt, &mut pieces, turned(piece, hit.to));
         } else {
-            pieces.push(piece)?;
+            put(rt, &mut pieces, piece);
         }
         before = piece;
     }
-    Ok(Schedule {
+    Schedule {
         unit: s.unit,
         pieces: List::from_vec(pieces),
-    })
+    }
 }
 
 /// The first broken condition, as both searches find it.
-fn broken(alloc: Global, inst: &Instance, s: &Schedule) -> Result<Option<Break>, Fail>
+fn broken(rt: &impl Abort, alloc: Global, inst: &Instance, s: &Schedule) -> Option<Break>
     requires { Inner inst.now }
 {
-    if !is_small(inst, s) {
-        return Err(Fail::new("the schedule is too large"));
-    }
+    assert!(rt; is_small(inst, s), "the schedule is too large");
     if inst.class.cut && env_kind(inst.class.env) == EnvKind::Unrelated {
-        return Err(Fail::new("the schedule is not checked"));
+        panic!(rt; "the schedule is not checked");
     }
     let first = first_break(inst, s);
-    if swept(alloc, inst, s)? != first {
-        return Err(Fail::new("the searches differ"));
-    }
-    Ok(first)
+    let second = swept(alloc, inst, s).expect(rt, "memory");
+    assert!(rt; second == first, "the searches differ");
+    first
 }
 
 /// The place of the condition in the order in which they are looked for.
@@ -151,15 +153,15 @@ fn place(broken: Break) -> usize {
 
 /// An instance of the class, which belongs to it.
 #[tactic(auto, using(crate::proofs::RowJourneys::drawn_rules))]
-fn drawn(alloc: Global, class: Class) -> Result<Instance, Fail>
-    ensures class { IfOk result (λ inst. InClass inst) }
-    ensures inner { IfOk result (λ inst. Inner inst) }
+fn drawn(rt: &impl Abort, alloc: Global, class: Class) -> Instance
+    ensures class { InClass result }
+    ensures inner { Inner result }
 {
-    Ok(generate(alloc, class, 6, 1)?)
+    generate(alloc, class, 6, 1).expect(rt, "memory")
 }
 
-/// The solver's schedule, in which nothing is broken.
-fn answered(alloc: Global, inst: &Instance) -> Result<Schedule, Fail>
+/// The solver's schedule.
+fn solved(alloc: Global, inst: &Instance) -> Result<Schedule, Fail>
     requires class { InClass inst.now }
     requires inner { Inner inst.now }
 {
@@ -168,43 +170,77 @@ fn answered(alloc: Global, inst: &Instance) -> Result<Schedule, Fail>
         Err(Cannot::Memory) => return Err(Fail::new("no memory")),
         Err(_) => return Err(Fail::new("no solver")),
     };
-    let schedule = answer.solution.schedule;
-    if broken(alloc, inst, &schedule)?.is_some() {
-        return Err(Fail::new("the answer is not feasible"));
-    }
+    Ok(answer.solution.schedule)
+}
+
+/// The same, in which nothing is broken.
+fn answered(rt: &impl Abort, alloc: Global, inst: &Instance) -> Result<Schedule, Fail>
+    requires class { InClass inst.now }
+    requires inner { Inner inst.now }
+{
+    let schedule = solved(alloc, inst)?;
+    let broken = broken(rt, alloc, inst, &schedule);
+    assert!(rt; broken.is_none(), "the answer is not feasible");
     Ok(schedule)
 }
 
-/// Counts what is broken in the schedule after each damage at each of its pieces.
-fn count(alloc: Global, inst: &Instance, s: &Schedule, counts: &mut [u32; 8]) -> Result<(), Fail>
-    requires { Inner inst.now }
-{
-    for damage in DAMAGES {
-        for at in 0..s.pieces.len() {
-            let s = damaged(alloc, s, inst.machines, damage, at)?;
-            if let Some(broken) = broken(alloc, inst, &s)? {
-                if let Some(number) = counts.get_mut(place(broken)) {
-                    *number = number.saturating_add(1);
-                }
-            }
+/// Adds one to the count of the condition, if one is broken.
+fn add(counts: &mut [u32; 8], broken: Option<Break>) {
+    if let Some(broken) = broken {
+        if let Some(number) = counts.get_mut(place(broken)) {
+            *number = number.saturating_add(1);
         }
     }
+}
+
+/// Counts what is broken in the schedule after the damage at each of its pieces.
+fn count(
+    rt: &impl Abort,
+    alloc: Global,
+    inst: &Instance,
+    s: &Schedule,
+    damage: Damage,
+    counts: &mut [u32; 8],
+)
+    requires { Inner inst.now }
+{
+    for at in 0..s.pieces.len() {
+        let s = damaged(rt, alloc, s, inst.machines, damage, at);
+        add(counts, broken(rt, alloc, inst, &s));
+    }
+}
+
+/// Counts what is broken in the answer of the class after each damage.
+fn count_class(
+    rt: &impl Abort,
+    alloc: Global,
+    class: Class,
+    counts: &mut [u32; 8],
+) -> Result<(), Fail> {
+    let inst = drawn(rt, alloc, class);
+    let schedule = answered(rt, alloc, &inst)?;
+    for damage in DAMAGES {
+        count(rt, alloc, &inst, &schedule, damage, counts);
+    }
     Ok(())
+}
+
+/// The sum of the counts, none of which is 0.
+fn total(rt: &impl Abort, counts: &[u32; 8]) -> u32 {
+    let mut all = 0_u32;
+    for count in counts {
+        assert!(rt; *count > 0, "{counts:?}");
+        all = all.saturating_add(*count);
+    }
+    all
 }
 
 #[test]
 fn both_searches_find_the_same(rt: HostRuntime) -> Result<(), Fail> {
     let mut counts = [0_u32; 8];
     for (name, _) in DRAWN {
-        let inst = drawn(rt.alloc(), class_of(name)?)?;
-        let schedule = answered(rt.alloc(), &inst)?;
-        count(rt.alloc(), &inst, &schedule, &mut counts)?;
+        count_class(&rt, rt.alloc(), class_of(&rt, name), &mut counts)?;
     }
-    let mut all = 0_u32;
-    for count in counts {
-        assert!(rt; count > 0, "{counts:?}");
-        all = all.saturating_add(count);
-    }
-    assert!(rt; all >= 100, "{counts:?}");
+    assert!(rt; total(&rt, &counts) >= 100, "{counts:?}");
     Ok(())
 }

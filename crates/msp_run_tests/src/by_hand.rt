@@ -1,5 +1,5 @@
 // Each carrying row once over a small instance that is solved by hand: where it leads, and what comes back of the best schedule there.
-ghost use Rattle.std.specs.Prelude.{◌≡◌, IfOk, IsTrue};
+ghost use Rattle.std.specs.Prelude.{◌≡◌, IsTrue};
 ghost use Rattle.msp_carry.specs.Carried.{IsChain, carried};
 ghost use Rattle.msp_instance.specs.Conditions.{InClass, Inner};
 ghost use Rattle.msp_schedule.specs.Cost.{IsSolution};
@@ -15,7 +15,6 @@ use msp_schedule::{Solution, cost, settle};
 use msp_table::Row;
 use std::alloc::Global;
 use std::process::Abort;
-use std::test::Fail;
 
 /// A row, an instance to which it applies and the instance to which it leads, a best schedule of that one, and what comes back of it, in
 /// the form in which schedules are printed.
@@ -408,32 +407,39 @@ const TURNS: &[Way] = &[
 ];
 
 /// The schedule of the text, for the named jobs.
-fn stated(alloc: Global, names: &Names, text: &[u8]) -> Result<Stated, Fail> {
-    if text.len() > 400 {
-        return Err(Fail::new("the text of the schedule is too long"));
-    }
-    Ok(read_schedule(alloc, names, text, 1)?)
+fn stated(rt: &impl Abort, alloc: Global, names: &Names, text: &[u8]) -> Stated {
+    assert!(rt; text.len() <= 400);
+    read_schedule(alloc, names, text, 1).expect(rt, "a schedule")
 }
 
 /// The schedule of the text with its cost, which has to be the stated one.
-fn solution_of(alloc: Global, inst: &Instance, names: &Names, text: &[u8]) -> Result<Solution, Fail>
+fn solution_of(
+    rt: &impl Abort,
+    alloc: Global,
+    inst: &Instance,
+    names: &Names,
+    text: &[u8],
+) -> Solution
     requires { Inner inst.now }
-    ensures solution { IfOk result (λ s. IsSolution inst.now s) }
-    ensures sized { IfOk result (λ s. IsSized inst.now s.schedule) }
-    ensures ends { IfOk result (λ s. EndsBy GREATEST_ANSWER_MOMENT s.schedule) }
+    ensures solution { IsSolution inst.now result }
+    ensures sized { IsSized inst.now result.schedule }
+    ensures ends { EndsBy GREATEST_ANSWER_MOMENT result.schedule }
 {
     let Stated {
         schedule,
         cost: known,
-    } = stated(alloc, names, text)?;
-    if !is_small(inst, &schedule) || !is_feasible(inst, &schedule) {
-        return Err(Fail::new("the lower schedule is too large or not feasible"));
-    }
+    } = stated(rt, alloc, names, text);
+    assert!(rt;
+        is_small(inst, &schedule),
+        "the lower schedule is too large"
+    );
+    assert!(rt;
+        is_feasible(inst, &schedule),
+        "the lower schedule is not feasible"
+    );
     let cost = cost(inst, &schedule);
-    if cost != known {
-        return Err(Fail::new("the lower schedule has another cost"));
-    }
-    Ok(Solution { schedule, cost })
+    assert!(rt; cost == known, "the lower schedule has another cost");
+    Solution { schedule, cost }
 }
 
 /// Whether the instance belongs to its class.
@@ -449,37 +455,46 @@ fn is_in_class(alloc: Global, inst: &Instance) -> bool
     }
 }
 
-/// The text of an instance, which has to belong to its class.
-fn printed(alloc: Global, instance: Instance, names: Names) -> Result<Vec<u8>, Fail> {
-    if !is_in_class(alloc, &instance) || names.len() != instance.jobs.len() {
-        return Err(Fail::new("the instance is not in its class, or a job has no name"));
-    }
-    Ok(print_instance(alloc, &Filed { instance, names })?)
+/// Whether the text of the instance, which has to belong to its class, is this one.
+fn is_printed(
+    rt: &impl Abort,
+    alloc: Global,
+    instance: Instance,
+    names: Names,
+    text: &[u8],
+) -> bool {
+    assert!(rt;
+        is_in_class(alloc, &instance),
+        "the instance is not in its class"
+    );
+    assert!(rt; names.len() == instance.jobs.len(), "a job has no name");
+    let made = print_instance(alloc, &Filed { instance, names }).expect(rt, "memory");
+    made.as_slice() == text
 }
 
 /// The schedule in the form in which schedules are printed, with its cost.
-fn settled(inst: &Instance, solution: Solution) -> Result<Solution, Fail>
+fn settled(rt: &impl Abort, inst: &Instance, solution: Solution) -> Solution
     requires inner { Inner inst.now }
     requires solution { IsSolution inst.now solution }
 {
     let mut schedule = solution.schedule;
     settle(&mut schedule);
-    if !is_small(inst, &schedule) || !is_feasible(inst, &schedule) {
-        return Err(Fail::new("what comes back is too large or not feasible"));
-    }
+    assert!(rt; is_small(inst, &schedule), "what comes back is too large");
+    assert!(rt;
+        is_feasible(inst, &schedule),
+        "what comes back is not feasible"
+    );
     let cost = cost(inst, &schedule);
-    Ok(Solution { schedule, cost })
+    Solution { schedule, cost }
 }
 
 /// The instance of the text, with the names of its jobs.
 #[tactic(auto, using(crate::proofs::RowJourneys::drawn_rules))]
-fn read(alloc: Global, text: &[u8]) -> Result<Filed, Fail>
-    ensures { IfOk result (λ f. Inner f.instance) }
+fn read(rt: &impl Abort, alloc: Global, text: &[u8]) -> Filed
+    ensures { Inner result.instance }
 {
-    if text.len() > 400 {
-        return Err(Fail::new("the text of the instance is too long"));
-    }
-    Ok(read_instance(alloc, text)?)
+    assert!(rt; text.len() <= 400);
+    read_instance(alloc, text).expect(rt, "an instance")
 }
 
 /// Whether what comes back is what is known.
@@ -490,84 +505,79 @@ fn is_known(back: &Solution, known: &Stated) -> bool {
 }
 
 /// Whether the stated schedule comes back.
-fn is_stated(alloc: Global, names: &Names, back: &Solution, text: &[u8]) -> Result<bool, Fail> {
-    let known = stated(alloc, names, text)?;
-    Ok(is_known(back, &known))
-}
-
-/// Whether the text of the instance is this one.
-fn is_printed(alloc: Global, instance: Instance, names: Names, text: &[u8]) -> Result<bool, Fail> {
-    let made = printed(alloc, instance, names)?;
-    Ok(made.as_slice() == text)
+fn is_stated(rt: &impl Abort, alloc: Global, names: &Names, back: &Solution, text: &[u8]) -> bool {
+    let known = stated(rt, alloc, names, text);
+    is_known(back, &known)
 }
 
 /// What comes back of the best schedule of the lower instance.
 fn brought(
+    rt: &impl Abort,
     alloc: Global,
     inst: &Instance,
     rows: &List<Row>,
     lower: &Instance,
     names: &Names,
     text: &[u8],
-) -> Result<Solution, Fail>
+) -> Solution
     requires inner { Inner inst.now }
     requires chain { IsChain inst.now rows.now }
     requires lower { lower.now ≡ carried rows.now inst.now }
     requires inner_lower { Inner lower.now }
 {
-    let best = solution_of(alloc, lower, names, text)?;
-    settled(inst, bring(alloc, inst, rows, best)?)
+    let best = solution_of(rt, alloc, lower, names, text);
+    let back = bring(alloc, inst, rows, best).expect(rt, "memory");
+    settled(rt, inst, back)
 }
 
 /// Follows the way down, and back to what is stated. The lower instance.
-fn follow_back(alloc: Global, filed: &Filed, way: &Way) -> Result<Instance, Fail>
+fn follow_back(rt: &impl Abort, alloc: Global, filed: &Filed, way: &Way) -> Instance
     requires { Inner filed.now.instance }
 {
-    let inst = &filed.instance;
-    let rows = row_over(alloc, inst, way.row)?;
-    let lower = carry(alloc, inst, &rows)?;
-    let back = brought(alloc, inst, &rows, &lower, &filed.names, way.best)?;
-    if !is_stated(alloc, &filed.names, &back, way.back)? {
-        return Err(Fail::new("another schedule comes back"));
-    }
-    Ok(lower)
+    let (inst, names) = (&filed.instance, &filed.names);
+    let rows = row_over(rt, alloc, inst, way.row);
+    let lower = carry(alloc, inst, &rows).expect(rt, "memory");
+    let back = brought(rt, alloc, inst, &rows, &lower, names, way.best);
+    assert!(rt;
+        is_stated(rt, alloc, names, &back, way.back),
+        "another schedule comes back"
+    );
+    lower
 }
 
 /// Follows the way down and back.
-fn follow(rt: &impl Abort, alloc: Global, way: &Way) -> Result<(), Fail> {
-    let filed = read(alloc, way.upper)?;
-    let lower = follow_back(alloc, &filed, way)?;
+fn follow(rt: &impl Abort, alloc: Global, way: &Way) {
+    let filed = read(rt, alloc, way.upper);
+    let lower = follow_back(rt, alloc, &filed, way);
     let row = way.row;
     assert!(rt;
-        is_printed(alloc, lower, filed.names, way.lower)?,
+        is_printed(rt, alloc, lower, filed.names, way.lower),
         "row {row}"
     );
-    Ok(())
 }
 
-fn follow_each(rt: &impl Abort, alloc: Global, ways: &[Way]) -> Result<(), Fail> {
+fn follow_each(rt: &impl Abort, alloc: Global, ways: &[Way]) {
     for way in ways {
-        follow(rt, alloc, way)?;
+        follow(rt, alloc, way);
     }
-    Ok(())
 }
 
 #[test]
-fn jobs_by_hand(rt: HostRuntime) -> Result<(), Fail> {
-    follow_each(&rt, rt.alloc(), JOBS)
+fn jobs_by_hand(rt: HostRuntime) {
+    follow_each(&rt, rt.alloc(), JOBS);
 }
 
 #[test]
-fn parallel_machines_by_hand(rt: HostRuntime) -> Result<(), Fail> {
-    follow_each(&rt, rt.alloc(), MACHINES)
+fn parallel_machines_by_hand(rt: HostRuntime) {
+    follow_each(&rt, rt.alloc(), MACHINES);
 }
 
 #[test]
-fn shops_by_hand(rt: HostRuntime) -> Result<(), Fail> {
-    follow_each(&rt, rt.alloc(), SHOPS)
+fn shops_by_hand(rt: HostRuntime) {
+    follow_each(&rt, rt.alloc(), SHOPS);
 }
 
 #[test]
-fn turned_schedules_by_hand(rt: HostRuntime) -> Result<(), Fail> {
-    follow_each(&rt, rt.alloc(), TURNS)
+fn turned_schedules_by_hand(rt: HostRuntime) {
+    follow_each(&rt, rt.alloc(), TURNS);
 }

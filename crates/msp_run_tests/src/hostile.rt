@@ -6,7 +6,6 @@ use msp_io::{SureSink, SureSource};
 use msp_top::run;
 use std::alloc::Global;
 use std::process::Abort;
-use std::test::Fail;
 
 /// An instance that is solved.
 const TEXT: &[u8] = b"msp 1\nclass 1||sumwC\njob a p=3 w=1\njob b p=1 w=2\njob c p=2 w=2\nend\n";
@@ -59,91 +58,82 @@ fn calls_for(bytes: usize, step: u32) -> u64 {
 
 /// Whether the answer is right where the call of the source of this number fails. The last call finds the end of the input.
 fn answers_a_read_fault(
+    rt: &impl Abort,
     alloc: Global,
     call: &Call<'_>,
     reads: bool,
     whole: &Seen,
     number: u64,
-) -> Result<bool, Fail> {
-    let seen = outcome(
-        alloc,
-        &Call {
-            read_fails: number,
-            ..*call
-        },
-    )?;
+) -> bool {
+    let faulty = Call {
+        read_fails: number,
+        ..*call
+    };
+    let seen = outcome(rt, alloc, &faulty);
     if reads && number <= calls_for(call.text.len(), call.step).saturating_add(1) {
-        return Ok(seen.status == 7 && seen.out.is_empty());
+        seen.status == 7 && seen.out.is_empty()
+    } else {
+        is_same(&seen, whole)
     }
-    Ok(is_same(&seen, whole))
+}
+
+/// Whether it is the front of the whole that was written before the call of the number.
+fn is_front(seen: &Seen, whole: &Seen, step: u32, number: u64) -> bool {
+    let written = number.saturating_sub(1).wrapping_mul(u64::from(step));
+    seen.out.len() as u64 == written && whole.out.as_slice().starts_with(&seen.out)
 }
 
 /// Whether the answer is right where the call of the sink of this number fails: what was written before stands there.
 fn answers_a_write_fault(
+    rt: &impl Abort,
     alloc: Global,
     call: &Call<'_>,
     whole: &Seen,
     number: u64,
-) -> Result<bool, Fail> {
-    let seen = outcome(
-        alloc,
-        &Call {
-            write_fails: number,
-            ..*call
-        },
-    )?;
+) -> bool {
+    let faulty = Call {
+        write_fails: number,
+        ..*call
+    };
+    let seen = outcome(rt, alloc, &faulty);
     if number <= calls_for(whole.out.len(), call.step) {
-        let written = number.saturating_sub(1).wrapping_mul(u64::from(call.step));
-        return Ok(
-            seen.status == 8
-                && seen.out.len() as u64 == written
-                && whole.out.as_slice().starts_with(&seen.out),
-        );
+        seen.status == 8 && is_front(&seen, whole, call.step, number)
+    } else {
+        is_same(&seen, whole)
     }
-    Ok(is_same(&seen, whole))
 }
 
-/// Whether each failing call, up to the fortieth, is answered as it should be.
-fn answers_each_fault(alloc: Global, call: &Call<'_>, reads: bool) -> Result<bool, Fail> {
-    let whole = outcome(alloc, call)?;
+/// Each failing call, up to the fortieth, is answered as it should be.
+fn answer_each_fault(rt: &impl Abort, alloc: Global, call: &Call<'_>, reads: bool) {
+    let whole = outcome(rt, alloc, call);
     for number in 1..=40 {
-        if !answers_a_read_fault(alloc, call, reads, &whole, number)? {
-            return Ok(false);
-        }
-        if !answers_a_write_fault(alloc, call, &whole, number)? {
-            return Ok(false);
-        }
+        assert!(rt; answers_a_read_fault(rt, alloc, call, reads, &whole, number));
+        assert!(rt; answers_a_write_fault(rt, alloc, call, &whole, number));
     }
-    Ok(true)
 }
 
 /// Each call answers each fault as it should, with steps of one byte and of seven.
-fn answer_faults(rt: &impl Abort, alloc: Global, calls: &[Faulty]) -> Result<(), Fail> {
+fn answer_faults(rt: &impl Abort, alloc: Global, calls: &[Faulty]) {
     for (words, text, reads) in calls {
-        for step in [1, 7] {
-            let call = Call {
-                step,
-                ..calling(words, text)
-            };
-            assert!(rt; answers_each_fault(alloc, &call, *reads)?);
-        }
+        let call = calling(words, text);
+        answer_each_fault(rt, alloc, &Call { step: 1, ..call }, *reads);
+        answer_each_fault(rt, alloc, &Call { step: 7, ..call }, *reads);
     }
-    Ok(())
 }
 
 #[test]
-fn failing_devices(rt: HostRuntime) -> Result<(), Fail> {
-    answer_faults(&rt, rt.alloc(), CALLS)
+fn failing_devices(rt: HostRuntime) {
+    answer_faults(&rt, rt.alloc(), CALLS);
 }
 
 #[test]
-fn failing_devices_and_results(rt: HostRuntime) -> Result<(), Fail> {
-    answer_faults(&rt, rt.alloc(), QUESTIONS)
+fn failing_devices_and_results(rt: HostRuntime) {
+    answer_faults(&rt, rt.alloc(), QUESTIONS);
 }
 
 #[test]
-fn failing_devices_and_frontier(rt: HostRuntime) -> Result<(), Fail> {
-    answer_faults(&rt, rt.alloc(), FRONTIER)
+fn failing_devices_and_frontier(rt: HostRuntime) {
+    answer_faults(&rt, rt.alloc(), FRONTIER);
 }
 
 /// A call over devices that do not fail.
@@ -161,22 +151,26 @@ fn surely(
 }
 
 /// The status of a call over devices that do not fail.
-fn sure_status(alloc: Global, words: &[&str], text: &[u8]) -> Result<u8, Fail> {
-    let words = spelled(alloc, words)?;
-    let mut source = SureSource::new(text.to_vec(alloc)?, 7);
+fn sure_status(rt: &impl Abort, alloc: Global, words: &[&str], text: &[u8]) -> u8 {
+    let words = spelled(rt, alloc, words);
+    let mut source = SureSource::new(text.to_vec(alloc).expect(rt, "memory"), 7);
     let mut out = SureSink::new();
     let mut notes = SureSink::new();
-    Ok(surely(alloc, &words, &mut source, &mut out, &mut notes))
+    surely(alloc, &words, &mut source, &mut out, &mut notes)
+}
+
+/// Each call has status 0.
+fn answer_surely(rt: &impl Abort, alloc: Global, calls: &[Faulty]) {
+    for (words, text, _) in calls {
+        assert!(rt; sure_status(rt, alloc, words, text) == 0);
+    }
 }
 
 #[test]
-fn sure_devices(rt: HostRuntime) -> Result<(), Fail> {
-    for calls in [CALLS, QUESTIONS, FRONTIER] {
-        for (words, text, _) in calls {
-            assert_eq!(rt; sure_status(rt.alloc(), words, text)?, 0);
-        }
-    }
-    Ok(())
+fn sure_devices(rt: HostRuntime) {
+    answer_surely(&rt, rt.alloc(), CALLS);
+    answer_surely(&rt, rt.alloc(), QUESTIONS);
+    answer_surely(&rt, rt.alloc(), FRONTIER);
 }
 
 /// Inputs of which no front is one.
@@ -204,54 +198,42 @@ const WHOLE: &[(&[&str], &[u8])] = &[
     ),
 ];
 
-/// Whether the whole text, and no front of it, is answered with status 0.
-fn only_whole(alloc: Global, words: &[&str], text: &[u8]) -> Result<bool, Fail> {
+/// Whether the text is answered with status 0.
+fn is_answered(rt: &impl Abort, alloc: Global, words: &[&str], text: &[u8]) -> bool {
+    outcome(rt, alloc, &calling(words, text)).status == 0
+}
+
+/// The whole text, and no front of it, is answered with status 0.
+fn answer_only_whole(rt: &impl Abort, alloc: Global, words: &[&str], text: &[u8]) {
     for cut in 0..text.len() {
-        if outcome(alloc, &calling(words, &text[..cut]))?.status == 0 {
-            return Ok(false);
-        }
+        assert!(rt; !is_answered(rt, alloc, words, &text[..cut]));
     }
-    Ok(outcome(alloc, &calling(words, text))?.status == 0)
+    assert!(rt; is_answered(rt, alloc, words, text));
 }
 
 #[test]
-fn cut_at_each_byte(rt: HostRuntime) -> Result<(), Fail> {
+fn cut_at_each_byte(rt: HostRuntime) {
     for (words, text) in WHOLE {
-        assert!(rt; only_whole(rt.alloc(), words, text)?);
+        answer_only_whole(&rt, rt.alloc(), words, text);
     }
-    Ok(())
 }
 
 /// So many entries.
-fn entries(alloc: Global, count: u32) -> Result<Vec<u8>, Fail> {
-    let mut text = b"class,verdict,source\n".to_vec(alloc)?;
+fn entries(rt: &impl Abort, alloc: Global, count: u32) -> Vec<u8> {
+    let mut text = b"class,verdict,source\n".to_vec(alloc).expect(rt, "memory");
     for _ in 0..count {
-        text.extend_from_slice(b"1||Cmax,easy,x\n")?;
+        text.extend_from_slice(b"1||Cmax,easy,x\n")
+            .expect(rt, "memory");
     }
-    Ok(text)
+    text
 }
 
 #[test]
-fn one_entry_too_many(rt: HostRuntime) -> Result<(), Fail> {
-    let most = entries(rt.alloc(), 20_000)?;
-    assert!(rt;
-        gives(
-            rt.alloc(),
-            &calling(&["label", "1||Cmax"], &most),
-            0,
-            b"1||Cmax easy\nend\n",
-            b""
-        )?
-    );
-    let text = entries(rt.alloc(), 20_001)?;
-    assert!(rt;
-        gives(
-            rt.alloc(),
-            &calling(&["label"], &text),
-            4,
-            b"",
-            b"msp: limit of records\n"
-        )?
-    );
-    Ok(())
+fn one_entry_too_many(rt: HostRuntime) {
+    let most = entries(&rt, rt.alloc(), 20_000);
+    let call = calling(&["label", "1||Cmax"], &most);
+    assert!(rt; gives(&rt, rt.alloc(), &call, 0, b"1||Cmax easy\nend\n", b""));
+    let text = entries(&rt, rt.alloc(), 20_001);
+    let call = calling(&["label"], &text);
+    assert!(rt; gives(&rt, rt.alloc(), &call, 4, b"", b"msp: limit of records\n"));
 }

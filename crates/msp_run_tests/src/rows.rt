@@ -10,7 +10,7 @@ ghost use Rattle.msp_route.specs.declared.bounds.TheConstants.{GREATEST_ANSWER_M
 ghost use Rattle.msp_carry.specs.Carried.{IsChain};
 
 use msp_carry::{bring, carry};
-use msp_class::{Class, EnvKind, List, env_kind, is_shop};
+use msp_class::{Class, EnvKind, List, NoMemory, env_kind, is_shop};
 use msp_gen::generate;
 use msp_instance::{Instance, Need};
 use msp_name::parse;
@@ -21,7 +21,6 @@ use msp_schedule::{
 use msp_table::{Row, carries, goes};
 use std::alloc::Global;
 use std::process::Abort;
-use std::test::Fail;
 
 /// A row, a class to which it applies, how many jobs are drawn from which seed, and what the schedule that comes back costs: its
 /// numerator and denominator.
@@ -127,12 +126,13 @@ fn share_of(length: i128, share: Share) -> i128 {
 }
 
 /// Puts a piece, which is given from moment 0 on, behind the others: a time of 1 after the last one and after the release date.
-fn put(line: &mut Line, release: u64, piece: Piece) -> Result<(), Fail> {
+fn put(rt: &impl Abort, line: &mut Line, release: u64, piece: Piece) {
     let from = line.moment.max(scaled(release)).saturating_add(UNIT);
     let to = from.saturating_add(piece.to);
-    line.pieces.push(Piece { from, to, ..piece })?;
+    line.pieces
+        .push(Piece { from, to, ..piece })
+        .expect(rt, "memory");
     line.moment = to;
-    Ok(())
 }
 
 /// The length of the operation on the machine, over the unit.
@@ -153,81 +153,72 @@ fn length_on(inst: &Instance, needs: &[Need], op: u32, machine: u32) -> i128 {
 }
 
 /// Puts the operations of the job on the machines that it needs.
-fn put_route(line: &mut Line, inst: &Instance, job: u32, share: Share) -> Result<(), Fail> {
-    let data = inst.jobs.get(job as usize).ok_or("no such job")?;
+fn put_route(rt: &impl Abort, line: &mut Line, inst: &Instance, job: u32, share: Share) {
+    let data = inst.jobs.get(job as usize).expect(rt, "a job");
     let needs = data.needs.as_slice();
     for at in 0..needs.len() {
         if needs[at].time > 0 {
-            let op = u32::try_from(at)?;
+            let op = u32::try_from(at).expect(rt, "an operation");
             let machine = needs[at].machine;
-            let to = share_of(length_on(inst, needs, op, machine), share);
-            put(
-                line,
-                data.release,
-                Piece {
-                    job,
-                    op,
-                    machine,
-                    from: 0,
-                    to,
-                },
-            )?;
+            let piece = Piece {
+                job,
+                op,
+                machine,
+                from: 0,
+                to: share_of(length_on(inst, needs, op, machine), share),
+            };
+            put(rt, line, data.release, piece);
         }
     }
-    Ok(())
 }
 
 /// Puts the one operation of the job on a parallel machine, the jobs in turn on all machines.
-fn put_single(line: &mut Line, inst: &Instance, job: u32, share: Share) -> Result<(), Fail> {
-    let data = inst.jobs.get(job as usize).ok_or("no such job")?;
+fn put_single(rt: &impl Abort, line: &mut Line, inst: &Instance, job: u32, share: Share) {
+    let data = inst.jobs.get(job as usize).expect(rt, "a job");
     let machine = job % inst.machines.max(1);
-    let to = share_of(length_on(inst, data.needs.as_slice(), 0, machine), share);
-    put(
-        line,
-        data.release,
-        Piece {
-            job,
-            op: 0,
-            machine,
-            from: 0,
-            to,
-        },
-    )
+    let piece = Piece {
+        job,
+        op: 0,
+        machine,
+        from: 0,
+        to: share_of(length_on(inst, data.needs.as_slice(), 0, machine), share),
+    };
+    put(rt, line, data.release, piece);
 }
 
 /// Puts a share of each job, from the first to the last or from the last to the first.
-fn put_jobs(line: &mut Line, inst: &Instance, share: Share, backward: bool) -> Result<(), Fail> {
-    let last = u32::try_from(inst.jobs.len())?.saturating_sub(1);
+fn put_jobs(rt: &impl Abort, line: &mut Line, inst: &Instance, share: Share, backward: bool) {
+    let jobs = u32::try_from(inst.jobs.len()).expect(rt, "few jobs");
+    let last = jobs.saturating_sub(1);
     for k in 0..=last {
         let job = if backward { last - k } else { k };
         if is_shop(inst.class.env) {
-            put_route(line, inst, job, share)?;
+            put_route(rt, line, inst, job, share);
         } else {
-            put_single(line, inst, job, share)?;
+            put_single(rt, line, inst, job, share);
         }
     }
-    Ok(())
 }
 
 /// A schedule of the instance, one job after another along the arcs. Where jobs may be cut and there are no arcs, the first half of each
 /// is done first, and then the rest in the order reversed.
-fn lined_up(alloc: Global, inst: &Instance) -> Result<Schedule, Fail> {
+fn lined_up(rt: &impl Abort, alloc: Global, inst: &Instance) -> Schedule {
     let mut line = Line {
         pieces: Vec::new(alloc),
         moment: 0,
     };
     let arcs = inst.arcs.as_slice();
     if inst.class.cut && arcs.is_empty() {
-        put_jobs(&mut line, inst, Share::First, false)?;
-        put_jobs(&mut line, inst, Share::Rest, true)?;
+        put_jobs(rt, &mut line, inst, Share::First, false);
+        put_jobs(rt, &mut line, inst, Share::Rest, true);
     } else {
         let backward = arcs.iter().any(|a| a.after < a.before);
-        put_jobs(&mut line, inst, Share::Whole, backward)?;
+        put_jobs(rt, &mut line, inst, Share::Whole, backward);
     }
-    Ok(Schedule {
+    Schedule {
         unit: UNIT,
         pieces: List::from_vec(line.pieces),
-    })
+    }
 }
 
 /// Whether all pieces end early enough to be brought back.
@@ -263,26 +254,28 @@ pub fn is_feasible(inst: &Instance, s: &Schedule) -> bool
 }
 
 /// A solution of the lower instance.
-fn solution_below(alloc: Global, inst: &Instance) -> Result<Solution, Fail>
+fn solution_below(rt: &impl Abort, alloc: Global, inst: &Instance) -> Solution
     requires { Inner inst.now }
-    ensures solution { IfOk result (λ s. IsSolution inst.now s) }
-    ensures sized { IfOk result (λ s. IsSized inst.now s.schedule) }
-    ensures ends { IfOk result (λ s. EndsBy GREATEST_ANSWER_MOMENT s.schedule) }
+    ensures solution { IsSolution inst.now result }
+    ensures sized { IsSized inst.now result.schedule }
+    ensures ends { EndsBy GREATEST_ANSWER_MOMENT result.schedule }
 {
-    let schedule = lined_up(alloc, inst)?;
-    if !is_small(inst, &schedule) {
-        return Err(Fail::new("the lower schedule is too large"));
-    }
-    if !is_feasible(inst, &schedule) {
-        return Err(Fail::new("the lower schedule is not feasible"));
-    }
+    let schedule = lined_up(rt, alloc, inst);
+    assert!(rt;
+        is_small(inst, &schedule),
+        "the lower schedule is too large"
+    );
+    assert!(rt;
+        is_feasible(inst, &schedule),
+        "the lower schedule is not feasible"
+    );
     let cost = cost(inst, &schedule);
-    Ok(Solution { schedule, cost })
+    Solution { schedule, cost }
 }
 
 /// The row alone as a chain.
 #[tactic(auto, using(crate::proofs::RowJourneys::row_chain))]
-fn chain_of(alloc: Global, inst: &Instance, row: Row) -> Result<List<Row>, Fail>
+fn chain_of(alloc: Global, inst: &Instance, row: Row) -> Result<List<Row>, NoMemory>
     requires carries { IsTrue (carries row) }
     requires applies { IsSome (goes_of row inst.now.class) }
     ensures { IfOk result (λ rows. IsChain inst.now rows) }
@@ -293,75 +286,80 @@ fn chain_of(alloc: Global, inst: &Instance, row: Row) -> Result<List<Row>, Fail>
 }
 
 /// The chain of the row of the number, which has to carry the instance.
-pub fn row_over(alloc: Global, inst: &Instance, number: u8) -> Result<List<Row>, Fail>
-    ensures { IfOk result (λ rows. IsChain inst.now rows) }
+pub fn row_over(rt: &impl Abort, alloc: Global, inst: &Instance, number: u8) -> List<Row>
+    ensures { IsChain inst.now result }
 {
-    let row = Row::new(number).ok_or("no such row")?;
+    let row = Row::new(number).expect(rt, "a row");
     match goes(row, inst.class) {
-        Some(_) if carries(row) => chain_of(alloc, inst, row),
-        _ => Err(Fail::new("the row does not carry the instance")),
+        Some(_) if carries(row) => chain_of(alloc, inst, row).expect(rt, "memory"),
+        _ => panic!(rt; "the row does not carry the instance"),
     }
 }
 
 /// The cost of the schedule that comes back over the row.
-fn cost_of_journey(alloc: Global, inst: &Instance, number: u8) -> Result<Frac, Fail>
+fn cost_of_journey(rt: &impl Abort, alloc: Global, inst: &Instance, number: u8) -> Frac
     requires { Inner inst.now }
 {
-    let rows = row_over(alloc, inst, number)?;
-    let lower = carry(alloc, inst, &rows)?;
-    let below = solution_below(alloc, &lower)?;
-    let above = bring(alloc, inst, &rows, below)?;
-    if !is_feasible(inst, &above.schedule) {
-        return Err(Fail::new("the schedule that comes back is not feasible"));
-    }
-    if above.cost != cost(inst, &above.schedule) {
-        return Err(Fail::new("the schedule that comes back has another cost"));
-    }
-    Ok(above.cost)
+    let rows = row_over(rt, alloc, inst, number);
+    let lower = carry(alloc, inst, &rows).expect(rt, "memory");
+    let below = solution_below(rt, alloc, &lower);
+    let above = bring(alloc, inst, &rows, below).expect(rt, "memory");
+    assert!(rt;
+        is_feasible(inst, &above.schedule),
+        "what comes back is not feasible"
+    );
+    assert!(rt;
+        above.cost == cost(inst, &above.schedule),
+        "what comes back has another cost"
+    );
+    above.cost
 }
 
-pub fn class_of(name: &str) -> Result<Class, Fail> {
+pub fn class_of(rt: &impl Abort, name: &str) -> Class {
     let text = name.as_bytes();
-    if text.len() > 40 {
-        return Err(Fail::new("the name is too long"));
-    }
-    Ok(parse(text)?)
+    assert!(rt; text.len() <= 40);
+    parse(text).expect(rt, "a class")
 }
 
 /// The instance of the class that is drawn from the seed.
 #[tactic(auto, using(crate::proofs::RowJourneys::drawn_rules))]
-fn drawn(alloc: Global, class: Class, jobs: u8, seed: u8) -> Result<Instance, Fail>
-    ensures { IfOk result (λ inst. Inner inst) }
+fn drawn(rt: &impl Abort, alloc: Global, class: Class, jobs: u8, seed: u8) -> Instance
+    ensures { Inner result }
 {
-    Ok(generate(alloc, class, u32::from(jobs), u32::from(seed))?)
+    generate(alloc, class, u32::from(jobs), u32::from(seed)).expect(rt, "memory")
+}
+
+/// The schedule of the journey comes back at its cost.
+fn comes_back(rt: &impl Abort, alloc: Global, journey: &Journey) {
+    let (row, name, jobs, seed, cost) = *journey;
+    let inst = drawn(rt, alloc, class_of(rt, name), jobs, seed);
+    let found = cost_of_journey(rt, alloc, &inst, row);
+    assert!(rt; (found.num, found.den) == cost, "row {row}");
 }
 
 /// Each journey's schedule comes back at its cost.
-fn come_back(rt: &impl Abort, alloc: Global, journeys: &[Journey]) -> Result<(), Fail> {
-    for (row, name, jobs, seed, cost) in journeys {
-        let inst = drawn(alloc, class_of(name)?, *jobs, *seed)?;
-        let found = cost_of_journey(alloc, &inst, *row)?;
-        assert_eq!(rt; (found.num, found.den), *cost, "row {row}");
+fn come_back(rt: &impl Abort, alloc: Global, journeys: &[Journey]) {
+    for journey in journeys {
+        comes_back(rt, alloc, journey);
     }
-    Ok(())
 }
 
 #[test]
-fn jobs_come_back(rt: HostRuntime) -> Result<(), Fail> {
-    come_back(&rt, rt.alloc(), JOBS)
+fn jobs_come_back(rt: HostRuntime) {
+    come_back(&rt, rt.alloc(), JOBS);
 }
 
 #[test]
-fn parallel_machines_come_back(rt: HostRuntime) -> Result<(), Fail> {
-    come_back(&rt, rt.alloc(), MACHINES)
+fn parallel_machines_come_back(rt: HostRuntime) {
+    come_back(&rt, rt.alloc(), MACHINES);
 }
 
 #[test]
-fn shops_come_back(rt: HostRuntime) -> Result<(), Fail> {
-    come_back(&rt, rt.alloc(), SHOPS)
+fn shops_come_back(rt: HostRuntime) {
+    come_back(&rt, rt.alloc(), SHOPS);
 }
 
 #[test]
-fn turned_schedules_come_back(rt: HostRuntime) -> Result<(), Fail> {
-    come_back(&rt, rt.alloc(), TURNS)
+fn turned_schedules_come_back(rt: HostRuntime) {
+    come_back(&rt, rt.alloc(), TURNS);
 }

@@ -1,7 +1,7 @@
 // Each solver in the time of a test: two hundred drawn jobs of each class, four hundred on unrelated machines, four hundred blocks.
 use crate::calls::{calling, gives, outcome};
 use std::alloc::Global;
-use std::test::Fail;
+use std::process::Abort;
 
 /// Two hundred drawn jobs of each class that has a solver: how the answer begins.
 pub const DRAWN: &[(&str, &[u8])] = &[
@@ -151,83 +151,117 @@ pub const DRAWN: &[(&str, &[u8])] = &[
     ),
 ];
 
-/// Whether the call answers status 0 and a report that begins so.
-fn begins(alloc: Global, words: &[&str], text: &[u8], front: &[u8]) -> Result<bool, Fail> {
-    let seen = outcome(alloc, &calling(words, text))?;
-    Ok(seen.status == 0 && seen.out.as_slice().starts_with(front))
+/// Whether the trial answers status 0 and a report that begins so.
+fn begins(rt: &impl Abort, alloc: Global, class: &str, jobs: &str, front: &[u8]) -> bool {
+    let seen = outcome(rt, alloc, &calling(&["trial", class, jobs, "1"], b""));
+    seen.status == 0 && seen.out.as_slice().starts_with(front)
 }
 
 #[test]
-fn two_hundred_jobs_of_each_class(rt: HostRuntime) -> Result<(), Fail> {
+fn two_hundred_jobs_of_each_class(rt: HostRuntime) {
     for (class, front) in DRAWN {
-        assert!(rt; begins(rt.alloc(), &["trial", class, "200", "1"], b"", front)?);
+        assert!(rt; begins(&rt, rt.alloc(), class, "200", front), "{class}");
     }
-    Ok(())
 }
 
 #[test]
-fn four_hundred_jobs_on_unrelated_machines(rt: HostRuntime) -> Result<(), Fail> {
+fn four_hundred_jobs_on_unrelated_machines(rt: HostRuntime) {
     let front = b"class R||sumC\njobs 400\nseed 1\nsolver unrelated\nrows 0\n";
-    assert!(rt; begins(rt.alloc(), &["trial", "R||sumC", "400", "1"], b"", front)?);
-    Ok(())
+    assert!(rt; begins(&rt, rt.alloc(), "R||sumC", "400", front));
 }
 
 const BLOCKS: &[u8] = b"msp 1\nclass 1|pmtn,prec,r|fmax\n";
 
-/// So many jobs that each have a block of their own, and the answer.
-fn apart(alloc: Global, count: u32) -> Result<(Vec<u8>, Vec<u8>), Fail> {
-    let mut text = BLOCKS.to_vec(alloc)?;
-    let mut report =
-        b"start 1|pmtn,prec,r|fmax\nsolver blocks\nschedule\ncost 1199\nunit 1\n".to_vec(alloc)?;
+/// So many jobs that each have a block of their own.
+fn apart(rt: &impl Abort, alloc: Global, count: u32) -> Vec<u8> {
+    let mut text = BLOCKS.to_vec(alloc).expect(rt, "memory");
     for k in 0..count {
         let begin = 3 * u64::from(k);
-        let job = format!(in alloc; "job j{k} p=2 r={begin}\ncurve 1 0\n")?;
-        text.extend_from_slice(job.as_bytes())?;
-        let piece = format!(in alloc; "piece j{k} 1 1 {begin} {}\n", begin + 2)?;
-        report.extend_from_slice(piece.as_bytes())?;
+        let job = format!(in alloc; "job j{k} p=2 r={begin}\ncurve 1 0\n").expect(rt, "memory");
+        text.extend_from_slice(job.as_bytes()).expect(rt, "memory");
     }
-    text.extend_from_slice(b"end\n")?;
-    report.extend_from_slice(b"end\n")?;
-    Ok((text, report))
+    text.extend_from_slice(b"end\n").expect(rt, "memory");
+    text
+}
+
+/// The answer of the cost, up to its pieces.
+fn answer(rt: &impl Abort, alloc: Global, cost: u32) -> Vec<u8> {
+    let head = format!(in alloc;
+        "start 1|pmtn,prec,r|fmax\nsolver blocks\nschedule\ncost {cost}\nunit 1\n"
+    );
+    head.expect(rt, "memory").into_bytes()
+}
+
+/// Puts the piece of a job, from a moment for a time.
+fn put_piece(rt: &impl Abort, alloc: Global, report: &mut Vec<u8>, job: u32, from: u32, time: u8) {
+    let to = u64::from(from) + u64::from(time);
+    let piece = format!(in alloc; "piece j{job} 1 1 {from} {to}\n").expect(rt, "memory");
+    report
+        .extend_from_slice(piece.as_bytes())
+        .expect(rt, "memory");
+}
+
+/// Their schedule: one after another.
+fn in_turn(rt: &impl Abort, alloc: Global, count: u32) -> Vec<u8> {
+    let mut report = answer(rt, alloc, 1199);
+    for k in 0..count {
+        put_piece(rt, alloc, &mut report, k, k.wrapping_mul(3), 2);
+    }
+    report.extend_from_slice(b"end\n").expect(rt, "memory");
+    report
 }
 
 /// Four hundred jobs, each of which interrupts the one before it and ends before that goes on.
-fn nested(alloc: Global) -> Result<Vec<u8>, Fail> {
-    let mut text = BLOCKS.to_vec(alloc)?;
+fn nested(rt: &impl Abort, alloc: Global) -> Vec<u8> {
+    let mut text = BLOCKS.to_vec(alloc).expect(rt, "memory");
     for k in 0..400_u32 {
         let base = 1000 * u64::from(k);
-        let job = format!(in alloc; "job j{k} p=2 r={k}\ncurve 1 {base}\n")?;
-        text.extend_from_slice(job.as_bytes())?;
+        let job = format!(in alloc; "job j{k} p=2 r={k}\ncurve 1 {base}\n").expect(rt, "memory");
+        text.extend_from_slice(job.as_bytes()).expect(rt, "memory");
     }
-    text.extend_from_slice(b"end\n")?;
-    Ok(text)
+    text.extend_from_slice(b"end\n").expect(rt, "memory");
+    text
+}
+
+/// How their schedule goes on, when the last job is done.
+fn put_ends(rt: &impl Abort, alloc: Global, report: &mut Vec<u8>) {
+    for k in 0..399_u32 {
+        put_piece(
+            rt,
+            alloc,
+            report,
+            398_u32.saturating_sub(k),
+            k.saturating_add(401),
+            1,
+        );
+    }
 }
 
 /// Their schedule: the last job is not interrupted.
-fn interrupted(alloc: Global) -> Result<Vec<u8>, Fail> {
-    let mut report =
-        b"start 1|pmtn,prec,r|fmax\nsolver blocks\nschedule\ncost 399401\nunit 1\n".to_vec(alloc)?;
+fn interrupted(rt: &impl Abort, alloc: Global) -> Vec<u8> {
+    let mut report = answer(rt, alloc, 399_401);
     for k in 0..399_u32 {
-        let piece = format!(in alloc; "piece j{k} 1 1 {k} {}\n", u64::from(k) + 1)?;
-        report.extend_from_slice(piece.as_bytes())?;
+        put_piece(rt, alloc, &mut report, k, k, 1);
     }
-    report.extend_from_slice(b"piece j399 1 1 399 401\n")?;
-    for k in 0..399_u32 {
-        let job = 398_u32.saturating_sub(k);
-        let begin = u64::from(k) + 401;
-        let piece = format!(in alloc; "piece j{job} 1 1 {begin} {}\n", begin + 1)?;
-        report.extend_from_slice(piece.as_bytes())?;
-    }
-    report.extend_from_slice(b"end\n")?;
-    Ok(report)
+    put_piece(rt, alloc, &mut report, 399, 399, 2);
+    put_ends(rt, alloc, &mut report);
+    report.extend_from_slice(b"end\n").expect(rt, "memory");
+    report
+}
+
+/// The instance of the text is solved so.
+fn solves(rt: &impl Abort, alloc: Global, text: &[u8], report: &[u8]) {
+    assert!(rt; gives(rt, alloc, &calling(&["solve"], text), 0, report, b""));
 }
 
 #[test]
-fn four_hundred_blocks(rt: HostRuntime) -> Result<(), Fail> {
-    let (text, report) = apart(rt.alloc(), 400)?;
-    assert!(rt; gives(rt.alloc(), &calling(&["solve"], &text), 0, &report, b"")?);
-    let deep = nested(rt.alloc())?;
-    let answer = interrupted(rt.alloc())?;
-    assert!(rt; gives(rt.alloc(), &calling(&["solve"], &deep), 0, &answer, b"")?);
-    Ok(())
+fn four_hundred_blocks(rt: HostRuntime) {
+    let alloc = rt.alloc();
+    solves(
+        &rt,
+        alloc,
+        &apart(&rt, alloc, 400),
+        &in_turn(&rt, alloc, 400),
+    );
+    solves(&rt, alloc, &nested(&rt, alloc), &interrupted(&rt, alloc));
 }
