@@ -1,0 +1,23 @@
+use Rattle.std.proofs.Common.{sym, subst, ◌∙◌, arith, rules}
+use Rattle.std.specs.Int.{w128}
+use Rattle.std.proofs.lemmas.Int.{to_z-of_z}
+use Rattle.msp_instance.specs.Conditions.{LiesWithin}
+use Rattle.msp_schedule.specs.Works.{greatest_work}
+use Rattle.msp_schedule.proofs.costs.Products.{product_fits, product_is, product_small, sped_small}
+use Rattle.msp_schedule.proofs.work.sped.Goals as goal
+
+pub product-requires : goal.product-requires
+product-requires c =
+    product_fits greatest_work (to_z-of_z w128 c.args.length c.ranges.length) (to_z-of_z w128 c.from.result (search rules) ∙ c.from.ensures)
+    (sped_small _ _ c.requires.length c.requires.speed) (omega arith)
+
+pub returns-clause-value : goal.returns-clause-value
+returns-clause-value c =
+    to_z-of_z w128 c.product.result (search rules)
+    ∙ product_is c.product.ensures (to_z-of_z w128 c.args.length c.ranges.length) (to_z-of_z w128 c.from.result (search rules) ∙ c.from.ensures)
+
+pub returns-clause-size : goal.returns-clause-size
+returns-clause-size c =
+    subst (LiesWithin greatest_work) (sym (to_z-of_z w128 c.product.result (search rules)))
+    (product_small greatest_work c.product.ensures (to_z-of_z w128 c.args.length c.ranges.length)
+    (to_z-of_z w128 c.from.result (search rules) ∙ c.from.ensures) (sped_small _ _ c.requires.length c.requires.speed))
