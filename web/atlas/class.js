@@ -1,0 +1,114 @@
+// The view of one class: its label and why, its solver, its neighbours.
+import { MEANING, withAnySpeeds } from '../classes.js';
+import { element } from '../elements.js';
+import { NAMES } from '../names.js';
+import { around } from '../picture.js';
+import { drawn } from './drawing.js';
+import { address, badge, chainList, classLink, reasons, restsOnOwn, rowText, selected, told } from './parts.js';
+
+/** @typedef {import('./parts.js').View} View */
+
+/**
+ * Where the results clash, the chain that shows it.
+ * @param {View} view
+ * @returns {Node[]}
+ */
+export function clashes(view) {
+  return view.atlas.data.clashes.map(([kind, start, rows]) => element('section', {}, element('h2', {}, kind === 'clash' ? 'The results clash'
+    : 'The results clash strongly'),
+    element('p', {}, `The first class of this chain is listed ${kind === 'clash' ? 'hard, the last one easy' : 'strong, the last one pseudo'}.`),
+      chainList(view, start, rows)));
+}
+
+/**
+ * What has to be said of a label: why it is open, other speeds, the published results alone, the same problem.
+ * @param {View} view
+ * @param {number} at
+ * @returns {Node[]}
+ */
+function remarks(view, at) {
+  const { atlas } = view, { labels } = told(view), found = [], opened = atlas.data.open[at], fast = withAnySpeeds(labels, at);
+  if (opened && labels[at] === 'open') found.push(element('p', {}, element('b', {}, `${opened[0]}. `), opened[1]));
+  if (fast >= 0) {
+    found.push(element('p', { class: 'warned' },
+      'Here p=1 on uniform machines goes with whole speeds: a job of one unit on a machine of speed s takes 1/s. '
+        + 'With any speeds the class that books call p=1 is ',
+      classLink(view, fast), `, which is ${labels[fast]}.`));
+  }
+  if (restsOnOwn(view, at) && atlas.published) {
+    found.push(element('p', { class: 'warned' }, view.published ? `With the proofs of our own it is ${atlas.all.labels[at]}.`
+      : `This rests on a proof of our own, which no journal has seen. The published results alone say: ${atlas.published.labels[at]}.`));
+  }
+  const same = atlas.problem(at).filter(it => it !== at);
+  if (same.length) {
+    const line = element('p', { class: 'quiet' }, 'One problem with ');
+    same.forEach((it, place) => line.append(place ? ', ' : '', classLink(view, it)));
+    line.append(': rows lead there and back.');
+    found.push(line);
+  }
+  return found;
+}
+
+/**
+ * The solver of a class, or that there is none.
+ * @param {View} view
+ * @param {number} at
+ * @returns {Node[]}
+ */
+function solverPart(view, at) {
+  const head = element('h3', {}, 'Solver'), { solvers } = view.atlas.data, solver = view.atlas.solver(at);
+  if (!solvers) {
+    return [head, element('p', {}, `The list of solved classes was not at hand when this page was built; msp trial '${NAMES[at]}' 1 1 says it.`)];
+  }
+  if (!solver) return [head, element('p', {}, 'None: msp solve says that there is no solver for it.')];
+  const [name, rows, chain] = solver;
+  const how = rows ? `, over ${rows} ${rows > 1 ? 'rows that carry' : 'row that carries'} schedules back` : ', for the class itself';
+  return [head, element('p', {}, element('b', {}, name), how), ...(rows && chain ? [chainList(view, at, chain)] : [])];
+}
+
+/**
+ * Rows to or from a class.
+ * @param {View} view
+ * @param {string} title
+ * @param {import('../chains.js').Step[]} steps
+ */
+function neighbourList(view, title, steps) {
+  const lines = steps.map(([row, to]) => element('li', {}, classLink(view, to), ' ', element('span', { class: 'step' }, rowText(view, row))));
+  return element('div', {}, element('h3', {}, `${title} (${steps.length})`), lines.length ? element('ul', { class: 'plain' }, ...lines)
+    : element('p', { class: 'quiet' }, 'none'));
+}
+
+/**
+ * All that is said of a class.
+ * @param {View} view
+ * @param {number} at
+ * @returns {Node[]}
+ */
+export function classView(view, at) {
+  const { atlas } = view, label = told(view).labels[at], chains = told(view).chainsOf(at);
+  const box = element('section', {}, element('h2', { tabindex: '-1' }, element('span', { class: 'name' }, NAMES[at]), ' ', badge(label)),
+    element('p', {}, MEANING[label]), ...remarks(view, at), ...reasons(view, chains));
+  if (chains.length) box.append(element('p', { class: 'quiet' }, 'What decides here need not be who showed it first.'));
+  else if (label !== 'open') {
+    box.append(element('p', { class: 'quiet' },
+      `This page was built with the chains of ${atlas.data.asked} classes alone; msp why '${NAMES[at]}' prints them.`));
+  }
+  box.append(...solverPart(view, at), keeper(view, at));
+  const neighbours = element('section', { class: 'neighbours' }, neighbourList(view, 'Rows lead to', atlas.above(at)), neighbourList(view,
+    'Rows lead here from', atlas.below(at)));
+  const picture = drawn(view, around(atlas, chains.map(([, it]) => it), at), at, `The reductions around ${NAMES[at]}`);
+  return [...clashes(view), box, element('section', {}, element('h3', {}, 'The reductions around it'), picture), neighbours];
+}
+
+/**
+ * A button that takes a class into the selection, or out of it.
+ * @param {View} view
+ * @param {number} at
+ */
+function keeper(view, at) {
+  const text = view.selection.includes(at) ? 'Take out of the selection' : 'Add to the selection';
+  const line = element('p', {}, element('button', { type: 'button', class: 'act', 'data-select': String(at) }, text));
+  if (view.selection.length) {line.append(' ', element('a', { class: 'text', href: address(view, selected(view)) },
+    `Selection (${view.selection.length})`));}
+  return line;
+}
