@@ -682,12 +682,13 @@ fn weights(x: &Instance, on_all: bool) -> (i64, i64) {
     (cost, 1)
 }
 
-// Whether the jobs by due date all end by it and the bound together, on machines whose ends fall like stairs; their pieces where they do.
-fn stairs_of(jobs: &[(usize, i128, i128)], m: usize, bound: i128) -> Option<Vec<Piece>> {
+// Whether the jobs by due date all end by it and the bound together, and by the end, on machines whose ends fall like stairs; their pieces where
+// they do.
+fn stairs_of(jobs: &[(usize, i128, i128)], m: usize, bound: i128, end: i128) -> Option<Vec<Piece>> {
     let mut ends: Vec<(i128, usize)> = (0..m).map(|i| (0, i)).collect();
     let mut pieces = Vec::new();
     for &(job, time, due) in jobs {
-        let due = due + bound;
+        let due = (due + bound).min(end);
         if ends[0].0 + time <= due {
             pieces.push(Piece { job, machine: ends[0].1, from: ends[0].0, to: ends[0].0 + time });
             ends[0].0 += time;
@@ -695,9 +696,9 @@ fn stairs_of(jobs: &[(usize, i128, i128)], m: usize, bound: i128) -> Option<Vec<
         }
         let place = ends.partition_point(|end| end.0 + time > due) - 1;
         if place + 1 == m { return None; }
-        let (end, machine) = ends.remove(place);
-        if end < due { pieces.push(Piece { job, machine, from: end, to: due }); }
-        let rest = time - (due - end);
+        let (from, machine) = ends.remove(place);
+        if from < due { pieces.push(Piece { job, machine, from, to: due }); }
+        let rest = time - (due - from);
         if rest > 0 {
             pieces.push(Piece { job, machine: ends[place].1, from: ends[place].0, to: ends[place].0 + rest });
             ends[place].0 += rest;
@@ -707,19 +708,27 @@ fn stairs_of(jobs: &[(usize, i128, i128)], m: usize, bound: i128) -> Option<Vec<
     Some(pieces)
 }
 
+// The least number of a range that is met, where the greatest is.
+fn least(mut low: i128, mut high: i128, is_met: impl Fn(i128) -> bool) -> i128 {
+    while low < high {
+        let middle = low + (high - low).div_euclid(2);
+        if is_met(middle) { high = middle; } else { low = middle + 1; }
+    }
+    high
+}
+
 fn stairs(x: &Instance) -> (i64, i64) {
     let m = x.speeds.len();
     let scaled = |number: i64| number as i128 * m as i128;
     let mut jobs: Vec<_> = x.jobs.iter().enumerate().map(|(j, job)| (j, scaled(job.time()), scaled(job.due))).collect();
     jobs.sort_by_key(|&(_, _, due)| due);
-    let mut low = jobs.iter().map(|&(_, time, due)| time - due).max().unwrap();
-    let mut high = jobs.iter().map(|&(_, time, _)| time).sum::<i128>() - jobs[0].2;
-    while low < high {
-        let bound = low + (high - low).div_euclid(2);
-        if stairs_of(&jobs, m, bound).is_some() { high = bound; } else { low = bound + 1; }
-    }
-    printed(stairs_of(&jobs, m, high).unwrap());
-    (high as i64, m as i64)
+    let all = jobs.iter().map(|&(_, time, _)| time).sum::<i128>();
+    let late = jobs.iter().map(|&(_, time, due)| time - due).max().unwrap();
+    let bound = least(late, all - jobs[0].2, |bound| stairs_of(&jobs, m, bound, all).is_some());
+    let longest = jobs.iter().map(|&(_, time, _)| time).max().unwrap();
+    let end = least(longest, all, |end| stairs_of(&jobs, m, bound, end).is_some());
+    printed(stairs_of(&jobs, m, bound, end).unwrap());
+    (bound as i64, m as i64)
 }
 
 fn lcm(a: i64, b: i64) -> i64 { a / gcd(a as i128, b as i128) as i64 * b }

@@ -23,8 +23,9 @@ use Rattle.msp_schedule.proofs.costs.Charges.{cost_of-bound}
 use Rattle.msp_schedule.proofs.feasible.LastEnds.{last_end-natural}
 use Rattle.msp_schedule.proofs.feasible.OfClass.{IsOfClass}
 use Rattle.msp_schedule.proofs.lists.Parts.{All-front, All-back}
+use Rattle.msp_stairs.specs.declared.climb.Limits.{Limits}
 use Rattle.msp_stairs.specs.Stairs.{stairs_class, dates_together, AreDueLast, IsForced}
-use Rattle.msp_stairs.specs.Bounds.{at, work_at, deadline}
+use Rattle.msp_stairs.specs.Bounds.{at, no_later, work_at, last_moment, deadline}
 use Rattle.msp_stairs.specs.Steps.{of_all, of_first, IsBelow, IsTooLate}
 use Rattle.msp_schedule.proofs.bounds.Room.{end_at}
 use Rattle.msp_stairs.proofs.Room.{room_for, room_by_limits}
@@ -65,7 +66,7 @@ module _ (i : Instance) (h : IsOfClass i stairs_class) (t : Schedule) (f : Feasi
   abbrev limit : ℕ → ℕ
   limit j = nat_abs (limit_of j)
 
-  ends_by : (j : ℕ) → j < n → end_of t j ≤ℤ limit_of j
+  pub ends_by : (j : ℕ) → j < n → end_of t j ≤ℤ limit_of j
   ends_by j l = moved (end_of t j) (t.unit *ℤ due j) cost (subst (λ x. job_cost x t.unit (job_at i j) (end_of t j) ≤ℤ cost) h.crit (cost_of-bound i t (ap is_greatest h.crit) j l))
     where
       moved : (x y z : ℤ) → (x -ℤ y) ≤ℤ z → x ≤ℤ (y +ℤ z)
@@ -125,20 +126,21 @@ module _ (i : Instance) (h : IsOfClass i stairs_class) (t : Schedule) (f : Feasi
           over : (w l : ℕ) (y c e : ℤ) → w ≤ l → pos l ≡ y +ℤ c → c ≡ e → (pos w -ℤ y) ≤ℤ e
           over w l y c e h f g = omega (arith, ints, h, f, g)
 
-  of_job : (j : ℕ) → j < n → ((pos i.machines *ℤ (pos (time_at i j) -ℤ due j)) *ℤ t.unit) ≤ℤ (pos i.machines *ℤ cost)
-  of_job j l =
-      subst (λ u. ((pos i.machines *ℤ (pos (time_at i j) -ℤ due j)) *ℤ u) ≤ℤ (pos i.machines *ℤ cost)) (sym unit_is)
-      (turned (nat_abs t.unit) (time_at i j) (limit j) i.machines (due j) cost (omega (arith, alone, in_time j l)) (sym (limit_is j l) ∙ ap (λ u. (u *ℤ due j) +ℤ cost) unit_is))
+  -- a job ends no sooner than its time is over
+  pub alone : (j : ℕ) → j < n → nat_abs t.unit * time_at i j ≤ end_at t j
+  alone j l = by (nat_abs t.unit) i.machines (time_at i j) (end_at t j) _ _ (sum_by-cons (time_at i) j []) (sum_by-cons (λ j. end_at t j - 0) j []) room
     where
       room : nat_abs t.unit * sum_by (time_at i) (j ∷ []) ≤ i.machines * 0 + sum_by (λ j. end_at t j - 0) (j ∷ [])
       room = room_for i h.kind t f (j ∷ []) (All-cons (λ x. x < n) j [] l (All-nil (λ x. x < n))) (λ a b d m k. absurd (omega (arith, m, k))) 0
 
-      alone : nat_abs t.unit * time_at i j ≤ end_at t j
-      alone = by (nat_abs t.unit) i.machines (time_at i j) (end_at t j) _ _ (sum_by-cons (time_at i) j []) (sum_by-cons (λ j. end_at t j - 0) j []) room
-        where
-          by : (u m p e s r : ℕ) → s ≡ p + 0 → r ≡ (e - 0) + 0 → u * s ≤ m * 0 + r → u * p ≤ e
-          by u m p e s r f g h = omega (arith, ap (λ x. u * x) f, g, h)
+      by : (u m p e s r : ℕ) → s ≡ p + 0 → r ≡ (e - 0) + 0 → u * s ≤ m * 0 + r → u * p ≤ e
+      by u m p e s r f g h = omega (arith, ap (λ x. u * x) f, g, h)
 
+  of_job : (j : ℕ) → j < n → ((pos i.machines *ℤ (pos (time_at i j) -ℤ due j)) *ℤ t.unit) ≤ℤ (pos i.machines *ℤ cost)
+  of_job j l =
+      subst (λ u. ((pos i.machines *ℤ (pos (time_at i j) -ℤ due j)) *ℤ u) ≤ℤ (pos i.machines *ℤ cost)) (sym unit_is)
+      (turned (nat_abs t.unit) (time_at i j) (limit j) i.machines (due j) cost (omega (arith, alone j l, in_time j l)) (sym (limit_is j l) ∙ ap (λ u. (u *ℤ due j) +ℤ cost) unit_is))
+    where
       turned : (u p l m : ℕ) (d c : ℤ) → u * p ≤ l → pos l ≡ (pos u *ℤ d) +ℤ c → ((pos m *ℤ (pos p -ℤ d)) *ℤ pos u) ≤ℤ (pos m *ℤ c)
       turned u p l m d c room are =
           subst (λ z. z ≤ℤ (pos m *ℤ c)) (sym (*ℤ_assoc (pos m) (pos p -ℤ d) (pos u) ∙ ap (λ z. pos m *ℤ z) (*ℤ_comm (pos p -ℤ d) (pos u) ∙ *ℤ-sub (pos u) (pos p) d)))
@@ -152,13 +154,13 @@ module _ (i : Instance) (h : IsOfClass i stairs_class) (t : Schedule) (f : Feasi
   forced_bounds x (inr (last, others, a, e)) = subst (λ y. (y *ℤ t.unit) ≤ℤ (pos i.machines *ℤ cost)) (sym e) (of_set last others a)
 
 -- ---- where some jobs take longer than their greatest deadlines
-of_first-is : (f : ℕ → ℕ) (l : ℕ) (xs : List ℕ) → of_first f l xs ≡ of_all f (take l xs)
+pub of_first-is : (f : ℕ → ℕ) (l : ℕ) (xs : List ℕ) → of_first f l xs ≡ of_all f (take l xs)
 of_first-is f zero xs = refl
 of_first-is f (suc l) [] = refl
 of_first-is f (suc l) (x ∷ xs) = ap (λ n. f x + n) (of_first-is f l xs)
 
 -- of fewer jobs than machines one takes longer than up to its own deadline
-one_late : (due work : ℕ → ℕ) (k l : ℕ) (xs : List ℕ) → length xs ≤ l → IsBelow k xs → of_first due l xs < of_all work xs → (x : ℕ) × (x < k) × (due x < work x)
+pub one_late : (due work : ℕ → ℕ) (k l : ℕ) (xs : List ℕ) → length xs ≤ l → IsBelow k xs → of_first due l xs < of_all work xs → (x : ℕ) × (x < k) × (due x < work x)
 one_late due work k zero [] few below late = absurd (omega (arith, late))
 one_late due work k zero (x ∷ xs) few below late = absurd (omega (arith, few))
 one_late due work k (suc l) [] few below late = absurd (omega (arith, late))
@@ -175,14 +177,14 @@ IsBelow-pairs : (k : ℕ) (xs : List ℕ) → IsBelow k xs → AllPairs (λ x y.
 IsBelow-pairs k [] h = λ a b d l m. absurd (omega (arith, m))
 IsBelow-pairs k (x ∷ xs) h = AllPairs-cons (λ x y. y < x) x xs (IsBelow-all x xs h.1) (IsBelow-pairs x xs h.1)
 
--- the deadline of a job is no earlier than its due date and the bound
-pub deadline-late : (i : Instance) (bound : ℤ) (j : ℕ) → ((pos i.machines *ℤ (job_at i j).due) +ℤ bound) ≤ℤ pos (deadline i bound j)
-deadline-late i bound j = by ((pos i.machines *ℤ (job_at i j).due) +ℤ bound)
+-- the deadline of a job is no earlier than the moment by which it has to end
+pub deadline-late : (i : Instance) (limits : Limits) (j : ℕ) → last_moment i limits j ≤ℤ pos (deadline i limits j)
+deadline-late i limits j = by (last_moment i limits j)
   where
     by : (z : ℤ) → z ≤ℤ pos (nat_abs (int_max (pos 0) z))
     by z = subst (λ x. z ≤ℤ x) (natural (int_max (pos 0) z) (≤ℤ-int_max_left (pos 0) z)) (≤ℤ-int_max_right (pos 0) z)
 
-module _ (i : Instance) (order : List ℕ) (bound : ℤ) (once : OnceBelow (length i.jobs) order) (rising : AllPairs (λ a b. (job_at i a).due ≤ℤ (job_at i b).due) order) where
+module _ (i : Instance) (order : List ℕ) (once : OnceBelow (length i.jobs) order) (rising : AllPairs (λ a b. (job_at i a).due ≤ℤ (job_at i b).due) order) where
   abbrev m : ℕ
   m = i.machines
 
@@ -192,22 +194,7 @@ module _ (i : Instance) (order : List ℕ) (bound : ℤ) (once : OnceBelow (leng
   abbrev work : ℕ → ℕ
   work x = work_at i (at order x)
 
-  abbrev limit_at : ℕ → ℕ
-  limit_at x = deadline i bound (at order x)
-
-  -- of a job
-  job_forced : (x : ℕ) → x < length order → limit_at x < work x → (y : ℤ) × IsForced i y × (bound <ℤ y)
-  job_forced x l over =
-      let j = at order x in (
-        pos m *ℤ (pos (time_at i j) -ℤ date j),
-        inl (j, once.within x 0 l, refl),
-        subst (λ z. bound <ℤ z) (sym (*ℤ-sub (pos m) (pos (time_at i j)) (date j))) (above (m * time_at i j) (limit_at x) (pos m *ℤ date j) bound (deadline-late i bound j) over),
-      )
-    where
-      above : (w l : ℕ) (d b : ℤ) → (d +ℤ b) ≤ℤ pos l → l < w → b <ℤ (pos w -ℤ d)
-      above w l d b h k = omega (arith, ints, h, k)
-
-  -- times and deadlines of a list of places
+  -- the time of a list of places
   times_are : (xs : List ℕ) → of_all work xs ≡ m * sum_by (time_at i) (map (at order) xs)
   times_are [] = nothing m
     where
@@ -218,62 +205,88 @@ module _ (i : Instance) (order : List ℕ) (bound : ℤ) (once : OnceBelow (leng
       added : (m t a s r : ℕ) → a ≡ m * s → r ≡ t + s → m * t + a ≡ m * r
       added m t a s r e f = omega (arith, e, ap (λ z. m * z) f)
 
-  limits_late : (xs : List ℕ) → ((pos m *ℤ dates_together i (map (at order) xs)) +ℤ (pos (length xs) *ℤ bound)) ≤ℤ pos (of_all limit_at xs)
-  limits_late [] = ≤ℤ_of_same (ap₂ (λ x y. x +ℤ y) (*ℤ-zero (pos m)) (zero-*ℤ bound))
-  limits_late (x ∷ xs) =
-      added (limit_at x) (of_all limit_at xs) (pos m *ℤ date (at order x)) bound (pos m *ℤ dates_together i (map (at order) xs)) (pos (length xs) *ℤ bound) _ _
-      (*ℤ-add (pos m) (date (at order x)) (dates_together i (map (at order) xs))) (suc-*ℤ (length xs) bound) (deadline-late i bound (at order x)) (limits_late xs)
-    where
-      added : (a s : ℕ) (d b ds bs u v : ℤ) → u ≡ d +ℤ ds → v ≡ bs +ℤ b → (d +ℤ b) ≤ℤ pos a → (ds +ℤ bs) ≤ℤ pos s → (u +ℤ v) ≤ℤ pos (a + s)
-      added a s d b ds bs u v e f h g = omega (arith, ints, e, f, h, g)
+  -- of at least as many jobs as machines those that are due last, and the others
+  abbrev pub last : List ℕ → List ℕ
+  last set = map (at order) (take m set)
 
-  -- of at least as many jobs as machines
-  module _ (set : List ℕ) (below : IsBelow (length order) set) (many : m ≤ length set) (late : of_first limit_at m set < of_all work set) where
-    abbrev last : List ℕ
-    last = map (at order) (take m set)
+  abbrev pub others : List ℕ → List ℕ
+  others set = map (at order) (drop m set)
 
-    abbrev others : List ℕ
-    others = map (at order) (drop m set)
-
-    whole : last ++ others ≡ map (at order) set
+  module _ (set : List ℕ) (below : IsBelow (length order) set) (many : m ≤ length set) where
+    whole : last set ++ others set ≡ map (at order) set
     whole = sym (map-append (at order) (take m set) (drop m set)) ∙ ap (map (at order)) (take-append-drop m set)
+
+    pub all_times : of_all work set ≡ m * sum_by (time_at i) (last set ++ others set)
+    all_times = times_are set ∙ ap (λ l. m * sum_by (time_at i) l) (sym whole)
 
     within : All (λ x. x < length order) set
     within = IsBelow-all (length order) set below
 
-    due_before : (x y : ℕ) → y < x → x < length order → date (at order y) ≤ℤ date (at order x)
-    due_before x y l k = rising y x 0 l k
+    split : (R : ℕ → ℕ → Type 0) → ((x y : ℕ) → y < x → x < length order → R (at order x) (at order y))
+        → (q k : ℕ) (xs : List ℕ) → IsBelow k xs → k ≤ length order → All (λ a. All (R a) (map (at order) (drop q xs))) (map (at order) (take q xs))
+    split R before zero k xs b l = All-nil (λ a. All (R a) (map (at order) xs))
+    split R before (suc q) k [] b l = All-nil (λ a. All (R a) [])
+    split R before (suc q) k (x ∷ xs) b l =
+        All-cons (λ a. All (R a) (map (at order) (drop q xs))) (at order x) (map (at order) (take q xs))
+        (All-map (R (at order x)) (at order) (drop q xs)
+        (All-drop (λ y. R (at order x) (at order y)) q xs (λ n d j. before x (get_or xs n d) (IsBelow-all x xs b.1 n d j) (omega (arith, b.0, l)))))
+        (split R before q x xs b.1 (omega (arith, b.0, l)))
 
-    split : (q k : ℕ) (xs : List ℕ) → IsBelow k xs → k ≤ length order → All (λ a. All (λ b. date b ≤ℤ date a) (map (at order) (drop q xs))) (map (at order) (take q xs))
-    split zero k xs b l = All-nil (λ a. All (λ b. date b ≤ℤ date a) (map (at order) xs))
-    split (suc q) k [] b l = All-nil (λ a. All (λ b. date b ≤ℤ date a) [])
-    split (suc q) k (x ∷ xs) b l =
-        All-cons (λ a. All (λ b. date b ≤ℤ date a) (map (at order) (drop q xs))) (at order x) (map (at order) (take q xs))
-        (All-map (λ b. date b ≤ℤ date (at order x)) (at order) (drop q xs)
-        (All-drop (λ y. date (at order y) ≤ℤ date (at order x)) q xs (λ n d j. due_before x (get_or xs n d) (IsBelow-all x xs b.1 n d j) (omega (arith, b.0, l)))))
-        (split q x xs b.1 (omega (arith, b.0, l)))
+    -- what holds of each two jobs by due date holds of these and the others
+    pub divided : (R : ℕ → ℕ → Type 0) → ((x y : ℕ) → y < x → x < length order → R (at order x) (at order y)) → All (λ a. All (R a) (others set)) (last set)
+    divided R before = split R before m (length order) set below (omega arith)
 
-    due_last : AreDueLast i last others
+    pub due_last : AreDueLast i (last set) (others set)
     due_last = record {
       many = length-map (take m set) (at order) ∙ length-take-le m set many;
       jobs = subst (All (λ j. j < length i.jobs)) (sym whole) (All-map (λ j. j < length i.jobs) (at order) set (λ k d l. once.within (get_or set k d) 0 (within k d l)));
       once = subst (AllPairs (λ a b. a ≢ b)) (sym whole)
           (AllPairs-map (λ a b. a ≢ b) (at order) set (λ a b d l k. apart (get_or set a d) (get_or set b d) (IsBelow-pairs (length order) set below a b d l k) (within a d (omega (arith, l, k)))));
-      dates = split m (length order) set below (omega arith);
+      dates = divided (λ a b. date b ≤ℤ date a) (λ x y l k. rising y x 0 l k);
     }
       where
         apart : (x y : ℕ) → y < x → x < length order → at order x ≢ at order y
         apart x y l k e = OnceBelow-distinct once y x 0 l k (sym e)
 
-    set_forced : (y : ℤ) × IsForced i y × (bound <ℤ y)
-    set_forced =
-        (pos (sum_by (time_at i) (last ++ others)) -ℤ dates_together i last, inr (last, others, due_last, refl), above m (sum_by (time_at i) (last ++ others)) (dates_together i last) bound strict)
-      where
-        all_late : of_all limit_at (take m set) < m * sum_by (time_at i) (last ++ others)
-        all_late = subst₂ (λ x y. x < y) (of_first-is limit_at m set) (times_are set ∙ ap (λ l. m * sum_by (time_at i) l) (sym whole)) late
+  -- ---- above a bound
+  module _ (bound : ℤ) where
+    abbrev limit_at : ℕ → ℕ
+    limit_at x = deadline i (no_later bound) (at order x)
 
-        strict : ((pos m *ℤ dates_together i last) +ℤ (pos m *ℤ bound)) <ℤ pos (m * sum_by (time_at i) (last ++ others))
-        strict = below_all (subst (λ q. ((pos m *ℤ dates_together i last) +ℤ (pos q *ℤ bound)) ≤ℤ pos (of_all limit_at (take m set))) (length-take-le m set many) (limits_late (take m set))) all_late
+    -- of a job
+    job_forced : (x : ℕ) → x < length order → limit_at x < work x → (y : ℤ) × IsForced i y × (bound <ℤ y)
+    job_forced x l over =
+        let j = at order x in (
+          pos m *ℤ (pos (time_at i j) -ℤ date j),
+          inl (j, once.within x 0 l, refl),
+          subst (λ z. bound <ℤ z) (sym (*ℤ-sub (pos m) (pos (time_at i j)) (date j))) (above (m * time_at i j) (limit_at x) (pos m *ℤ date j) bound (deadline-late i (no_later bound) j) over),
+        )
+      where
+        above : (w l : ℕ) (d b : ℤ) → (d +ℤ b) ≤ℤ pos l → l < w → b <ℤ (pos w -ℤ d)
+        above w l d b h k = omega (arith, ints, h, k)
+
+    -- the deadlines of a list of places
+    limits_late : (xs : List ℕ) → ((pos m *ℤ dates_together i (map (at order) xs)) +ℤ (pos (length xs) *ℤ bound)) ≤ℤ pos (of_all limit_at xs)
+    limits_late [] = ≤ℤ_of_same (ap₂ (λ x y. x +ℤ y) (*ℤ-zero (pos m)) (zero-*ℤ bound))
+    limits_late (x ∷ xs) =
+        added (limit_at x) (of_all limit_at xs) (pos m *ℤ date (at order x)) bound (pos m *ℤ dates_together i (map (at order) xs)) (pos (length xs) *ℤ bound) _ _
+        (*ℤ-add (pos m) (date (at order x)) (dates_together i (map (at order) xs))) (suc-*ℤ (length xs) bound) (deadline-late i (no_later bound) (at order x)) (limits_late xs)
+      where
+        added : (a s : ℕ) (d b ds bs u v : ℤ) → u ≡ d +ℤ ds → v ≡ bs +ℤ b → (d +ℤ b) ≤ℤ pos a → (ds +ℤ bs) ≤ℤ pos s → (u +ℤ v) ≤ℤ pos (a + s)
+        added a s d b ds bs u v e f h g = omega (arith, ints, e, f, h, g)
+
+    set_forced : (set : List ℕ) → IsBelow (length order) set → m ≤ length set → of_first limit_at m set < of_all work set → (y : ℤ) × IsForced i y × (bound <ℤ y)
+    set_forced set below many late = (
+      pos (sum_by (time_at i) (last set ++ others set)) -ℤ dates_together i (last set),
+      inr (last set, others set, due_last set below many, refl),
+      above m (sum_by (time_at i) (last set ++ others set)) (dates_together i (last set)) bound strict,
+    )
+      where
+        all_late : of_all limit_at (take m set) < m * sum_by (time_at i) (last set ++ others set)
+        all_late = subst₂ (λ x y. x < y) (of_first-is limit_at m set) (all_times set below many) late
+
+        strict : ((pos m *ℤ dates_together i (last set)) +ℤ (pos m *ℤ bound)) <ℤ pos (m * sum_by (time_at i) (last set ++ others set))
+        strict = below_all (subst (λ q. ((pos m *ℤ dates_together i (last set)) +ℤ (pos q *ℤ bound)) ≤ℤ pos (of_all limit_at (take m set))) (length-take-le m set many) (limits_late (take m set))) all_late
           where
             below_all : {x : ℤ} {a b : ℕ} → x ≤ℤ pos a → a < b → x <ℤ pos b
             below_all h k = ≤ℤ-<ℤ h (pos-lt k)
@@ -284,8 +297,8 @@ module _ (i : Instance) (order : List ℕ) (bound : ℤ) (once : OnceBelow (leng
             moved : (d +ℤ b) <ℤ pos s → b <ℤ (pos s -ℤ d)
             moved h = omega (arith, ints, h)
 
-  pub forced_above : IsTooLate i order bound → (y : ℤ) × IsForced i y × (bound <ℤ y)
-  forced_above (set, below, late) = elim (cases_lt (length set) m) [
-    | inl few ↦ let (x, l, over) = one_late limit_at work (length order) m set (omega (arith, few)) below late in job_forced x l over
-    | inr many ↦ set_forced set below many late
-  ]
+    pub forced_above : IsTooLate i order (no_later bound) → (y : ℤ) × IsForced i y × (bound <ℤ y)
+    forced_above (set, below, late) = elim (cases_lt (length set) m) [
+      | inl few ↦ let (x, l, over) = one_late limit_at work (length order) m set (omega (arith, few)) below late in job_forced x l over
+      | inr many ↦ set_forced set below many late
+    ]

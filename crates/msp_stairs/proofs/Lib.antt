@@ -3,6 +3,8 @@ mod Pieces
 mod Steps
 mod Room
 mod Forced
+mod Makespan
+mod Ends
 mod Schedules
 mod Laying
 mod Bounds

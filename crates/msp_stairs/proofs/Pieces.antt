@@ -1,5 +1,5 @@
 -- One job more on the stairs: its pieces, on the machines and by jobs.
-use Rattle.std.proofs.Common.{◌≡◌, ◌≢◌, ℕ, ◌+◌, ◌-◌, ◌<◌, ◌≤◌, inl, inr, Bool, true, false, cond, eqb, ltb, List, [], ◌∷◌, ◌++◌, length, get_or, map, All, AllPairs, ℤ, sum_by}
+use Rattle.std.proofs.Common.{◌≡◌, ◌≢◌, ℕ, ◌+◌, ◌-◌, ◌<◌, ◌≤◌, inl, inr, Bool, true, false, cond, eqb, ltb, List, [], ◌∷◌, ◌++◌, length, get_or, map, All, AllPairs, sum_by}
 use Rattle.std.proofs.Common.{refl, sym, ap, ap₂, subst, subst₂, ◌∙◌, arith, append-nil, append_assoc, length-append}
 use Rattle.std.specs.Prelude.{◌==◌}
 use Rattle.std.specs.List.{filter, count_by}
@@ -16,6 +16,7 @@ use Rattle.msp_schedule.specs.Intervals.{IsApartOn, size_of, work_of}
 use Rattle.msp_schedule.specs.Piece.{job_of, start, finish, IsTimed}
 use Rattle.msp_schedule.proofs.feasible.Series.{AllPairs-append}
 use Rattle.msp_schedule.proofs.lists.Parts.{All-front, All-back, AllPairs-front, AllPairs-back, AllPairs-last}
+use Rattle.msp_stairs.specs.declared.climb.Limits.{Limits}
 use Rattle.msp_stairs.specs.declared.climb.Stair.{Stair}
 use Rattle.msp_stairs.specs.Bounds.{at, work_at, deadline}
 use Rattle.msp_stairs.specs.Steps.{machines_of, part, parts, machine_of, Holds, AreOnStairs, HaveWork}
@@ -191,17 +192,17 @@ pub count-none : (ps : List Piece) (j : ℕ) → All (λ p. p.job ≢ j) ps → 
 count-none ps j h = sym (length-filter (λ p. p.job == j) ps) ∙ ap length (filter_none (λ p. p.job == j) ps (λ k d l. ne_eqb (get_or ps k d).job j (h k d l)))
 
 -- ---- one job more
-module _ (i : Instance) (order : List ℕ) (bound : ℤ) (k : ℕ) (ps qs : List Piece) (once : OnceBelow (length i.jobs) order) (inside : k < length order)
-    (h : HaveWork i order bound k ps) (g : AreOfJob (at order k) (work_at i (at order k)) (deadline i bound (at order k)) qs) where
+module _ (i : Instance) (order : List ℕ) (limits : Limits) (k : ℕ) (ps qs : List Piece) (once : OnceBelow (length i.jobs) order) (inside : k < length order)
+    (h : HaveWork i order limits k ps) (g : AreOfJob (at order k) (work_at i (at order k)) (deadline i limits (at order k)) qs) where
   apart_places : (x : ℕ) → x < k → at order x ≢ at order k
   apart_places x l = OnceBelow-distinct once x k 0 l inside
 
-  pub HaveWork-more : HaveWork i order bound (k + 1) (ps ++ qs)
+  pub HaveWork-more : HaveWork i order limits (k + 1) (ps ++ qs)
   HaveWork-more = record {
     jobs = All-append (λ p. (x : ℕ) × (x < k + 1) × (p.job ≡ at order x)) ps qs (λ n d l. let (x, b, e) = h.jobs n d l in (x, omega (arith, b), e)) (λ n d l. (k, omega arith, g.jobs n d l));
     apart = AllPairs-append (IsApartOn job_of start finish) ps qs h.apart g.apart (λ n d l x f y same. let (z, b, e) = h.jobs n d l in absurd (apart_places z b (sym e ∙ same ∙ g.jobs x f y)));
     work = works;
-    ends = All-append (λ p. finish p ≤ deadline i bound p.job) ps qs h.ends (λ n d l. subst (λ j. finish (get_or qs n d) ≤ deadline i bound j) (sym (g.jobs n d l)) (g.ends n d l));
+    ends = All-append (λ p. finish p ≤ deadline i limits p.job) ps qs h.ends (λ n d l. subst (λ j. finish (get_or qs n d) ≤ deadline i limits j) (sym (g.jobs n d l)) (g.ends n d l));
     few = omega (arith, length-append ps qs, h.few, g.few);
     cuts = cuts;
   }

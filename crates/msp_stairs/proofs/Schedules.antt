@@ -1,9 +1,9 @@
--- The pieces on the stairs as a schedule: it is feasible, has at most the lateness of the bound, and lies within the bounds of an answer.
+-- The pieces on the stairs as a schedule: it is feasible, meets the limits, and lies within the bounds of an answer.
 use Rattle.std.proofs.Common.{◌≡◌, ℕ, ◌*◌, ◌<◌, ◌≤◌, inl, inr, Bool, List, [], ◌∷◌, length, get_or, map, ℤ, pos, neg_ℤ, nat_abs, ◌+ℤ◌, ◌-ℤ◌, ◌*ℤ◌, ◌≤ℤ◌, All, MatchBool, sym, ap, subst, ◌∙◌, arith}
-use Rattle.std.specs.Prelude.{◌==◌}
+use Rattle.std.specs.Prelude.{◌==◌, Option, Some, None}
 use Rattle.std.specs.Int.{int_max}
 use Rattle.std.specs.List.{count_by}
-use Rattle.std.proofs.lemmas.Int.{ints}
+use Rattle.std.proofs.lemmas.Int.{ints, clamps}
 use Rattle.std.proofs.lemmas.Bool.{cases_lt}
 use Rattle.std.proofs.lemmas.List.{get_or_default}
 use Rattle.std.proofs.lemmas.List.Elements.{All-filter, All-contains}
@@ -13,7 +13,7 @@ use Rattle.msp_class.specs.declared.environments.EnvKind.{EnvKind}
 use Rattle.msp_class.specs.declared.environments.EnvKind.TheVariants.{Identical}
 use Rattle.msp_class.specs.Crit.{is_greatest}
 use Rattle.msp_class.specs.Env.{kind_of}
-use Rattle.msp_class.proofs.IntegerRing.{≤ℤ_trans, ≤ℤ_total, <ℤ_weak, natural, pos-le, le-pos, ≤ℤ-int_max_left, int_max-least, *ℤ-neg, int_max-right, int_max-left, *ℤ_comm, *ℤ-mono}
+use Rattle.msp_class.proofs.IntegerRing.{≤ℤ_refl, ≤ℤ_trans, ≤ℤ_total, <ℤ_weak, natural, zero-le-pos, pos-le, le-pos, ≤ℤ-int_max_left, int_max-least, *ℤ-neg, int_max-right, int_max-left, *ℤ_comm, *ℤ-mono}
 use Rattle.msp_class.proofs.Sums.{OnceBelow-contains, length-OnceBelow}
 use Rattle.msp_instance.specs.declared.Instance.{Instance}
 use Rattle.msp_instance.specs.Instance.{job_at, no_job}
@@ -32,19 +32,29 @@ use Rattle.msp_schedule.proofs.feasible.OneMachine.{apart_in_int, pieces_of-job,
 use Rattle.msp_schedule.proofs.feasible.BackToBack.{ordered_without_arcs}
 use Rattle.msp_schedule.proofs.costs.Charges.{cost_of-least}
 use Rattle.msp_route.specs.Bounds.{IsAnswer, answer_unit}
+use Rattle.msp_stairs.specs.declared.climb.Limits.{Limits}
 use Rattle.msp_stairs.specs.declared.climb.Stair.{Stair}
-use Rattle.msp_stairs.specs.Stairs.{stairs_class, HasTwoPiecesAtMost}
-use Rattle.msp_stairs.specs.Bounds.{greatest_bound, CanMeet, work_at, deadline, at, greatest_date, latest_deadline}
+use Rattle.msp_stairs.specs.Stairs.{stairs_class, makespan, HasTwoPiecesAtMost}
+use Rattle.msp_stairs.specs.Bounds.{greatest_bound, CanMeet, CanEnd, work_at, capped, last_moment, deadline, at, greatest_date, latest_deadline}
 use Rattle.msp_stairs.specs.Steps.{HasClimbed, IsClimbed}
+use Rattle.msp_stairs.proofs.Makespan.{makespan-least}
 use Rattle.msp_stairs.proofs.Pieces.{count-none}
 use Rattle.msp_stairs.proofs.Steps.{CanLay}
 
 abbrev pub stairs_schedule : Instance → List Piece → Schedule
 stairs_schedule i ps = record { unit = pos i.machines; pieces = ps }
 
+-- the moment by which a job has to end is within the lateness, and not after the end, if there is one
+capped-late : (end : Option ℤ) (moment : ℤ) → capped end moment ≤ℤ moment
+capped-late None moment = ≤ℤ_refl moment
+capped-late (Some end) moment = omega (arith, ints, clamps)
+
+capped-end : (end moment : ℤ) → capped (Some end) moment ≤ℤ end
+capped-end end moment = omega (arith, ints, clamps)
+
 -- a deadline that a piece keeps is not cut off at 0
-deadline-exact : (i : Instance) (bound : ℤ) (j : ℕ) → 0 < deadline i bound j → pos (deadline i bound j) ≡ (pos i.machines *ℤ (job_at i j).due) +ℤ bound
-deadline-exact i bound j some = by ((pos i.machines *ℤ (job_at i j).due) +ℤ bound) some
+deadline-exact : (i : Instance) (limits : Limits) (j : ℕ) → 0 < deadline i limits j → pos (deadline i limits j) ≡ last_moment i limits j
+deadline-exact i limits j some = by (last_moment i limits j) some
   where
     by : (z : ℤ) → 0 < nat_abs (int_max (pos 0) z) → pos (nat_abs (int_max (pos 0) z)) ≡ z
     by z l = elim (≤ℤ_total (pos 0) z) [
@@ -75,8 +85,9 @@ product-small m x c l h = (low, high)
 pub due-within : (i : Instance) → IsOfClass i stairs_class → (j : ℕ) → j < length i.jobs → LiesWithin greatest_date (pos i.machines *ℤ (job_at i j).due)
 due-within i h j l = product-small i.machines (job_at i j).due (2 * GREATEST) h.machines (h.jobs j no_job l).due
 
-pub deadline-small : (i : Instance) → IsOfClass i stairs_class → (bound : ℤ) → LiesWithin greatest_bound bound → (j : ℕ) → j < length i.jobs → deadline i bound j ≤ latest_deadline
-deadline-small i h bound small j l = by ((pos i.machines *ℤ (job_at i j).due) +ℤ bound) (added (pos i.machines *ℤ (job_at i j).due) bound (due-within i h j l).1 small.1)
+pub deadline-small : (i : Instance) → IsOfClass i stairs_class → (limits : Limits) → LiesWithin greatest_bound limits.late → (j : ℕ) → j < length i.jobs → deadline i limits j ≤ latest_deadline
+deadline-small i h limits small j l = by (last_moment i limits j)
+    (≤ℤ_trans (capped-late limits.end ((pos i.machines *ℤ (job_at i j).due) +ℤ limits.late)) (added (pos i.machines *ℤ (job_at i j).due) limits.late (due-within i h j l).1 small.1))
   where
     added : (x y : ℤ) → x ≤ℤ pos greatest_date → y ≤ℤ pos greatest_bound → (x +ℤ y) ≤ℤ pos latest_deadline
     added x y h k = omega (arith, ints, h, k)
@@ -84,14 +95,14 @@ deadline-small i h bound small j l = by ((pos i.machines *ℤ (job_at i j).due) 
     by : (z : ℤ) → z ≤ℤ pos latest_deadline → nat_abs (int_max (pos 0) z) ≤ latest_deadline
     by z l = le-pos (subst (λ x. x ≤ℤ pos latest_deadline) (natural (int_max (pos 0) z) (≤ℤ-int_max_left (pos 0) z)) (int_max-least (omega (arith, ints)) l))
 
-module _ (i : Instance) (h : IsOfClass i stairs_class) (order : List ℕ) (bound : ℤ) (can : CanLay i order bound) (ps : List Piece) (made : IsClimbed i order bound ps) where
+module _ (i : Instance) (h : IsOfClass i stairs_class) (order : List ℕ) (limits : Limits) (can : CanLay i order limits) (ps : List Piece) (made : IsClimbed i order limits ps) where
   abbrev n : ℕ
   n = length i.jobs
 
   abbrev stairs : List Stair
   stairs = made.0
 
-  abbrev c : HasClimbed i order bound (length order) stairs ps
+  abbrev c : HasClimbed i order limits (length order) stairs ps
   c = made.1
 
   abbrev s : Schedule
@@ -163,35 +174,51 @@ module _ (i : Instance) (h : IsOfClass i stairs_class) (order : List ℕ) (bound
       never l k = omega (arith, l, k)
 
   -- ---- in time
-  some_deadline : (j : ℕ) → j < n → 0 < deadline i bound j
+  some_deadline : (j : ℕ) → j < n → 0 < deadline i limits j
   some_deadline j l =
       let (q, among, mine, lasts) = piece_of job_of start finish ps j
       (subst (λ w. 0 < w) (sym (each_job (λ j. work_of job_of start finish ps j ≡ work_at i j) c.worked.work j l)) (each_job (λ j. 0 < work_at i j) (λ x b. omega (arith, can.works x b)) j l)) in
-      let late = All-contains (λ p. finish p ≤ deadline i bound p.job) ps q c.worked.ends among in
-      omega (arith, lasts, subst (λ x. finish q ≤ deadline i bound x) mine late)
+      let late = All-contains (λ p. finish p ≤ deadline i limits p.job) ps q c.worked.ends among in
+      omega (arith, lasts, subst (λ x. finish q ≤ deadline i limits x) mine late)
 
-  job_in_time : (j : ℕ) → j < n → end_of s j ≤ℤ ((pos i.machines *ℤ (job_at i j).due) +ℤ bound)
-  job_in_time j l = subst (λ x. end_of s j ≤ℤ x) (deadline-exact i bound j (some_deadline j l))
-      (last_end-least ps j (pos (deadline i bound j)) (pos-le (omega arith))
-      (λ k d b e. by (get_or ps k d) (c.on_stairs.timed k d b) (subst (λ x. finish (get_or ps k d) ≤ deadline i bound x) e (c.worked.ends k d b))))
-    where
-      by : (p : Piece) → IsTimed p → finish p ≤ deadline i bound j → p.to ≤ℤ pos (deadline i bound j)
-      by p t l = subst (λ x. x ≤ℤ pos (deadline i bound j)) (sym t.to) (pos-le l)
+  in_time : All (λ p. p.to ≤ℤ last_moment i limits p.job) ps
+  in_time k d l =
+      subst (λ x. (get_or ps k d).to ≤ℤ x) (deadline-exact i limits (get_or ps k d).job (some_deadline (get_or ps k d).job (job_inside k d l)))
+      (subst (λ x. x ≤ℤ pos (deadline i limits (get_or ps k d).job)) (sym (c.on_stairs.timed k d l).to) (pos-le (c.worked.ends k d l)))
 
-  pub at_most_bound : cost_of i s ≤ℤ bound
-  at_most_bound = cost_of-least i s bound (ap is_greatest h.crit) (omega (arith, h.some))
-      (λ j l. subst (λ x. job_cost x (pos i.machines) (job_at i j) (end_of s j) ≤ℤ bound) (sym h.crit) (moved (end_of s j) (pos i.machines *ℤ (job_at i j).due) (job_in_time j l)))
+  not_before : (j : ℕ) → j < n → pos 0 ≤ℤ last_moment i limits j
+  not_before j l = subst (λ x. pos 0 ≤ℤ x) (deadline-exact i limits j (some_deadline j l)) (zero-le-pos (deadline i limits j))
+
+  job_in_time : (j : ℕ) → j < n → end_of s j ≤ℤ last_moment i limits j
+  job_in_time j l = last_end-least ps j (last_moment i limits j) (not_before j l) (λ k d b e. subst (λ x. (get_or ps k d).to ≤ℤ last_moment i limits x) e (in_time k d b))
+
+  pub at_most_bound : cost_of i s ≤ℤ limits.late
+  at_most_bound = cost_of-least i s limits.late (ap is_greatest h.crit) (omega (arith, h.some))
+      (λ j l. subst (λ x. job_cost x (pos i.machines) (job_at i j) (end_of s j) ≤ℤ limits.late) (sym h.crit) (moved (end_of s j) (pos i.machines *ℤ (job_at i j).due)
+      (≤ℤ_trans (job_in_time j l) (capped-late limits.end ((pos i.machines *ℤ (job_at i j).due) +ℤ limits.late)))))
     where
-      moved : (x y : ℤ) → x ≤ℤ (y +ℤ bound) → (x -ℤ y) ≤ℤ bound
+      moved : (x y : ℤ) → x ≤ℤ (y +ℤ limits.late) → (x -ℤ y) ≤ℤ limits.late
       moved x y l = omega (arith, ints, l)
 
-  pub meets : CanMeet i bound
-  meets = (s, is_feasible, subst (λ x. (pos i.machines *ℤ cost_of i s) ≤ℤ x) (*ℤ_comm (pos i.machines) bound) (*ℤ-mono i.machines at_most_bound))
+  late_enough : (pos i.machines *ℤ cost_of i s) ≤ℤ (limits.late *ℤ s.unit)
+  late_enough = subst (λ x. (pos i.machines *ℤ cost_of i s) ≤ℤ x) (*ℤ_comm (pos i.machines) limits.late) (*ℤ-mono i.machines at_most_bound)
+
+  pub meets : CanMeet i limits.late
+  meets = (s, is_feasible, late_enough)
+
+  pub ends_by : (end : ℤ) → limits.end ≡ Some end → makespan s ≤ℤ end
+  ends_by end e = makespan-least s end (≤ℤ_trans (not_before 0 h.some) (before 0)) (λ k d l. ≤ℤ_trans (in_time k d l) (before (get_or ps k d).job))
+    where
+      before : (j : ℕ) → last_moment i limits j ≤ℤ end
+      before j = subst (λ x. capped x ((pos i.machines *ℤ (job_at i j).due) +ℤ limits.late) ≤ℤ end) (sym e) (capped-end end ((pos i.machines *ℤ (job_at i j).due) +ℤ limits.late))
+
+  pub can_end : (end : ℤ) → limits.end ≡ Some end → CanEnd i limits.late end
+  can_end end e = (s, is_feasible, late_enough, subst (λ x. (pos i.machines *ℤ makespan s) ≤ℤ x) (*ℤ_comm (pos i.machines) end) (*ℤ-mono i.machines (ends_by end e)))
 
   -- ---- bounds
-  module _ (small : LiesWithin greatest_bound bound) where
+  module _ (small : LiesWithin greatest_bound limits.late) where
     moments : All (λ p. p.to ≤ℤ pos latest_deadline) ps
-    moments k d l = by (get_or ps k d) (c.on_stairs.timed k d l) (omega (arith, c.worked.ends k d l, deadline-small i h bound small (get_or ps k d).job (job_inside k d l)))
+    moments k d l = by (get_or ps k d) (c.on_stairs.timed k d l) (omega (arith, c.worked.ends k d l, deadline-small i h limits small (get_or ps k d).job (job_inside k d l)))
       where
         by : (p : Piece) → IsTimed p → finish p ≤ latest_deadline → p.to ≤ℤ pos latest_deadline
         by p t l = subst (λ x. x ≤ℤ pos latest_deadline) (sym t.to) (pos-le l)

@@ -1,10 +1,11 @@
 -- One job more: what stays true, and where it fits on no machine.
-use Rattle.std.proofs.Common.{◌≡◌, ℕ, suc, ◌+◌, ◌-◌, ◌<◌, ◌≤◌, inl, inr, true, false, List, [], ◌∷◌, ◌++◌, length, ℤ, sym, ap, subst, ◌∙◌, arith, append_assoc}
+use Rattle.std.proofs.Common.{◌≡◌, ℕ, suc, ◌+◌, ◌-◌, ◌<◌, ◌≤◌, inl, inr, true, false, List, [], ◌∷◌, ◌++◌, length, sym, ap, subst, ◌∙◌, arith, append_assoc}
 use Rattle.std.proofs.lemmas.List.{length-map, map-append}
 use Rattle.std.proofs.lemmas.List.Elements.{All-map}
 use Rattle.msp_class.proofs.Sums.{OnceBelow, length-OnceBelow}
 use Rattle.msp_instance.specs.declared.Instance.{Instance}
 use Rattle.msp_schedule.specs.declared.Piece.{Piece}
+use Rattle.msp_stairs.specs.declared.climb.Limits.{Limits}
 use Rattle.msp_stairs.specs.declared.climb.Stair.{Stair}
 use Rattle.msp_stairs.specs.declared.climb.Task.{Task}
 use Rattle.msp_stairs.specs.Bounds.{at, work_at, deadline}
@@ -23,31 +24,31 @@ IsBelow-up a b [] l h = tt
 IsBelow-up a b (x ∷ xs) l h = (omega (arith, h.0, l), h.1)
 
 -- what the step reads of the instance
-pub record CanLay (i : Instance) (order : List ℕ) (bound : ℤ) : Type 0 where
+pub record CanLay (i : Instance) (order : List ℕ) (limits : Limits) : Type 0 where
   pub once : OnceBelow (length i.jobs) order
-  pub rises : (x y : ℕ) → x ≤ y → y < length order → deadline i bound (at order x) ≤ deadline i bound (at order y)
+  pub rises : (x y : ℕ) → x ≤ y → y < length order → deadline i limits (at order x) ≤ deadline i limits (at order y)
   pub works : (x : ℕ) → x < length order → 1 ≤ work_at i (at order x)
   pub machine : 1 ≤ i.machines
 
-module _ (i : Instance) (order : List ℕ) (bound : ℤ) (can : CanLay i order bound)
-    (k : ℕ) (old new : List Stair) (before after : List Piece) (inside : k < length order) (c : HasClimbed i order bound k old before) where
+module _ (i : Instance) (order : List ℕ) (limits : Limits) (can : CanLay i order limits)
+    (k : ℕ) (old new : List Stair) (before after : List Piece) (inside : k < length order) (c : HasClimbed i order limits k old before) where
   abbrev task : Task
-  task = task_for i bound (at order k)
+  task = task_for i limits (at order k)
 
   abbrev due : ℕ → ℕ
-  due x = deadline i bound (at order x)
+  due x = deadline i limits (at order x)
 
   abbrev work : ℕ → ℕ
   work x = work_at i (at order x)
 
-  HasClimbed-whole : IsWhole task old before new after → HasClimbed i order bound (k + 1) new after
+  HasClimbed-whole : IsWhole task old before new after → HasClimbed i order limits (k + 1) new after
   HasClimbed-whole w = record {
     falls = λ x l b. subst (λ ss. Falls (due x) (ends_of ss)) (sym w.stand) (omega (arith, w.fits, can.rises k x (omega (arith, l)) b), Falls-raise (ends_of w.others) (omega (arith, w.is)) falls.1);
     backed = subst (λ ss. AreBacked work due (k + 1) 0 (ends_of ss)) (sym w.stand) (subst (λ n. AreBacked work due n 0 (w.end ∷ ends_of w.others))
         (next k) (AreBacked-whole work due k w.first.end w.end (ends_of w.others) w.is (subst (λ ss. AreBacked work due k 0 (ends_of ss)) w.stood c.backed)));
     on_stairs = subst (λ ss. AreOnStairs i.machines ss after) (sym w.stand) (subst (AreOnStairs i.machines (record { machine = w.first.machine; end = w.end } ∷ w.others))
         (sym w.laid) (ran_to i.machines [] w.first w.others before (subst (λ ss. AreOnStairs i.machines ss before) w.stood c.on_stairs) (at order k) w.end (omega (arith, w.is))));
-    worked = subst (HaveWork i order bound (k + 1)) (sym w.laid) (HaveWork-more i order bound k before (parts (at order k) w.first.machine w.first.end w.end)
+    worked = subst (HaveWork i order limits (k + 1)) (sym w.laid) (HaveWork-more i order limits k before (parts (at order k) w.first.machine w.first.end w.end)
         can.once inside c.worked (AreOfJob-one (at order k) (work k) (due k) w.first.end w.end _ w.is w.fits (AreParts-parts (at order k) w.first.machine w.first.end w.end)));
   }
     where
@@ -103,8 +104,8 @@ module _ (i : Instance) (order : List ℕ) (bound : ℤ) (can : CanLay i order b
     all_on = in_front i.machines w.ahead raised_high (raised_low ∷ w.behind) ((before ++ first_parts) ++ second_parts)
         (subst (λ ss. AreOnStairs i.machines ss ((before ++ first_parts) ++ second_parts)) (append_assoc w.ahead (raised_high ∷ []) (raised_low ∷ w.behind)) second_on)
 
-    all_worked : HaveWork i order bound (k + 1) (before ++ (first_parts ++ second_parts))
-    all_worked = HaveWork-more i order bound k before (first_parts ++ second_parts) can.once inside c.worked
+    all_worked : HaveWork i order limits (k + 1) (before ++ (first_parts ++ second_parts))
+    all_worked = HaveWork-more i order limits k before (first_parts ++ second_parts) can.once inside c.worked
         (AreOfJob-two (at order k) (work k) (due k) w.high.end (due k) w.low.end w.end first_parts second_parts high_early above_low below_high
         (adds_up w.high.end (due k) w.low.end w.end (work k) w.is high_early above_low) (omega arith)
         (AreParts-parts (at order k) w.high.machine w.high.end (due k)) (AreParts-parts (at order k) w.low.machine w.low.end w.end))
@@ -112,19 +113,19 @@ module _ (i : Instance) (order : List ℕ) (bound : ℤ) (can : CanLay i order b
         adds_up : (a b c e w : ℕ) → e + b ≡ c + a + w → a ≤ b → c ≤ e → (b - a) + (e - c) ≡ w
         adds_up a b c e w h l k = omega (arith, h, l, k)
 
-    HasClimbed-cut : HasClimbed i order bound (k + 1) new after
+    HasClimbed-cut : HasClimbed i order limits (k + 1) new after
     HasClimbed-cut = record {
       falls = λ x l b. subst (λ ss. Falls (due x) (ends_of ss)) (sym w.stand) (can.rises k x (omega (arith, l)) b, new_falls);
       backed = subst (λ ss. AreBacked work due (k + 1) 0 (ends_of ss)) (sym w.stand) (subst (λ n. AreBacked work due n 0 (due k ∷ ends_of (w.ahead ++ raised_low ∷ w.behind))) (next k) new_backed);
       on_stairs = subst (λ ss. AreOnStairs i.machines ss after) (sym w.stand) (subst (AreOnStairs i.machines (raised_high ∷ (w.ahead ++ raised_low ∷ w.behind))) (sym w.laid) all_on);
-      worked = subst (HaveWork i order bound (k + 1)) (sym (w.laid ∙ append_assoc before first_parts second_parts)) all_worked;
+      worked = subst (HaveWork i order limits (k + 1)) (sym (w.laid ∙ append_assoc before first_parts second_parts)) all_worked;
     }
 
-  pub HasClimbed-next : IsLaid task old before true new after → HasClimbed i order bound (k + 1) new after
+  pub HasClimbed-next : IsLaid task old before true new after → HasClimbed i order limits (k + 1) new after
   HasClimbed-next (inl w) = HasClimbed-whole w
   HasClimbed-next (inr w) = HasClimbed-cut w
 
-  pub IsTooLate-found : IsLaid task old before false new after → IsTooLate i order bound
+  pub IsTooLate-found : IsLaid task old before false new after → IsTooLate i order limits
   IsTooLate-found high =
       let many : length (ends_of old) ≡ i.machines = length-map old end_at ∙ sym (length-map old (λ s. s.machine)) ∙ length-OnceBelow c.on_stairs.machines in
       let (set, below, late) = found_late work due k 0 i.machines (ends_of old) (omega (arith, many)) (omega (arith, many, can.machine)) (All-map (λ e. due k < e + work k) end_at old high) c.backed in

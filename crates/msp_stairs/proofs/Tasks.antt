@@ -10,7 +10,8 @@ use Rattle.msp_instance.specs.Instance.{job_at, no_job, no_need}
 use Rattle.msp_instance.specs.Conditions.{LiesWithin}
 use Rattle.msp_schedule.proofs.feasible.OfClass.{IsOfClass}
 use Rattle.msp_stairs.specs.Stairs.{stairs_class}
-use Rattle.msp_stairs.specs.Bounds.{greatest_bound, greatest_date, latest_deadline}
+use Rattle.msp_stairs.specs.declared.climb.Limits.{Limits}
+use Rattle.msp_stairs.specs.Bounds.{greatest_bound, greatest_date, latest_deadline, capped}
 use Rattle.msp_stairs.specs.declared.climb.Task.{Task}
 use Rattle.msp_stairs.specs.Steps.{task_for}
 use Rattle.msp_stairs.proofs.Schedules.{product-small}
@@ -72,11 +73,11 @@ job_read i jobs k job e l at = at ∙ get_or_default jobs k job no_job (subst (�
 pub date_read : (i : Instance) → IsOfClass i stairs_class → (k : ℕ) (job : Job) → k < length i.jobs → job ≡ job_at i k → LiesWithin (2 * GREATEST) job.due
 date_read i h k job l e = subst (λ j. LiesWithin (2 * GREATEST) j.due) (sym e) (h.jobs k no_job l).due
 
-pub task_read : (i : Instance) (bound : ℤ) (k m t due : ℕ) (job : Job)
-    → job ≡ job_at i k → m ≡ i.machines → t ≡ (get_or job.needs 0 no_need).time → due ≡ nat_abs (int_max (pos 0) ((pos i.machines *ℤ job.due) +ℤ bound))
-    → record { job = k; time = m * t; due = due } ≡ task_for i bound k
-task_read i bound k m t due job e f g h =
-    ap₂ made (ap₂ (λ a b. a * b) f (g ∙ ap (λ j. (get_or j.needs 0 no_need).time) e)) (h ∙ ap (λ j. nat_abs (int_max (pos 0) ((pos i.machines *ℤ j.due) +ℤ bound))) e)
+pub task_read : (i : Instance) (limits : Limits) (k m t due : ℕ) (job : Job)
+    → job ≡ job_at i k → m ≡ i.machines → t ≡ (get_or job.needs 0 no_need).time → due ≡ nat_abs (int_max (pos 0) (capped limits.end ((pos i.machines *ℤ job.due) +ℤ limits.late)))
+    → record { job = k; time = m * t; due = due } ≡ task_for i limits k
+task_read i limits k m t due job e f g h =
+    ap₂ made (ap₂ (λ a b. a * b) f (g ∙ ap (λ j. (get_or j.needs 0 no_need).time) e)) (h ∙ ap (λ j. nat_abs (int_max (pos 0) (capped limits.end ((pos i.machines *ℤ j.due) +ℤ limits.late)))) e)
   where
     made : ℕ → ℕ → Task
     made a b = record { job = k; time = a; due = b }

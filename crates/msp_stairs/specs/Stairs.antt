@@ -1,5 +1,6 @@
--- The class that the rule solves, and what its answers cost.
-use Rattle.std.specs.Prelude.{◌≡◌, ◌≢◌, ℕ, ◌==◌, ◌<◌, ◌≤◌, ◌⊎◌, true, false, List, [], ◌∷◌, ◌++◌, length, ℤ, pos, ◌+ℤ◌, ◌-ℤ◌, ◌*ℤ◌, ◌≤ℤ◌, All, AllPairs, sum_by}
+-- The class that the rule solves, what its answers cost, and when they end.
+use Rattle.std.specs.Prelude.{◌≡◌, ◌≢◌, ℕ, ◌==◌, ◌<◌, ◌≤◌, ◌⊎◌, true, false, List, [], ◌∷◌, ◌++◌, length, ℤ, pos, ◌+ℤ◌, ◌-ℤ◌, ◌*ℤ◌, ◌≤ℤ◌, ◌<ℤ◌, All, AllPairs, sum_by, fold, map}
+use Rattle.std.specs.Int.{int_max}
 use Rattle.std.specs.List.{count_by}
 use Rattle.msp_class.specs.declared.class.Class.{Class}
 use Rattle.msp_class.specs.declared.class.Env.TheVariants.{P as Identical}
@@ -10,6 +11,8 @@ use Rattle.msp_instance.specs.declared.Instance.{Instance}
 use Rattle.msp_instance.specs.Instance.{job_at}
 use Rattle.msp_schedule.specs.declared.Frac.{Frac}
 use Rattle.msp_schedule.specs.declared.Schedule.{Schedule}
+use Rattle.msp_schedule.specs.Feasible.{Feasible}
+use Rattle.msp_schedule.specs.Cost.{cost_of}
 use Rattle.msp_schedule.specs.Fraction.{IsOver}
 use Rattle.msp_schedule.specs.BackToBack.{time_at}
 
@@ -50,3 +53,13 @@ IsStairsCost i cost = (x : ℤ) × IsForced i x × ((y : ℤ) → IsForced i y �
 -- No job has more than two pieces: each is interrupted once at most.
 abbrev pub HasTwoPiecesAtMost : Schedule → Type 0
 HasTwoPiecesAtMost s = (j : ℕ) → count_by (λ p. p.job == j) s.pieces ≤ 2
+
+-- The end of a schedule: the greatest moment at which a piece of it ends.
+abbrev pub makespan : Schedule → ℤ
+makespan s = fold int_max (pos 0) (map (λ p. p.to) s.pieces)
+
+-- No feasible schedule that costs no more ends a whole part of 1/m sooner, where there are m machines: with e its end over its unit u, each
+-- of them, over any unit D, has an end x with D·(m·e − u) < m·x·u.
+abbrev pub EndsSoonest : Instance → Schedule → Type 0
+EndsSoonest i s = (t : Schedule) → Feasible i t → (cost_of i t *ℤ s.unit) ≤ℤ (cost_of i s *ℤ t.unit)
+    → (t.unit *ℤ ((pos i.machines *ℤ makespan s) -ℤ s.unit)) <ℤ ((pos i.machines *ℤ makespan t) *ℤ s.unit)

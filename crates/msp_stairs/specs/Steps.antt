@@ -1,5 +1,5 @@
 -- The stairs of machines by falling ends, and the jobs that are laid on them. No public contract cites this file.
-use Rattle.std.specs.Prelude.{◌≡◌, ℕ, ◌==◌, zero, suc, ◌+◌, ◌*◌, ◌<◌, ◌≤◌, ◌⊎◌, Bool, true, false, ltb, cond, List, [], ◌∷◌, ◌++◌, length, map, pos, ℤ, All, AllPairs, ⊤}
+use Rattle.std.specs.Prelude.{◌≡◌, ℕ, ◌==◌, zero, suc, ◌+◌, ◌*◌, ◌<◌, ◌≤◌, ◌⊎◌, Bool, true, false, ltb, cond, List, [], ◌∷◌, ◌++◌, length, map, pos, All, AllPairs, ⊤}
 use Rattle.std.specs.Prelude.{slice_index_or, slice_set, remove}
 use Rattle.std.specs.List.{range_with_len, count_by}
 use Rattle.msp_class.proofs.Sums.{OnceBelow}
@@ -8,6 +8,7 @@ use Rattle.msp_schedule.specs.declared.Piece.{Piece}
 use Rattle.msp_schedule.specs.Intervals.{IsApartOn, work_of}
 use Rattle.msp_schedule.specs.Piece.{job_of, start, finish, IsTimed}
 use Rattle.msp_stairs.specs.Bounds.{work_at, deadline, at}
+use Rattle.msp_stairs.specs.declared.climb.Limits.{Limits}
 use Rattle.msp_stairs.specs.declared.climb.Stair.{Stair}
 use Rattle.msp_stairs.specs.declared.climb.Task.{Task}
 
@@ -83,34 +84,34 @@ pub record AreOnStairs (m : ℕ) (stairs : List Stair) (pieces : List Piece) : T
   pub apart : AllPairs (IsApartOn machine_of start finish) pieces
 
 -- The pieces are those of the first k jobs of the order, each with all its work, and end by the deadlines.
-pub record HaveWork (i : Instance) (order : List ℕ) (bound : ℤ) (k : ℕ) (pieces : List Piece) : Type 0 where
+pub record HaveWork (i : Instance) (order : List ℕ) (limits : Limits) (k : ℕ) (pieces : List Piece) : Type 0 where
   pub jobs : All (λ p. (x : ℕ) × (x < k) × (p.job ≡ at order x)) pieces
   pub apart : AllPairs (IsApartOn job_of start finish) pieces
   pub work : (x : ℕ) → x < k → work_of job_of start finish pieces (at order x) ≡ work_at i (at order x)
-  pub ends : All (λ p. finish p ≤ deadline i bound p.job) pieces
+  pub ends : All (λ p. finish p ≤ deadline i limits p.job) pieces
   pub few : length pieces ≤ 2 * k
   pub cuts : (x : ℕ) → x < k → count_by (λ p. p.job == at order x) pieces ≤ 2
 
 -- The first k jobs of the order are laid, and the ends do not stand above the deadlines of the others.
-pub record HasClimbed (i : Instance) (order : List ℕ) (bound : ℤ) (k : ℕ) (stairs : List Stair) (pieces : List Piece) : Type 0 where
-  pub falls : (x : ℕ) → k ≤ x → x < length order → Falls (deadline i bound (at order x)) (ends_of stairs)
-  pub backed : AreBacked (λ x. work_at i (at order x)) (λ x. deadline i bound (at order x)) k 0 (ends_of stairs)
+pub record HasClimbed (i : Instance) (order : List ℕ) (limits : Limits) (k : ℕ) (stairs : List Stair) (pieces : List Piece) : Type 0 where
+  pub falls : (x : ℕ) → k ≤ x → x < length order → Falls (deadline i limits (at order x)) (ends_of stairs)
+  pub backed : AreBacked (λ x. work_at i (at order x)) (λ x. deadline i limits (at order x)) k 0 (ends_of stairs)
   pub on_stairs : AreOnStairs i.machines stairs pieces
-  pub worked : HaveWork i order bound k pieces
+  pub worked : HaveWork i order limits k pieces
 
 -- The pieces of all jobs of the order, wherever the machines stand on the stairs.
-abbrev pub IsClimbed : Instance → List ℕ → ℤ → List Piece → Type 0
-IsClimbed i order bound pieces = (stairs : List Stair) × HasClimbed i order bound (length order) stairs pieces
+abbrev pub IsClimbed : Instance → List ℕ → Limits → List Piece → Type 0
+IsClimbed i order limits pieces = (stairs : List Stair) × HasClimbed i order limits (length order) stairs pieces
 
 -- Some of the jobs take longer than their m greatest deadlines.
-abbrev pub IsTooLate : Instance → List ℕ → ℤ → Type 0
-IsTooLate i order bound = (set : List ℕ) × IsBelow (length order) set
-    × (of_first (λ x. deadline i bound (at order x)) i.machines set < of_all (λ x. work_at i (at order x)) set)
+abbrev pub IsTooLate : Instance → List ℕ → Limits → Type 0
+IsTooLate i order limits = (set : List ℕ) × IsBelow (length order) set
+    × (of_first (λ x. deadline i limits (at order x)) i.machines set < of_all (λ x. work_at i (at order x)) set)
 
 -- ---- one job more
--- A job as a task for a bound.
-abbrev pub task_for : Instance → ℤ → ℕ → Task
-task_for i bound j = record { job = j; time = work_at i j; due = deadline i bound j }
+-- A job as a task for the limits.
+abbrev pub task_for : Instance → Limits → ℕ → Task
+task_for i limits j = record { job = j; time = work_at i j; due = deadline i limits j }
 
 -- On the machines before the place the task would end after its deadline, and on that at the place, if there is one, by it.
 pub record HasTooHigh (t : Task) (stairs : List Stair) (place : ℕ) : Type 0 where

@@ -4,7 +4,7 @@ ghost use Rattle.std.specs.Int.{int_max};
 ghost use Rattle.msp_class.specs.declared.sizes.TheConstants.{MOST_MACHINES, GREATEST};
 ghost use Rattle.msp_instance.specs.Conditions.{Inner, LiesWithin};
 ghost use Rattle.msp_stairs.specs.Stairs.{stairs_class};
-ghost use Rattle.msp_stairs.specs.Bounds.{greatest_bound, at, IsReady};
+ghost use Rattle.msp_stairs.specs.Bounds.{greatest_bound, capped, at, IsReady};
 ghost use Rattle.msp_stairs.specs.Steps.{task_for, level, no_stair, ends_of, Falls, raised, to_front, parts, IsBetween, IsWhole, IsCut, IsLaid, HasTooHigh, HasClimbed, IsClimbed, IsTooLate};
 
 use msp_class::{List, NoMemory};
@@ -27,6 +27,13 @@ pub struct Task {
     pub due: u64,
 }
 
+/// What a schedule keeps, over the number of machines: the most that a job is late, and the moment by which all jobs end, if there is one.
+#[derive(Clone, Copy)]
+pub struct Limits {
+    pub late: i128,
+    pub end: Option<i128>,
+}
+
 /// The number, and 0 for one below it.
 fn natural_part(number: &i128) -> u64
     requires { number.now ≤ℤ pos u64.MAX }
@@ -35,39 +42,50 @@ fn natural_part(number: &i128) -> u64
     (*number).max(0) as u64
 }
 
-/// The moment by which a job has to end that is due so, for a bound on the lateness, over the number of machines.
-fn deadline_of(machines: u32, due: i64, bound: &i128) -> u64
-    requires few { machines ≤ MOST_MACHINES }
-    requires date { LiesWithin (2 * GREATEST) due }
-    requires bound { LiesWithin greatest_bound bound.now }
-    ensures { result ≡ nat_abs (int_max (pos 0) ((pos machines *ℤ due) +ℤ bound.now)) }
+/// The moment, or the end where that comes first; and 0 where it is below.
+fn capped_at(moment: &i128, end: &Option<i128>) -> u64
+    requires { moment.now ≤ℤ pos u64.MAX }
+    ensures { result ≡ nat_abs (int_max (pos 0) (capped end.now moment.now)) }
 {
-    let moment = i128::from(machines) * i128::from(due) + *bound;
-    natural_part(&moment)
+    match end {
+        Some(end) => natural_part(&(*moment).min(*end)),
+        None => natural_part(moment),
+    }
 }
 
-/// The job as a task for a bound on the lateness, over the number of machines.
-fn task_of(inst: &Instance, job: u32, bound: &i128) -> Task
+/// The moment by which a job has to end that is due so, for the limits.
+fn deadline_of(machines: u32, due: i64, limits: &Limits) -> u64
+    requires few { machines ≤ MOST_MACHINES }
+    requires date { LiesWithin (2 * GREATEST) due }
+    requires late { LiesWithin greatest_bound limits.now.late }
+    ensures { result ≡ nat_abs (int_max (pos 0) (capped limits.now.end ((pos machines *ℤ due) +ℤ limits.now.late))) }
+{
+    let moment = i128::from(machines) * i128::from(due) + limits.late;
+    capped_at(&moment, &limits.end)
+}
+
+/// The job as a task for the limits.
+fn task_of(inst: &Instance, job: u32, limits: &Limits) -> Task
     requires inner { Inner inst.now }
     requires class { inst.now.class ≡ stairs_class }
     requires inside { job < length inst.now.jobs }
-    requires bound { LiesWithin greatest_bound bound.now }
-    ensures { result ≡ task_for inst.now bound.now job }
+    requires late { LiesWithin greatest_bound limits.now.late }
+    ensures { result ≡ task_for inst.now limits.now job }
 {
     let entry = &inst.jobs.as_slice()[job as usize];
-    let due = deadline_of(inst.machines, entry.due, bound);
+    let due = deadline_of(inst.machines, entry.due, limits);
     let time = u64::from(inst.machines) * first_time(entry.needs.as_slice());
     Task { job, time, due }
 }
 
 /// The job at a place of the order as a task.
-fn task_at(inst: &Instance, order: &[u32], place: usize, bound: &i128) -> Task
+fn task_at(inst: &Instance, order: &[u32], place: usize, limits: &Limits) -> Task
     requires ready { IsReady inst.now order.now }
     requires inside { place < length order.now }
-    requires bound { LiesWithin greatest_bound bound.now }
-    ensures { result ≡ task_for inst.now bound.now (at order.now place) }
+    requires late { LiesWithin greatest_bound limits.now.late }
+    ensures { result ≡ task_for inst.now limits.now (at order.now place) }
 {
-    task_of(inst, order[place], bound)
+    task_of(inst, order[place], limits)
 }
 
 /// All machines, busy up to moment 0.
@@ -203,21 +221,21 @@ fn lay(stairs: &mut Vec<Stair>, pieces: &mut List<Piece>, task: &Task) -> Result
     Ok(true)
 }
 
-/// The pieces of all jobs, which are given by due date, where each ends by its deadline for the bound; or none where some job does not.
+/// The pieces of all jobs, which are given by due date, where each ends by its deadline for the limits; or none where some job does not.
 pub fn climbed(
     alloc: Global,
     inst: &Instance,
     order: &[u32],
-    bound: &i128,
+    limits: &Limits,
 ) -> Result<Option<List<Piece>>, NoMemory>
     requires ready { IsReady inst.now order.now }
-    requires bound { LiesWithin greatest_bound bound.now }
-    ensures { IfOk result (λ r. MatchOption r (IsTooLate inst.now order.now bound.now) (IsClimbed inst.now order.now bound.now)) }
+    requires late { LiesWithin greatest_bound limits.now.late }
+    ensures { IfOk result (λ r. MatchOption r (IsTooLate inst.now order.now limits.now) (IsClimbed inst.now order.now limits.now)) }
 {
     let mut stairs = level(alloc, inst.machines)?;
     let mut pieces = List::new(alloc);
     for place in 0..order.len() {
-        let task = task_at(inst, order, place, bound);
+        let task = task_at(inst, order, place, limits);
         if !lay(&mut stairs, &mut pieces, &task)? {
             return Ok(None);
         }

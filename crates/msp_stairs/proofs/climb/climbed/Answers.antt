@@ -4,17 +4,17 @@ use Rattle.msp_stairs.proofs.Bounds.{HasClimbed-none, some_stairs, laid_on, laid
 use Rattle.msp_stairs.proofs.climb.climbed.Goals as goal
 
 pub loop-place-init : goal.loop-place-init
-loop-place-init c = subst₂ (HasClimbed c.args.inst.now c.args.order.now c.args.bound.now 0)
-    (sym c.in_ok-stairs.ensures) (sym c.new-pieces.ensures) (HasClimbed-none c.args.inst.now c.args.order.now c.args.bound.now)
+loop-place-init c = subst₂ (HasClimbed c.args.inst.now c.args.order.now c.args.limits.now 0)
+    (sym c.in_ok-stairs.ensures) (sym c.new-pieces.ensures) (HasClimbed-none c.args.inst.now c.args.order.now c.args.limits.now)
 
 pub lay-requires-clause-some : goal.lay-requires-clause-some
-lay-requires-clause-some c = some_stairs c.args.inst.now c.args.order.now c.requires.ready c.args.bound.now c.loop-place.place c.loop-place.stairs.items
+lay-requires-clause-some c = some_stairs c.args.inst.now c.args.order.now c.requires.ready c.args.limits.now c.loop-place.place c.loop-place.stairs.items
     c.loop-place.stairs.items c.loop-place.pieces c.loop-place.pieces c.loop-place-test.true c.loop-place.invariant c.task_at-task.result c.task_at-task.ensures
 
 pub returns-then-not-branch : goal.returns-then-not-branch
-returns-then-not-branch c = laid_off c.args.inst.now c.args.order.now c.requires.ready c.args.bound.now c.loop-place.place c.loop-place.stairs.items c.lay.new.stairs.items
+returns-then-not-branch c = laid_off c.args.inst.now c.args.order.now c.requires.ready c.args.limits.now c.loop-place.place c.loop-place.stairs.items c.lay.new.stairs.items
     c.loop-place.pieces c.lay.new.pieces c.loop-place-test.true c.loop-place.invariant c.task_at-task.result c.task_at-task.ensures c.in_ok-lay.field-0 c.if-not-branch.true c.in_ok-lay.ensures
 
 pub loop-place-preserved : goal.loop-place-preserved
-loop-place-preserved c = laid_on c.args.inst.now c.args.order.now c.requires.ready c.args.bound.now c.loop-place.place c.loop-place.stairs.items c.lay.new.stairs.items
+loop-place-preserved c = laid_on c.args.inst.now c.args.order.now c.requires.ready c.args.limits.now c.loop-place.place c.loop-place.stairs.items c.lay.new.stairs.items
     c.loop-place.pieces c.lay.new.pieces c.loop-place-test.true c.loop-place.invariant c.task_at-task.result c.task_at-task.ensures c.in_ok-lay.field-0 c.if-not-branch.false c.in_ok-lay.ensures

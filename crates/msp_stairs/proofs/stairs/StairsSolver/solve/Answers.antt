@@ -1,12 +1,11 @@
 use Rattle.std.proofs.Common.{subst}
 use Rattle.std.specs.Prelude.{MatchOption}
 use Rattle.msp_stairs.specs.Steps.{IsTooLate, IsClimbed}
-use Rattle.msp_stairs.proofs.Tasks.{held}
-use Rattle.msp_stairs.proofs.Bounds.{IsReady-shown, never_late, solved}
+use Rattle.msp_stairs.proofs.Bounds.{IsReady-shown, never_climbed, solved}
 use Rattle.msp_stairs.proofs.stairs.StairsSolver.solve.Goals as goal
 
-pub least_bound-requires : goal.least_bound-requires
-least_bound-requires c = record {
+pub least_limits-requires : goal.least_limits-requires
+least_limits-requires c = record {
   ready =
       IsReady-shown c.args.inst.now c.in_ok-order.order.items c.as_slice.result.now c.requires.class c.requires.inner
       c.in_ok-order.ensures.all c.in_ok-order.ensures.sorted c.as_slice.ensures.value;
@@ -17,47 +16,63 @@ climbed-requires-clause-ready c =
     IsReady-shown c.args.inst.now c.in_ok-order.order.items c.as_slice-2.result.now c.requires.class c.requires.inner
     c.in_ok-order.ensures.all c.in_ok-order.ensures.sorted c.as_slice-2.ensures.value
 
+pub climbed-requires-clause-late : goal.climbed-requires-clause-late
+climbed-requires-clause-late c = c.in_ok-limits.ensures.small
+
 pub unreachable-requires : goal.unreachable-requires
 unreachable-requires c =
     let i = c.args.inst.now in
     let order = c.as_slice-2.result.now in
-    never_late i order (IsReady-shown i c.in_ok-order.order.items order c.requires.class c.requires.inner c.in_ok-order.ensures.all c.in_ok-order.ensures.sorted c.as_slice-2.ensures.value)
-    c.in_ok-bound.bound c.in_ok-bound.ensures.least c.in_ok-bound.ensures.size
-    (subst (λ r. MatchOption r (IsTooLate i order (held c.in_ok-bound.bound)) (IsClimbed i order (held c.in_ok-bound.bound))) c.in-None.is c.in_ok-pieces.ensures)
+    let limits = c.in_ok-limits.limits in
+    never_climbed i order (IsReady-shown i c.in_ok-order.order.items order c.requires.class c.requires.inner c.in_ok-order.ensures.all c.in_ok-order.ensures.sorted c.as_slice-2.ensures.value)
+    limits c.in_ok-limits.ensures (subst (λ r. MatchOption r (IsTooLate i order limits) (IsClimbed i order limits)) c.in-None.is c.in_ok-pieces.ensures)
 
 pub returns-clause-best : goal.returns-clause-best
 returns-clause-best c =
     let i = c.args.inst.now in
     let order = c.as_slice-2.result.now in
+    let limits = c.in_ok-limits.limits in
     let s = solved i order (IsReady-shown i c.in_ok-order.order.items order c.requires.class c.requires.inner c.in_ok-order.ensures.all c.in_ok-order.ensures.sorted c.as_slice-2.ensures.value)
-    c.in_ok-bound.bound c.in_ok-bound.ensures.least c.in_ok-bound.ensures.size
-    c.in-Some.pieces c.from-unit.result c.from-unit.ensures
-    (subst (λ r. MatchOption r (IsTooLate i order (held c.in_ok-bound.bound)) (IsClimbed i order (held c.in_ok-bound.bound))) c.in-Some.is c.in_ok-pieces.ensures) in
+    limits c.in_ok-limits.ensures c.in-Some.pieces (subst (λ r. MatchOption r (IsTooLate i order limits) (IsClimbed i order limits)) c.in-Some.is c.in_ok-pieces.ensures)
+    c.from-unit.result c.from-unit.ensures in
     record { best = s.best; cost = s.over }
 
 pub returns-clause-bounds : goal.returns-clause-bounds
 returns-clause-bounds c =
     let i = c.args.inst.now in
     let order = c.as_slice-2.result.now in
-    (solved i order (IsReady-shown i c.in_ok-order.order.items order c.requires.class c.requires.inner c.in_ok-order.ensures.all c.in_ok-order.ensures.sorted c.as_slice-2.ensures.value)
-    c.in_ok-bound.bound c.in_ok-bound.ensures.least c.in_ok-bound.ensures.size
-    c.in-Some.pieces c.from-unit.result c.from-unit.ensures
-    (subst (λ r. MatchOption r (IsTooLate i order (held c.in_ok-bound.bound)) (IsClimbed i order (held c.in_ok-bound.bound))) c.in-Some.is c.in_ok-pieces.ensures)).answer
+    let limits = c.in_ok-limits.limits in
+    let s = solved i order (IsReady-shown i c.in_ok-order.order.items order c.requires.class c.requires.inner c.in_ok-order.ensures.all c.in_ok-order.ensures.sorted c.as_slice-2.ensures.value)
+    limits c.in_ok-limits.ensures c.in-Some.pieces (subst (λ r. MatchOption r (IsTooLate i order limits) (IsClimbed i order limits)) c.in-Some.is c.in_ok-pieces.ensures)
+    c.from-unit.result c.from-unit.ensures in
+    s.answer
 
 pub returns-clause-cost : goal.returns-clause-cost
 returns-clause-cost c =
     let i = c.args.inst.now in
     let order = c.as_slice-2.result.now in
-    (solved i order (IsReady-shown i c.in_ok-order.order.items order c.requires.class c.requires.inner c.in_ok-order.ensures.all c.in_ok-order.ensures.sorted c.as_slice-2.ensures.value)
-    c.in_ok-bound.bound c.in_ok-bound.ensures.least c.in_ok-bound.ensures.size
-    c.in-Some.pieces c.from-unit.result c.from-unit.ensures
-    (subst (λ r. MatchOption r (IsTooLate i order (held c.in_ok-bound.bound)) (IsClimbed i order (held c.in_ok-bound.bound))) c.in-Some.is c.in_ok-pieces.ensures)).cost
+    let limits = c.in_ok-limits.limits in
+    let s = solved i order (IsReady-shown i c.in_ok-order.order.items order c.requires.class c.requires.inner c.in_ok-order.ensures.all c.in_ok-order.ensures.sorted c.as_slice-2.ensures.value)
+    limits c.in_ok-limits.ensures c.in-Some.pieces (subst (λ r. MatchOption r (IsTooLate i order limits) (IsClimbed i order limits)) c.in-Some.is c.in_ok-pieces.ensures)
+    c.from-unit.result c.from-unit.ensures in
+    s.cost
 
 pub returns-clause-pieces : goal.returns-clause-pieces
 returns-clause-pieces c =
     let i = c.args.inst.now in
     let order = c.as_slice-2.result.now in
-    (solved i order (IsReady-shown i c.in_ok-order.order.items order c.requires.class c.requires.inner c.in_ok-order.ensures.all c.in_ok-order.ensures.sorted c.as_slice-2.ensures.value)
-    c.in_ok-bound.bound c.in_ok-bound.ensures.least c.in_ok-bound.ensures.size
-    c.in-Some.pieces c.from-unit.result c.from-unit.ensures
-    (subst (λ r. MatchOption r (IsTooLate i order (held c.in_ok-bound.bound)) (IsClimbed i order (held c.in_ok-bound.bound))) c.in-Some.is c.in_ok-pieces.ensures)).cuts
+    let limits = c.in_ok-limits.limits in
+    let s = solved i order (IsReady-shown i c.in_ok-order.order.items order c.requires.class c.requires.inner c.in_ok-order.ensures.all c.in_ok-order.ensures.sorted c.as_slice-2.ensures.value)
+    limits c.in_ok-limits.ensures c.in-Some.pieces (subst (λ r. MatchOption r (IsTooLate i order limits) (IsClimbed i order limits)) c.in-Some.is c.in_ok-pieces.ensures)
+    c.from-unit.result c.from-unit.ensures in
+    s.cuts
+
+pub returns-clause-ends : goal.returns-clause-ends
+returns-clause-ends c =
+    let i = c.args.inst.now in
+    let order = c.as_slice-2.result.now in
+    let limits = c.in_ok-limits.limits in
+    let s = solved i order (IsReady-shown i c.in_ok-order.order.items order c.requires.class c.requires.inner c.in_ok-order.ensures.all c.in_ok-order.ensures.sorted c.as_slice-2.ensures.value)
+    limits c.in_ok-limits.ensures c.in-Some.pieces (subst (λ r. MatchOption r (IsTooLate i order limits) (IsClimbed i order limits)) c.in-Some.is c.in_ok-pieces.ensures)
+    c.from-unit.result c.from-unit.ensures in
+    s.ends
