@@ -2,8 +2,7 @@
 use Rattle.std.proofs.Common.{◌≡◌, ℕ, ◌<◌, ◌≤◌, ℤ, pos, ◌≤ℤ◌, List, nat_abs, arith}
 use Rattle.std.proofs.lemmas.Int.{ints}
 use Rattle.msp_matching.specs.Passing.{at}
-use Rattle.msp_assign.specs.Prices.{HasCosts, greatest_cost}
-use Rattle.msp_assign.specs.Search.{sizes, paid, greatest_payment}
+use Rattle.msp_assign.specs.Search.{HasCharges, greatest_charge, sizes, paid, greatest_payment}
 
 abs-at_most : (z : ℤ) (n : ℕ) → pos 0 ≤ℤ z → z ≤ℤ pos n → nat_abs z ≤ n
 abs-at_most z n l h = omega (arith, ints)
@@ -11,12 +10,12 @@ abs-at_most z n l h = omega (arith, ints)
 abs-is : (z : ℤ) → pos 0 ≤ℤ z → pos (nat_abs z) ≡ z
 abs-is z l = omega (arith, ints)
 
-pub sizes-at_most : (rows columns : ℕ) (cost : ℕ → ℕ → ℤ) → HasCosts rows columns cost → (r c : ℕ) → r < rows → c < columns → sizes cost r c ≤ greatest_cost
-sizes-at_most rows columns cost h r c lr lc = abs-at_most (cost r c) greatest_cost (h r c lr lc).0 (h r c lr lc).1
+pub sizes-at_most : (rows columns : ℕ) (cost : ℕ → ℕ → ℤ) → HasCharges rows columns cost → (r c : ℕ) → r < rows → c < columns → sizes cost r c ≤ greatest_charge
+sizes-at_most rows columns cost h r c lr lc = abs-at_most (cost r c) greatest_charge (h r c lr lc).0 (h r c lr lc).1
 
-pub sizes-is : (rows columns : ℕ) (cost : ℕ → ℕ → ℤ) → HasCosts rows columns cost → (r c : ℕ) → r < rows → c < columns → pos (sizes cost r c) ≡ cost r c
+pub sizes-is : (rows columns : ℕ) (cost : ℕ → ℕ → ℤ) → HasCharges rows columns cost → (r c : ℕ) → r < rows → c < columns → pos (sizes cost r c) ≡ cost r c
 sizes-is rows columns cost h r c lr lc = abs-is (cost r c) (h r c lr lc).0
 
 pub paid-at_most : (rows columns : ℕ) (cost : ℕ → ℕ → ℤ) (fall : List ℕ)
-    → HasCosts rows columns cost → ((c : ℕ) → c < columns → at fall c ≤ greatest_cost) → (r c : ℕ) → r < rows → c < columns → paid (sizes cost) fall r c ≤ greatest_payment
+    → HasCharges rows columns cost → ((c : ℕ) → c < columns → at fall c ≤ greatest_charge) → (r c : ℕ) → r < rows → c < columns → paid (sizes cost) fall r c ≤ greatest_payment
 paid-at_most rows columns cost fall h low r c lr lc = let a = sizes-at_most rows columns cost h r c lr lc in let b = low c lc in omega (arith, a, b)

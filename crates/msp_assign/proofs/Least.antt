@@ -12,8 +12,9 @@ use Rattle.msp_class.proofs.IntegerRing.{≤ℤ_trans, ≤ℤ_of_same}
 use Rattle.msp_matching.specs.Passing.{at}
 use Rattle.msp_assign.specs.declared.assignment.Assignment.{Assignment}
 use Rattle.msp_assign.specs.declared.column.Column.{Column}
-use Rattle.msp_assign.specs.Prices.{HasCosts, IsAssigned, IsPriced, IsLeast, HasFreeColumn, column_of, price_at, cost_of, price_of}
-use Rattle.msp_assign.specs.Search.{sizes, IsRowPrices}
+use Rattle.msp_assign.specs.Prices.{IsAssigned, IsPriced, IsLeast, HasFreeColumn, column_of, price_at, cost_of, price_of}
+use Rattle.msp_assign.specs.Search.{HasCharges, sizes, IsRowPrices}
+use Rattle.msp_assign.specs.Given.{IsGiven}
 use Rattle.msp_assign.specs.View.{no_column, column_at, number_at, seen, AreNumbers, AreColumnPrices, IsPlacement}
 use Rattle.msp_assign.proofs.Lists.{counted, Contains-at, at-Contains}
 use Rattle.msp_assign.proofs.Bounds.{sizes-is}
@@ -111,7 +112,7 @@ module _ (rows columns : ℕ) (cost : ℕ → ℕ → ℤ) (a : Assignment) (own
 
 -- ---- columns in view where each row pays least there
 module _ (rows count lines long : ℕ) (cost : ℕ → ℕ → ℤ)
-    (columns : List Column) (falls used : List ℕ) (a : Assignment) (whole : lines * long ≡ count) (some : 1 ≤ long) (costs : HasCosts rows count cost)
+    (columns : List Column) (falls used : List ℕ) (a : Assignment) (whole : lines * long ≡ count) (some : 1 ≤ long) (costs : HasCharges rows count cost)
     (rise : Rises lines long cost) (h : IsPlacement rows lines long cost columns falls used) (numbers : AreNumbers long columns used a.column)
     (row_prices : IsRowPrices (sizes (seen cost long columns)) falls used a.row_price) (column_prices : AreColumnPrices count long columns falls a.column_price) where
   place_inside : (k : ℕ) → k < length columns → ((column_at columns k).line < lines) × ((column_at columns k).place < long)
@@ -220,15 +221,9 @@ module _ (rows count lines long : ℕ) (cost : ℕ → ℕ → ℤ)
   pub HasFreeColumn-placement : HasFreeColumn count a
   HasFreeColumn-placement = (number_at long columns h.zero.0, number_inside h.zero.0 h.zero.1, price_seen h.zero.0 h.zero.1 ∙ ap (λ x. neg_ℤ (pos x)) h.zero.2)
 
--- what the assignment of a placement is
-pub record IsGiven (rows count : ℕ) (cost : ℕ → ℕ → ℤ) (a : Assignment) : Type 0 where
-  pub assigned : IsAssigned rows count a.column
-  pub priced : IsPriced rows count cost a
-  pub zero : HasFreeColumn count a
-
 -- as the code has it
 pub IsGiven-read : (rows count lines lines2 long long2 : ℕ) (cost : ℕ → ℕ → ℤ) (columns columns2 : List Column) (falls falls2 used used2 : List ℕ) (a : Assignment)
-    → lines * long ≡ count → 1 ≤ rows → rows ≤ count → HasCosts rows count cost → Rises lines long cost
+    → lines * long ≡ count → 1 ≤ rows → rows ≤ count → HasCharges rows count cost → Rises lines long cost
     → lines2 ≡ lines → long2 ≡ long → columns2 ≡ columns → falls2 ≡ falls → used2 ≡ used → IsPlacement rows lines long cost columns falls used → AreNumbers long2 columns2 used2 a.column
     → IsRowPrices (sizes (seen cost long columns2)) falls2 used2 a.row_price → AreColumnPrices (lines2 * long2) long2 columns2 falls2 a.column_price → IsGiven rows count cost a
 IsGiven-read rows count lines lines2 long long2 cost columns columns2 falls falls2 used used2 a whole one enough costs rise el eg ec ef eu h n r c =

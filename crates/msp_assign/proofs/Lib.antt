@@ -12,3 +12,5 @@ pub mod Placements
 pub mod Least
 pub mod Totals
 pub mod Choices
+pub mod Squares
+pub mod Normal

@@ -6,8 +6,7 @@ use Rattle.std.proofs.lemmas.List.Quantifiers.{all_pairs_push}
 use Rattle.std.proofs.lemmas.List.Sorted.{All-permutation, Contains-permutation, length_permutation}
 use Rattle.msp_matching.specs.Passing.{at, IsTree, IsStep, IsPassedOn}
 use Rattle.msp_matching.proofs.Lists.{same_place, distinct-permutation}
-use Rattle.msp_assign.specs.Prices.{HasCosts, greatest_cost}
-use Rattle.msp_assign.specs.Search.{sizes, IsCheapest, IsPlaced, IsLevel, IsSearch, IsNearest, IsLowered, IsOneMore}
+use Rattle.msp_assign.specs.Search.{HasCharges, greatest_charge, sizes, IsCheapest, IsPlaced, IsLevel, IsSearch, IsNearest, IsLowered, IsOneMore}
 use Rattle.msp_assign.proofs.Lists.{contained_or_not, Contains-at}
 use Rattle.msp_assign.proofs.Growth.{IsClosest, IsClosest-at}
 use Rattle.msp_assign.proofs.Bounds.{sizes-at_most}
@@ -16,7 +15,7 @@ use Rattle.msp_assign.proofs.Passing.{first_free, row_before, kept_column, IsTre
 module _ (cost : ℕ → ℕ → ℕ) (columns : ℕ) (fall column : List ℕ) (p : IsPlaced cost columns fall column)
     (distance «from» left tree : List ℕ) (h : IsSearch cost columns fall column distance «from» left tree)
     (free : ℕ) (near : IsClosest distance left free) (unused : ¬ Contains column free)
-    (bound : (r : ℕ) → r < length column → cost r free ≤ greatest_cost)
+    (bound : (r : ℕ) → r < length column → cost r free ≤ greatest_charge)
     (next : List ℕ) (lowered : IsLowered (at distance free) distance column tree fall next) where
   in_view : free < columns
   in_view = All-contains (λ c. c < columns) left free h.inside near.among
@@ -75,7 +74,7 @@ module _ (cost : ℕ → ℕ → ℕ) (columns : ℕ) (fall column : List ℕ) (
     | inr w ↦ absurd (n (Contains-at column (at tree w.0) c (h.grown.rows w.0 w.1 w.2) w.3))
   ]
 
-  low : (c : ℕ) → c < columns → at next c ≤ greatest_cost
+  low : (c : ℕ) → c < columns → at next c ≤ greatest_charge
   low c l = elim (h.owned c l) [
     | inl m ↦ omega (arith, near.least c m, moved c l, p.low c l)
     | inr w ↦
@@ -132,7 +131,7 @@ pub IsStepped-row : (rows : ℕ) (cost : ℕ → ℕ → ℤ) (columns : ℕ)
     (fall column column2 column3 pushed distance distance2 «from» from2 left tree tree2 tree3 : List ℕ) (k free far : ℕ) (next passed after : List ℕ)
     → column2 ≡ column → column3 ≡ column → distance2 ≡ distance → from2 ≡ «from» → tree2 ≡ tree → tree3 ≡ tree → free ≡ get_or left k free → far ≡ get_or distance free far
     → pushed ≡ column ++ free ∷ [] → after ≡ passed
-    → HasCosts rows columns cost → length column < rows → IsPlaced (sizes cost) columns fall column
+    → HasCharges rows columns cost → length column < rows → IsPlaced (sizes cost) columns fall column
     → IsSearch (sizes cost) columns fall column2 distance «from» left tree → IsNearest distance left k → ¬ Contains column2 (at left k)
     → IsLowered far distance2 column3 tree2 fall next → IsPassedOn pushed from2 tree3 passed → IsStepped (sizes cost) columns next column after free
 IsStepped-row rows cost columns fall column column2 column3 pushed
@@ -147,7 +146,7 @@ IsStepped-row rows cost columns fall column column2 column3 pushed
     let l = subst (λ x. IsLowered (at distance free) distance x tree fall next) ec3 (subst (λ x. IsLowered (at distance free) distance column3 x fall next) et
     (subst (λ x. IsLowered (at distance free) x column3 tree2 fall next) ed (subst (λ x. IsLowered x distance2 column3 tree2 fall next) is_far moved))) in
     let q = subst (λ x. IsPassedOn (column ++ free ∷ []) x tree passed) ef (subst (λ x. IsPassedOn (column ++ free ∷ []) from2 x passed) et3 (subst (λ x. IsPassedOn x from2 tree3 passed) ep walk)) in
-    let bound : (r : ℕ) → r < length column → sizes cost r free ≤ greatest_cost = λ r lr. sizes-at_most rows columns cost costs r free (omega (arith, lr, more)) inside in
+    let bound : (r : ℕ) → r < length column → sizes cost r free ≤ greatest_charge = λ r lr. sizes-at_most rows columns cost costs r free (omega (arith, lr, more)) inside in
     subst (λ x. IsStepped (sizes cost) columns next column x free) (sym ea) record {
       placed = IsPlaced-moved (sizes cost) columns fall column p distance from_ left tree g free close u bound next l passed q;
       longer = longer (sizes cost) columns fall column p distance from_ left tree g free close u bound next l passed q;

@@ -1,10 +1,9 @@
 -- Row after row gets a column, while columns come into view.
 use Rattle.std.proofs.Common.{◌≡◌, ℕ, zero, suc, ◌+◌, ◌*◌, ◌<◌, ◌≤◌, ℤ, ◌≤ℤ◌, List, [], length, replicate, Contains, sym, subst, arith}
 use Rattle.msp_assign.specs.declared.column.Column.{Column}
-use Rattle.msp_assign.specs.Prices.{HasCosts}
-use Rattle.msp_assign.specs.Search.{sizes, HasUnfallen, IsPlaced, IsOneMore}
+use Rattle.msp_assign.specs.Search.{HasCharges, sizes, HasUnfallen, IsPlaced, IsOneMore}
 use Rattle.msp_assign.specs.View.{seen, AreFirst, IsView, IsWidened, IsPlacement}
-use Rattle.msp_assign.proofs.Views.{IsView-first, IsPlaced-first, IsView-next, IsPlaced-next, HasUnfallen-next, longer-next, HasCosts-read, some_free}
+use Rattle.msp_assign.proofs.Views.{IsView-first, IsPlaced-first, IsView-next, IsPlaced-next, HasUnfallen-next, longer-next, HasCharges-read, some_free}
 
 -- that costs rise along lines
 abbrev pub Rises : ℕ → ℕ → (ℕ → ℕ → ℤ) → Type 0
@@ -55,12 +54,12 @@ IsPlacing-start rows lines lines2 long count cost columns k falls used whole el 
     inside = omega (arith, places.0, first2.count)
 
 module _ (rows lines long count : ℕ) (cost : ℕ → ℕ → ℤ) (columns : List Column)
-    (falls used : List ℕ) (whole : lines * long ≡ count) (costs : HasCosts rows count cost) (h : IsPlacing rows lines long cost columns falls used) where
-  costs_all : HasCosts rows (lines * long) cost
-  costs_all = subst (λ x. HasCosts rows x cost) (sym whole) costs
+    (falls used : List ℕ) (whole : lines * long ≡ count) (costs : HasCharges rows count cost) (h : IsPlacing rows lines long cost columns falls used) where
+  costs_all : HasCharges rows (lines * long) cost
+  costs_all = subst (λ x. HasCharges rows x cost) (sym whole) costs
 
-  pub HasCosts-placing : (columns2 : List Column) → columns2 ≡ columns → HasCosts rows (length columns2) (seen cost long columns2)
-  HasCosts-placing columns2 e = HasCosts-read rows count lines long cost columns columns2 whole e costs h.view.inside
+  pub HasCharges-placing : (columns2 : List Column) → columns2 ≡ columns → HasCharges rows (length columns2) (seen cost long columns2)
+  HasCharges-placing columns2 e = HasCharges-read rows count lines long cost columns columns2 whole e costs h.view.inside
 
   pub free-placing : (columns2 : List Column) → columns2 ≡ columns → length used < rows → rows ≤ count → (k : ℕ) × (k < length columns2) × ¬ Contains used k
   free-placing columns2 e more enough =

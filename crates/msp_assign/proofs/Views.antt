@@ -11,8 +11,7 @@ use lib.Arith.{digits_div, digits_mod}
 use Rattle.msp_matching.specs.Passing.{at}
 use Rattle.msp_class.proofs.Cases.{same_or_not, less_or_not}
 use Rattle.msp_assign.specs.declared.column.Column.{Column}
-use Rattle.msp_assign.specs.Prices.{HasCosts}
-use Rattle.msp_assign.specs.Search.{sizes, paid, HasUnfallen, IsPlaced, IsOneMore}
+use Rattle.msp_assign.specs.Search.{HasCharges, sizes, paid, HasUnfallen, IsPlaced, IsOneMore}
 use Rattle.msp_assign.specs.View.{no_column, column_at, number_of, number_at, seen, AreInside, AreFirst, IsView, column_after, IsWidened}
 use Rattle.msp_assign.proofs.Lists.{Contains-at, at-Contains, missing}
 
@@ -208,7 +207,7 @@ module _ (lines long : ℕ) (columns : List Column) (used falls after : List ℕ
   IsView-next wide wide_falls inside (inr w) = subst (λ x. IsView lines long x after) (sym w.1) (IsView-full w.0)
 
   -- each row pays at the next column no less than at the taken one, which has price 0
-  module _ (rows : ℕ) (cost : ℕ → ℕ → ℤ) (costs : HasCosts rows (lines * long) cost)
+  module _ (rows : ℕ) (cost : ℕ → ℕ → ℤ) (costs : HasCharges rows (lines * long) cost)
       (rise : (r l j k : ℕ) → l < lines → j ≤ k → k < long → cost r (l * long + j) ≤ℤ cost r (l * long + k))
       (p : IsPlaced (sizes (seen cost long columns)) (length columns) falls after) (few : length after ≤ rows) (more : (column_after columns f).place < long) where
     abbrev wide : List Column
@@ -279,7 +278,7 @@ module _ (lines long : ℕ) (columns : List Column) (used falls after : List ℕ
 
 -- the prices of the columns in view after a row's step
 pub IsPlaced-next : (lines long : ℕ) (columns : List Column) (used falls after : List ℕ) (f : ℕ)
-    → IsView lines long columns used → IsOneMore (length columns) used falls after f → (rows : ℕ) (cost : ℕ → ℕ → ℤ) → HasCosts rows (lines * long) cost
+    → IsView lines long columns used → IsOneMore (length columns) used falls after f → (rows : ℕ) (cost : ℕ → ℕ → ℤ) → HasCharges rows (lines * long) cost
     → ((r l j k : ℕ) → l < lines → j ≤ k → k < long → cost r (l * long + j) ≤ℤ cost r (l * long + k)) → IsPlaced (sizes (seen cost long columns)) (length columns) falls after → length after ≤ rows
     → (grown : List Column) (grown_falls : List ℕ) → IsWidened long columns falls f grown grown_falls → IsPlaced (sizes (seen cost long grown)) (length grown) grown_falls after
 IsPlaced-next lines long columns used falls after f v o rows cost costs rise p few grown grown_falls (inl w) =
@@ -306,16 +305,16 @@ longer-next long columns falls f wide wide_falls (inl w) =
 longer-next long columns falls f wide wide_falls (inr w) = (omega (arith, ap length w.1), omega (arith, ap length w.1))
 
 -- ---- the columns in view as a table
-pub HasCosts-seen : (rows lines long : ℕ) (cost : ℕ → ℕ → ℤ) (columns : List Column)
-    → HasCosts rows (lines * long) cost → AreInside lines long columns → HasCosts rows (length columns) (seen cost long columns)
-HasCosts-seen rows lines long cost columns h inside r k lr lk =
+pub HasCharges-seen : (rows lines long : ℕ) (cost : ℕ → ℕ → ℤ) (columns : List Column)
+    → HasCharges rows (lines * long) cost → AreInside lines long columns → HasCharges rows (length columns) (seen cost long columns)
+HasCharges-seen rows lines long cost columns h inside r k lr lk =
     let i = All-get_or (λ c. (c.line < lines) × (c.place < long)) columns k no_column lk inside in
     h r (number_at long columns k) lr (number-inside lines long (column_at columns k) i.0 i.1)
 
-pub HasCosts-read : (rows count lines long : ℕ) (cost : ℕ → ℕ → ℤ) (columns columns2 : List Column) → lines * long ≡ count
-    → columns2 ≡ columns → HasCosts rows count cost → AreInside lines long columns → HasCosts rows (length columns2) (seen cost long columns2)
-HasCosts-read rows count lines long cost columns columns2 whole e h inside =
-    subst (λ x. HasCosts rows (length x) (seen cost long x)) (sym e) (HasCosts-seen rows lines long cost columns (subst (λ x. HasCosts rows x cost) (sym whole) h) inside)
+pub HasCharges-read : (rows count lines long : ℕ) (cost : ℕ → ℕ → ℤ) (columns columns2 : List Column) → lines * long ≡ count
+    → columns2 ≡ columns → HasCharges rows count cost → AreInside lines long columns → HasCharges rows (length columns2) (seen cost long columns2)
+HasCharges-read rows count lines long cost columns columns2 whole e h inside =
+    subst (λ x. HasCharges rows (length x) (seen cost long x)) (sym e) (HasCharges-seen rows lines long cost columns (subst (λ x. HasCharges rows x cost) (sym whole) h) inside)
 
 -- while a row has no column, some column in view is free
 module _ (lines long : ℕ) (columns : List Column)

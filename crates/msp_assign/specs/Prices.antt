@@ -1,5 +1,5 @@
 -- Assignments of rows to columns, and the prices that show one to be least.
-use Rattle.std.specs.Prelude.{◌≡◌, ◌≢◌, ℕ, ◌<◌, ◌^◌, ℤ, pos, ◌+ℤ◌, ◌≤ℤ◌, List, length, slice_index_or, All, AllPairs, Contains}
+use Rattle.std.specs.Prelude.{◌≡◌, ◌≢◌, ℕ, ◌<◌, ◌≤◌, ◌^◌, ℤ, pos, ◌+ℤ◌, ◌≤ℤ◌, List, length, slice_index_or, All, AllPairs, Contains}
 use Rattle.msp_class.specs.Sums.{int_total_below}
 use Rattle.msp_assign.specs.declared.assignment.Assignment.{Assignment}
 
@@ -10,6 +10,15 @@ greatest_cost = 2 ^ 100
 -- Every cost is at least 0, and at most 2^100.
 abbrev pub HasCosts : ℕ → ℕ → (ℕ → ℕ → ℤ) → Type 0
 HasCosts rows columns cost = (r c : ℕ) → r < rows → c < columns → (pos 0 ≤ℤ cost r c) × (cost r c ≤ℤ pos greatest_cost)
+
+-- The most that a column's price may begin below 0.
+abbrev pub greatest_fall : ℕ
+greatest_fall = 2 ^ 100
+
+-- How far below 0 the prices of the columns begin.
+pub record AreFalls (columns : ℕ) (falls : List ℕ) : Type 0 where
+  pub size : length falls ≡ columns
+  pub low : (c : ℕ) → c < columns → slice_index_or falls c 0 ≤ greatest_fall
 
 -- Each row has a column of its own: the columns of the rows, in order of the rows.
 pub record IsAssigned (rows columns : ℕ) (column : List ℕ) : Type 0 where

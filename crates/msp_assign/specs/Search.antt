@@ -1,23 +1,30 @@
 -- The search for a free column for one more row, from the columns and prices of the rows before it, among the columns in view. No public
 -- contract cites this file.
-use Rattle.std.specs.Prelude.{pos, ◌≡◌, ◌≢◌, ℕ, ◌+◌, ◌-◌, ◌<◌, ◌≤◌, ◌*◌, ◌⊎◌, ℤ, List, [], ◌∷◌, ◌++◌, Option, None, length, slice_index_or, unsigned_abs, MatchOption, All, AllPairs, Contains}
+use Rattle.std.specs.Prelude.{pos, ◌≡◌, ◌≢◌, ℕ, ◌+◌, ◌-◌, ◌<◌, ◌≤◌, ◌≤ℤ◌, ◌*◌, ◌⊎◌, ℤ, List, [], ◌∷◌, ◌++◌, Option, None, length, slice_index_or, unsigned_abs, MatchOption, All, AllPairs, Contains}
 use Rattle.std.specs.List.Sorted.{IsPermutation}
 use Rattle.msp_class.specs.declared.list.TheConstants.{PLACES}
 use Rattle.msp_matching.specs.Passing.{at}
 use Rattle.msp_assign.specs.declared.search.Search.{Search}
 use Rattle.msp_assign.specs.declared.search.TheConstants.{FAR}
-use Rattle.msp_assign.specs.Prices.{greatest_cost, HasCosts, price_at}
+use Rattle.msp_assign.specs.Prices.{greatest_cost, price_at}
+
+-- The most that a row is charged at a column: a cost, and a price that begins as far below 0.
+abbrev pub greatest_charge : ℕ
+greatest_charge = 2 * greatest_cost
+
+abbrev pub HasCharges : ℕ → ℕ → (ℕ → ℕ → ℤ) → Type 0
+HasCharges rows columns cost = (r c : ℕ) → r < rows → c < columns → (pos 0 ≤ℤ cost r c) × (cost r c ≤ℤ pos greatest_charge)
 
 abbrev pub sizes : (ℕ → ℕ → ℤ) → ℕ → ℕ → ℕ
 sizes cost r c = unsigned_abs (cost r c)
 
--- What a row pays at a column: its cost, and how far the column's price is below 0.
+-- What a row pays at a column: what it is charged, and how far the column's price is below 0.
 abbrev pub paid : (ℕ → ℕ → ℕ) → List ℕ → ℕ → ℕ → ℕ
 paid cost fall r c = cost r c + at fall c
 
--- The most that a row pays at a column, and that the search goes: a cost, and a price as far below 0.
+-- The most that a row pays at a column, and that the search goes: a charge, and a price as far below 0.
 abbrev pub greatest_payment : ℕ
-greatest_payment = 2 * greatest_cost
+greatest_payment = 2 * greatest_charge
 
 -- The row pays at no column less than at c.
 pub record IsCheapest (cost : ℕ → ℕ → ℕ) (columns : ℕ) (fall : List ℕ) (r c : ℕ) : Type 0 where
@@ -26,7 +33,7 @@ pub record IsCheapest (cost : ℕ → ℕ → ℕ) (columns : ℕ) (fall : List 
 -- The rows so far have columns of their own, each where it pays least. Only a column that a row has is priced.
 pub record IsPlaced (cost : ℕ → ℕ → ℕ) (columns : ℕ) (fall column : List ℕ) : Type 0 where
   pub size : length fall ≡ columns
-  pub low : (c : ℕ) → c < columns → at fall c ≤ greatest_cost
+  pub low : (c : ℕ) → c < columns → at fall c ≤ greatest_charge
   pub inside : All (λ c. c < columns) column
   pub apart : AllPairs (λ c d. c ≢ d) column
   pub cheapest : (r : ℕ) → r < length column → IsCheapest cost columns fall r (at column r)
@@ -38,7 +45,7 @@ HasUnfallen columns fall = (c : ℕ) × (c < columns) × (at fall c ≡ 0)
 
 -- One row more is to have a column: those before it have theirs, and some column is free.
 pub record IsOpenRow (rows columns : ℕ) (cost : ℕ → ℕ → ℤ) (fall column : List ℕ) : Type 0 where
-  pub costs : HasCosts rows columns cost
+  pub costs : HasCharges rows columns cost
   pub placed : IsPlaced (sizes cost) columns fall column
   pub next : length column < rows
   pub free : (c : ℕ) × (c < columns) × ¬ Contains column c
@@ -99,9 +106,9 @@ pub record IsUnderWay (cost : ℕ → ℕ → ℕ) (columns : ℕ) (fall column 
 
 -- A row that was reached pays at its own column no more than at any.
 pub record HasEdges (rows columns : ℕ) (cost : ℕ → ℕ → ℤ) (fall : List ℕ) (r depth own : ℕ) : Type 0 where
-  pub costs : HasCosts rows columns cost
+  pub costs : HasCharges rows columns cost
   pub falls : length fall ≡ columns
-  pub low : (c : ℕ) → c < columns → at fall c ≤ greatest_cost
+  pub low : (c : ℕ) → c < columns → at fall c ≤ greatest_charge
   pub inside : r < rows
   pub near : depth ≤ greatest_payment
   pub least : (c : ℕ) → c < columns → own ≤ paid (sizes cost) fall r c

@@ -6,18 +6,24 @@
 #![tactic(auto)]
 
 mod assignment;
+mod backward;
 mod column;
 mod costs;
 mod lines;
 mod placement;
 mod placing;
 mod prices;
+mod raised;
 mod search;
 mod single;
+mod square;
 mod stored;
 mod view;
 
-pub use assignment::{Assignment, MOST_COLUMNS, MOST_ROWS, assign, assign_on_lines, law_of_limits};
+pub use assignment::{
+    Assignment, MOST_COLUMNS, MOST_ROWS, assign, assign_from, assign_on_lines, law_of_limits,
+};
+pub use backward::{Dated, falls_backward};
 pub use costs::Costs;
 pub use lines::Lines;
 pub use stored::Stored;

@@ -1,7 +1,7 @@
 // All rows get columns, while columns come into view.
 ghost use Rattle.std.specs.Prelude.{◌<◌, ◌≤◌, IfOk, OnOk, length};
 ghost use Rattle.msp_assign.specs.declared.assignment.TheConstants.{MOST_ROWS, MOST_COLUMNS};
-ghost use Rattle.msp_assign.specs.Prices.{HasCosts};
+ghost use Rattle.msp_assign.specs.Search.{HasCharges};
 ghost use Rattle.msp_assign.specs.View.{column_at, AreFirst, IsWidened, IsPlacement};
 
 use crate::Lines;
@@ -11,7 +11,7 @@ use crate::view::View;
 use std::alloc::{AllocError, Global};
 
 /// The first column of each line.
-fn first_columns(alloc: Global, lines: u32) -> Result<Vec<Column>, AllocError>
+pub fn first_columns(alloc: Global, lines: u32) -> Result<Vec<Column>, AllocError>
     ensures { IfOk result (λ all. AreFirst lines all.items) }
 {
     let mut columns = Vec::new(alloc);
@@ -55,7 +55,7 @@ pub fn placed<L: Lines>(alloc: Global, costs: &L) -> Result<Placement, AllocErro
     requires few { L.row_count costs.now ≤ MOST_ROWS }
     requires columns { L.column_count costs.now ≤ MOST_COLUMNS }
     requires enough { L.row_count costs.now ≤ L.column_count costs.now }
-    requires costs { HasCosts (L.row_count costs.now) (L.column_count costs.now) (L.cost costs.now) }
+    requires costs { HasCharges (L.row_count costs.now) (L.column_count costs.now) (L.cost costs.now) }
     ensures { IfOk result (λ p. IsPlacement (L.row_count costs.now) (L.line_count costs.now) (L.line_length costs.now) (L.cost costs.now) p.columns.items p.falls.items p.column_of.items) }
 {
     let mut columns = first_columns(alloc, costs.lines())?;

@@ -2,8 +2,7 @@
 ghost use Rattle.std.specs.Prelude.{◌≡◌, ◌≢◌, ◌+◌, ◌<◌, ◌≤◌, ℕ, All, AllPairs, Contains, IfOk, length};
 ghost use Rattle.msp_class.specs.declared.list.TheConstants.{PLACES};
 ghost use Rattle.msp_matching.specs.Passing.{at};
-ghost use Rattle.msp_assign.specs.Prices.{greatest_cost, HasCosts};
-ghost use Rattle.msp_assign.specs.Search.{greatest_payment, sizes, IsPlaced, IsLowered, IsOneMore};
+ghost use Rattle.msp_assign.specs.Search.{greatest_charge, HasCharges, greatest_payment, sizes, IsPlaced, IsLowered, IsOneMore};
 
 use crate::Costs;
 use crate::search::{find_free, owners};
@@ -18,7 +17,7 @@ fn lower(falls: &mut [u128], distance: &[u128], far: u128, column_of: &[u32], tr
     requires apart { AllPairs (λ c d. c ≢ d) column_of.now }
     requires inside { All (λ c. c < length falls.old) column_of.now }
     requires sizes { length distance.now ≡ length falls.old }
-    requires low { (c : ℕ) → c < length falls.old → at falls.old c ≤ greatest_cost }
+    requires low { (c : ℕ) → c < length falls.old → at falls.old c ≤ greatest_charge }
     requires near { far ≤ greatest_payment }
     ensures { IsLowered far distance.now column_of.now tree.now falls.old falls.new }
 {
@@ -36,7 +35,7 @@ pub fn place_row<C: Costs>(
     falls: &mut [u128],
     column_of: &mut Vec<u32>,
 ) -> Result<u32, AllocError>
-    requires costs { HasCosts (C.row_count costs.now) (C.column_count costs.now) (C.cost costs.now) }
+    requires costs { HasCharges (C.row_count costs.now) (C.column_count costs.now) (C.cost costs.now) }
     requires placed { IsPlaced (sizes (C.cost costs.now)) (C.column_count costs.now) falls.old column_of.old.items }
     requires more { length column_of.old.items < C.row_count costs.now }
     requires free { (c : ℕ) × (c < C.column_count costs.now) × ¬ Contains column_of.old.items c }

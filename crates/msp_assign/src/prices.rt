@@ -2,8 +2,7 @@
 ghost use Rattle.std.specs.Prelude.{◌≡◌, ◌*◌, ◌<◌, ◌≤◌, ℕ, All, IfOk, length};
 ghost use Rattle.msp_class.specs.declared.list.TheConstants.{PLACES};
 ghost use Rattle.msp_matching.specs.Passing.{at};
-ghost use Rattle.msp_assign.specs.Prices.{greatest_cost, HasCosts};
-ghost use Rattle.msp_assign.specs.Search.{sizes, IsRowPrices};
+ghost use Rattle.msp_assign.specs.Search.{greatest_charge, HasCharges, sizes, IsRowPrices};
 ghost use Rattle.msp_assign.specs.View.{number_of, AreInside, AreNumbers, AreColumnPrices};
 
 use crate::Costs;
@@ -51,9 +50,9 @@ pub fn row_prices<C: Costs>(
     falls: &[u128],
     column_of: &[u32],
 ) -> Result<List<i128>, AllocError>
-    requires costs { HasCosts (C.row_count costs.now) (C.column_count costs.now) (C.cost costs.now) }
+    requires costs { HasCharges (C.row_count costs.now) (C.column_count costs.now) (C.cost costs.now) }
     requires falls { length falls.now ≡ C.column_count costs.now }
-    requires low { (c : ℕ) → c < C.column_count costs.now → at falls.now c ≤ greatest_cost }
+    requires low { (c : ℕ) → c < C.column_count costs.now → at falls.now c ≤ greatest_charge }
     requires rows { length column_of.now ≡ C.row_count costs.now }
     requires few { length column_of.now < PLACES }
     requires inside { All (λ c. c < C.column_count costs.now) column_of.now }
@@ -78,7 +77,7 @@ pub fn column_prices(
     requires columns { AreInside lines long columns.now }
     requires all { lines * long < PLACES }
     requires falls { length falls.now ≡ length columns.now }
-    requires low { (c : ℕ) → c < length falls.now → at falls.now c ≤ greatest_cost }
+    requires low { (c : ℕ) → c < length falls.now → at falls.now c ≤ greatest_charge }
     ensures { IfOk result (AreColumnPrices (lines * long) long columns.now falls.now) }
 {
     let mut prices = vec![in alloc; 0; (lines * long) as usize]?;

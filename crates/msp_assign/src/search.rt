@@ -3,8 +3,7 @@ ghost use Rattle.std.specs.Prelude.{◌≡◌, ◌≢◌, ◌+◌, ◌<◌, ◌�
 ghost use Rattle.std.specs.List.Sorted.{IsPermutation};
 ghost use Rattle.msp_class.specs.declared.list.TheConstants.{PLACES};
 ghost use Rattle.msp_matching.specs.Passing.{at};
-ghost use Rattle.msp_assign.specs.Prices.{greatest_cost, HasCosts};
-ghost use Rattle.msp_assign.specs.Search.{greatest_payment, sizes, paid, IsOwners, AreAll, IsOpenRow, IsUnderWay, IsNearest, AreNearest, IsLeastSoFar, IsRelaxed, IsShortened, IsWay, HasEdges};
+ghost use Rattle.msp_assign.specs.Search.{greatest_charge, HasCharges, greatest_payment, sizes, paid, IsOwners, AreAll, IsOpenRow, IsUnderWay, IsNearest, AreNearest, IsLeastSoFar, IsRelaxed, IsShortened, IsWay, HasEdges};
 
 use crate::Costs;
 use std::alloc::{AllocError, Global};
@@ -14,9 +13,9 @@ const FAR: u128 = u128::MAX;
 
 /// What the row pays at the column: the cost, and how far the column's price is below 0.
 pub fn payment<C: Costs>(costs: &C, falls: &[u128], row: u32, column: u32) -> u128
-    requires costs { HasCosts (C.row_count costs.now) (C.column_count costs.now) (C.cost costs.now) }
+    requires costs { HasCharges (C.row_count costs.now) (C.column_count costs.now) (C.cost costs.now) }
     requires falls { length falls.now ≡ C.column_count costs.now }
-    requires low { (c : ℕ) → c < C.column_count costs.now → at falls.now c ≤ greatest_cost }
+    requires low { (c : ℕ) → c < C.column_count costs.now → at falls.now c ≤ greatest_charge }
     requires row { row < C.row_count costs.now }
     requires column { column < C.column_count costs.now }
     ensures value { result ≡ paid (sizes (C.cost costs.now)) falls.now row column }

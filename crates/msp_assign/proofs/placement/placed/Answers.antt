@@ -1,6 +1,6 @@
 use Rattle.std.proofs.Common.{◌≡◌, ◌<◌, rules, arith, length, ◌∙◌}
 use Rattle.msp_matching.proofs.Lists.{whole_slice}
-use Rattle.msp_assign.proofs.Placements.{IsPlacing-start, IsPlacing-next, HasCosts-placing, free-placing}
+use Rattle.msp_assign.proofs.Placements.{IsPlacing-start, IsPlacing-next, HasCharges-placing, free-placing}
 use Rattle.msp_assign.proofs.placement.placed.Goals as goal
 
 pub rows-init : goal.rows-init
@@ -10,7 +10,7 @@ rows-init g c =
     (c.in_ok-falls.ensures.items_if_clones_equal (λ y q. q)) c.new-column_of.ensures.items c.requires.some c.requires.enough c.in_ok-columns.ensures
 
 pub place_row-requires-clause-costs : goal.place_row-requires-clause-costs
-place_row-requires-clause-costs g c = HasCosts-placing _ _ _ _ _ _ _ _ (g.met.L.Lines.whole c.args.costs.now) c.requires.costs c.rows.invariant _ c.as_slice.ensures.value
+place_row-requires-clause-costs g c = HasCharges-placing _ _ _ _ _ _ _ _ (g.met.L.Lines.whole c.args.costs.now) c.requires.costs c.rows.invariant _ c.as_slice.ensures.value
 
 pub place_row-requires-clause-free : goal.place_row-requires-clause-free
 place_row-requires-clause-free g c =
