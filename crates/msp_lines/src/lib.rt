@@ -9,6 +9,7 @@
 //! It stands on `msp_route`, `msp_slots` and `msp_assign`. The layers above use the clauses of `Solver`: the answers are best.
 #![tactic(auto)]
 
+mod line_assignment;
 mod line_costs;
 mod unit_lines;
 

@@ -8,8 +8,9 @@ ghost use Rattle.msp_route.specs.Bounds.{IsAnswer};
 ghost use Rattle.msp_lines.specs.Classes.{lines_late_class, lines_count_class};
 ghost use Rattle.msp_lines.specs.LineSteps.{line_class, line_part, lined, AreLeastLined};
 
+use crate::line_assignment::assigned;
 use crate::line_costs::LineCosts;
-use msp_assign::{Assignment, assign};
+use msp_assign::Assignment;
 use msp_class::{Class, Crit, Env, List, NoMemory, Order, Times};
 use msp_instance::Instance;
 use msp_route::Solver;
@@ -80,7 +81,7 @@ fn least_pieces(alloc: Global, inst: &Instance) -> Result<List<Piece>, NoMemory>
         inst,
         slots: slots.as_slice(),
     };
-    let Assignment { column, .. } = assign(alloc, &table)?;
+    let Assignment { column, .. } = assigned(alloc, &table)?;
     laid_out(
         alloc,
         slots.as_slice(),

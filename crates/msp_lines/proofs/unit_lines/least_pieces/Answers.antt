@@ -34,24 +34,16 @@ invariant_of-table-clause-listed c =
 pub invariant_of-table-clause-small : goal.invariant_of-table-clause-small
 invariant_of-table-clause-small c = small c.args.inst.now c.requires.inner
 
-pub assign-requires-clause-enough : goal.assign-requires-clause-enough
-assign-requires-clause-enough c =
+pub assigned-requires-clause-square : goal.assigned-requires-clause-square
+assigned-requires-clause-square c =
     let i = c.args.inst.now in
     let d = IsDueShop-from i c.requires.class c.requires.inner in
     let p = subst (λ l. IsPermutation (map (λ j. j.release) l) c.in_ok-heads.heads.items) c.as_slice.ensures c.in_ok-heads.ensures.all in
     let filled = subst (λ l. AreSlots 1 l c.in_ok-slots.slots.items) c.as_slice-2.ensures.value c.in_ok-slots.ensures in
-    omega (arith, listed_many i d.late d.is _ p _ filled _ c.as_slice-3.ensures.value)
+    listed_many i d.late d.is _ p _ filled _ c.as_slice-3.ensures.value
 
-pub assign-requires-clause-columns : goal.assign-requires-clause-columns
-assign-requires-clause-columns c =
-    let i = c.args.inst.now in
-    let d = IsDueShop-from i c.requires.class c.requires.inner in
-    let p = subst (λ l. IsPermutation (map (λ j. j.release) l) c.in_ok-heads.heads.items) c.as_slice.ensures c.in_ok-heads.ensures.all in
-    let filled = subst (λ l. AreSlots 1 l c.in_ok-slots.slots.items) c.as_slice-2.ensures.value c.in_ok-slots.ensures in
-    omega (arith, d.is.few, listed_many i d.late d.is _ p _ filled _ c.as_slice-3.ensures.value)
-
-pub assign-requires-clause-costs : goal.assign-requires-clause-costs
-assign-requires-clause-costs c =
+pub assigned-requires-clause-costs : goal.assigned-requires-clause-costs
+assigned-requires-clause-costs c =
     let i = c.args.inst.now in
     let d = IsDueShop-from i c.requires.class c.requires.inner in
     let p = subst (λ l. IsPermutation (map (λ j. j.release) l) c.in_ok-heads.heads.items) c.as_slice.ensures c.in_ok-heads.ensures.all in
