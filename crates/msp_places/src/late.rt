@@ -19,8 +19,9 @@ ghost use Rattle.msp_places.specs.Assigned.{in_columns, AreLeastAssigned};
 
 use crate::earliest::earliest_places;
 use crate::place::{Place, piece_in};
+use crate::place_assignment::assigned;
 use crate::place_costs::PlaceCosts;
-use msp_assign::{Assignment, assign};
+use msp_assign::Assignment;
 use msp_class::{Class, Crit, Env, List, NoMemory, Order, Times};
 use msp_instance::{Instance, multiple_of_all};
 use msp_route::Solver;
@@ -75,7 +76,7 @@ fn least_pieces(alloc: Global, inst: &Instance, unit: u64) -> Result<List<Piece>
         unit,
         places: places.as_slice(),
     };
-    let Assignment { column, .. } = assign(alloc, &table)?;
+    let Assignment { column, .. } = assigned(alloc, &table)?;
     pieces_in(alloc, places.as_slice(), column.as_slice())
 }
 

@@ -15,6 +15,7 @@ mod late;
 mod laws;
 mod most;
 mod place;
+mod place_assignment;
 mod place_costs;
 
 pub use earliest::earliest_places;

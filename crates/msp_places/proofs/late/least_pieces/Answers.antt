@@ -16,8 +16,8 @@ pub invariant_of-table-clause-small : goal.invariant_of-table-clause-small
 invariant_of-table-clause-small c =
     small c.args.inst.now (IsByDues-from c.args.inst.now c.requires.class c.requires.inner) c.requires.inner c.args.unit c.requires.unit c.requires.small _ c.in_ok-places.ensures
 
-pub assign-requires-clause-costs : goal.assign-requires-clause-costs
-assign-requires-clause-costs c = has_costs c.args.inst.now (IsByDues-from c.args.inst.now c.requires.class c.requires.inner)
+pub assigned-requires-clause-costs : goal.assigned-requires-clause-costs
+assigned-requires-clause-costs c = has_costs c.args.inst.now (IsByDues-from c.args.inst.now c.requires.class c.requires.inner)
     c.requires.inner c.args.unit c.requires.unit c.requires.small _ c.in_ok-places.ensures _ c.as_slice.ensures.value
 
 pub returns : goal.returns
