@@ -7,6 +7,7 @@
 
 mod lay;
 mod positions;
+mod slot_assignment;
 mod slot_costs;
 mod slot_table;
 mod uniform;

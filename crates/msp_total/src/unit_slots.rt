@@ -18,8 +18,9 @@ ghost use Rattle.msp_total.specs.Slots.{tardiness_class, late_jobs_class};
 ghost use Rattle.msp_slots.specs.Earliest.{slot_piece};
 ghost use Rattle.msp_total.specs.SlotSteps.{slot_class, IsTable, AreLaid, AreLeastLaid};
 
+use crate::slot_assignment::assigned;
 use crate::slot_table::Slots;
-use msp_assign::{Assignment, assign};
+use msp_assign::Assignment;
 use msp_class::{Class, Crit, Env, List, NoMemory, Order, Times};
 use msp_instance::{Instance, Job};
 use msp_route::Solver;
@@ -110,7 +111,7 @@ fn least_pieces(alloc: Global, inst: &Instance, late: bool) -> Result<List<Piece
     let heads = sorted_releases(alloc, inst.jobs.as_slice())?;
     let slots = earliest_slots(alloc, heads.as_slice(), inst.machines)?;
     let table = table_of(alloc, inst, slots.as_slice(), late)?;
-    let Assignment { column, .. } = assign(alloc, &table)?;
+    let Assignment { column, .. } = assigned(alloc, &table)?;
     laid_out(alloc, slots.as_slice(), column.as_slice())
 }
 

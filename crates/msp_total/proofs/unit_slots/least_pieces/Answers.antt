@@ -1,4 +1,4 @@
-use Rattle.std.proofs.Common.{◌*◌, ◌<◌, ◌≤◌, length, map, All, IsPermutation, sym, subst, arith}
+use Rattle.std.proofs.Common.{◌*◌, ◌<◌, ◌≤◌, length, map, All, IsPermutation, sym, subst, ◌∙◌, arith}
 use Rattle.std.proofs.lemmas.List.Elements.{All-map}
 use Rattle.std.proofs.lemmas.Result.{IfOk-weaker}
 use Rattle.msp_class.specs.declared.sizes.TheConstants.{MOST_JOBS, GREATEST}
@@ -33,26 +33,17 @@ pub table_of-requires-clause-light : goal.table_of-requires-clause-light
 table_of-requires-clause-light c =
     All-map (λ w. w ≤ GREATEST) (λ j. j.weight) c.args.inst.now.jobs (weights c.args.inst.now c.args.late (IsUnitShop-from c.args.inst.now c.args.late c.requires.class c.requires.inner))
 
-pub assign-requires-clause-enough : goal.assign-requires-clause-enough
-assign-requires-clause-enough c =
+pub assigned-requires-clause-square : goal.assigned-requires-clause-square
+assigned-requires-clause-square c =
     let i = c.args.inst.now in
     let h = IsUnitShop-from i c.args.late c.requires.class c.requires.inner in
     let p = subst (λ l. IsPermutation (map (λ j. j.release) l) c.in_ok-heads.heads.items) c.as_slice.ensures c.in_ok-heads.ensures.all in
     let filled = subst (λ l. AreSlots i.machines l c.in_ok-slots.slots.items) c.as_slice-2.ensures.value c.in_ok-slots.ensures in
     let t = subst (λ l. IsTable i c.args.late l c.in_ok-table.table) c.as_slice-3.ensures.value c.in_ok-table.ensures in
-    omega (arith, rows_many i c.args.late h _ p _ filled _ t, columns_many i c.args.late h _ p _ filled _ t)
+    columns_many i c.args.late h _ p _ filled _ t ∙ sym (rows_many i c.args.late h _ p _ filled _ t)
 
-pub assign-requires-clause-columns : goal.assign-requires-clause-columns
-assign-requires-clause-columns c =
-    let i = c.args.inst.now in
-    let h = IsUnitShop-from i c.args.late c.requires.class c.requires.inner in
-    let p = subst (λ l. IsPermutation (map (λ j. j.release) l) c.in_ok-heads.heads.items) c.as_slice.ensures c.in_ok-heads.ensures.all in
-    let filled = subst (λ l. AreSlots i.machines l c.in_ok-slots.slots.items) c.as_slice-2.ensures.value c.in_ok-slots.ensures in
-    let t = subst (λ l. IsTable i c.args.late l c.in_ok-table.table) c.as_slice-3.ensures.value c.in_ok-table.ensures in
-    omega (arith, columns_many i c.args.late h _ p _ filled _ t, h.few)
-
-pub assign-requires-clause-costs : goal.assign-requires-clause-costs
-assign-requires-clause-costs c =
+pub assigned-requires-clause-costs : goal.assigned-requires-clause-costs
+assigned-requires-clause-costs c =
     let i = c.args.inst.now in
     let h = IsUnitShop-from i c.args.late c.requires.class c.requires.inner in
     let p = subst (λ l. IsPermutation (map (λ j. j.release) l) c.in_ok-heads.heads.items) c.as_slice.ensures c.in_ok-heads.ensures.all in
