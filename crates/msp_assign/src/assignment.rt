@@ -98,7 +98,7 @@ pub fn assign<C: Costs>(alloc: Global, costs: &C) -> Result<Assignment, NoMemory
 }
 
 /// The same for as many columns as rows, from prices of the columns: `falls` says how far each of them begins below 0. A row takes a free
-/// column where it pays least, and goes the shortest way to one only where there is none. Whatever the prices are, the answer is least;
+/// column where it pays least, the last one of several, and goes the shortest way to one only where that is not free. Whatever the prices are, the answer is least;
 /// the nearer they are to prices that prove it, the fewer ways are looked for (Jonker and Volgenant 1987). Where columns stand in order of
 /// time, [`falls_backward`](crate::falls_backward) finds good ones.
 pub fn assign_from<C: Costs>(

@@ -1,12 +1,13 @@
 // Prices to begin from, where columns are moments: by a backward pass.
 //
 // Rule: from the last moment to the first, of the jobs that are left and may end there, one that is not late is taken, of these the one
-// due last; where all are late, the one of least weight. A column's price is that of the next one, less by the time between them as often
-// as the weight of the job that is taken at the next one if it is late there.
+// due last; where all are late, the one of least weight. Between two moments prices differ by the time between them, as often as the
+// weight of the job that is taken at the later one says, if it is late there.
 //
-// Where no due date is in reach and all jobs may end anywhere, these prices prove the assignment of the greatest weight to the first
-// moment: what a row costs less the price, between two columns, grows with the one and falls with the other by weights that stand in order
-// (Smith 1956). Else they are advice.
+// Where all jobs are late everywhere and may end anywhere, weights are taken in order, the least one at the last moment (Smith 1956), and
+// these prices prove it: from each moment to the next, what a row costs less the price rises by the time between them, as often as its
+// weight is above that of the job which is taken there. So it falls up to the row's own moment, and rises from there. Else prices are
+// advice.
 ghost use Rattle.std.specs.Prelude.{◌<◌, ◌≤◌, IfOk, length};
 ghost use Rattle.msp_assign.specs.Prices.{greatest_fall, AreFalls};
 

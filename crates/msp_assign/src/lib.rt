@@ -1,8 +1,9 @@
 //! Assignment with prices: each row gets a column of its own at least cost, and prices show that no other assignment costs less.
 //!
-//! It stands on `msp_matching`. The layer above uses the clauses of `assign`, and of `assign_on_lines` where columns stand in lines along
-//! which costs rise: the prices of a row and a column add up to at most the cost, and to the cost where the row has the column; some
-//! column price is 0; and no assignment costs less.
+//! It stands on `msp_matching`. The layer above uses the clauses of `assign`, of `assign_from` where prices to begin from are known
+//! (`falls_backward` finds some where columns are moments), and of `assign_on_lines` where columns stand in lines along which costs rise:
+//! the prices of a row and a column add up to at most the cost, and to the cost where the row has the column; some column price is 0; and
+//! no assignment costs less.
 #![tactic(auto)]
 
 mod assignment;

@@ -1,4 +1,12 @@
 // As many columns as rows, from prices of the columns to begin with.
+//
+// Rule: the costs at each column are raised by as much as its price begins below 0, and for those costs rows are placed one after another
+// from prices 0: at a free column where the row pays least, of several the last one, else over the shortest way to a free column. At the
+// end a column's price is that of the raised costs less what it began with, and the least fall is taken from all.
+//
+// Least (`proofs/Normal.antt`): what a row pays at a column is the same with the raised costs and their prices as with the costs and both
+// together, and one number less everywhere changes no comparison. As many rows as columns have all of them, so no sign is asked of the
+// prices that are begun with; and a row pays no more at its own column than where the price is 0, so prices stay within bounds.
 ghost use Rattle.std.specs.Prelude.{◌≡◌, ◌+◌, ◌-◌, ◌<◌, ◌≤◌, ◌⊎◌, ℕ, false, Contains, IfOk, IfSome, length};
 ghost use Rattle.msp_class.specs.declared.list.TheConstants.{PLACES};
 ghost use Rattle.msp_matching.specs.Passing.{at};

@@ -2,8 +2,9 @@
 //
 // Rule: each job takes one of the n earliest places for its own (`earliest_places`), all together at least cost (`assign` of `msp_assign`):
 // a job that ends with a place costs what the criterion says of that end. In a place a job ends alike, whichever it is, so no later place
-// is of use, and any least assignment is right. With each place the earliest ones have all that come before it on its machine, so the jobs
-// follow one another there.
+// is of use, and any least assignment is right: by tardiness the one that prices of the places by a backward pass lead to
+// (`place_assignment.rt`), with which most jobs find their place at once. With each place the earliest ones have all that come before it
+// on its machine, so the jobs follow one another there.
 //
 // Best (`proofs/AssignedBest.antt`): in any schedule the jobs have earliest places of their own and end no earlier (`law_of_earliest_places`).
 // That is an assignment too, and costs do not fall as ends grow, so the schedule costs no less than the assignment, and this no less than the

@@ -3,7 +3,8 @@
 //
 // Rule: the slots are those in which the earliest schedule runs its jobs, of all jobs by release date (`earliest_slots` of `msp_slots`).
 // The jobs are assigned to the slots at least cost (`msp_assign`): what a job costs that ends one after the slot begins, or more than all
-// jobs together may where the slot begins before its release date.
+// jobs together may where the slot begins before its release date. By tardiness the assignment begins with prices of the slots by a
+// backward pass (`slot_assignment.rt`), so most jobs find their slot at once; which of several least assignments it is, the prices tell.
 //
 // Best (`proofs/SlotBest.antt`): whatever the whole moments at which the jobs of a schedule begin, each job has a slot of its own that
 // begins no later and not before its release date (`msp_slots/proofs/SlotPlaces.antt`); fractions are no help, as begins may be rounded
