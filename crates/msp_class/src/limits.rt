@@ -1,7 +1,7 @@
-// The limits of classes and lists.
+// The limits of classes, lists, instances and schedules.
 ghost use Rattle.msp_class.specs.Limits.{AreLimits};
 
-/// The number of classes, the most operations of a job shop's route, and how many places are told apart, by their numbers.
+/// The number of classes, how many places are told apart, and the sizes that bound instances and schedules, by their numbers.
 pub fn law_of_limits()
     ensures { AreLimits }
 {}

@@ -7,4 +7,3 @@ pub mod Paths
 pub mod PathBits
 pub mod Listing
 pub mod Laws
-pub mod Limits

@@ -3,8 +3,7 @@
 //! It stands on `msp_class`. The layers above use the definitions `InClass` and `Inner`: an instance meets the conditions of its
 //! class within the limits of texts, or within the wider limits that carried instances keep. `check` tests the conditions but for
 //! cycles, and `forward` is the rest: it puts the jobs into an order in which every arc goes forward. `entering_of` gives the arcs that
-//! enter a job. `law_of_inner` says that an instance within the limits of texts keeps the wider ones, and `law_of_limits` says the limits
-//! of texts by their numbers.
+//! enter a job. `law_of_inner` says that an instance within the limits of texts keeps the wider ones.
 #![tactic(auto)]
 
 mod arcs;
@@ -17,7 +16,7 @@ mod speeds;
 
 pub use arcs::{arcs_by_after, entering_of};
 pub use jobs::least_time;
-pub use laws::{law_of_inner, law_of_limits};
+pub use laws::law_of_inner;
 pub use membership::{ClassFault, check, check_distinct_arcs, common_time, first_time};
 pub use msp_class::{
     GREATEST, GREATEST_EQUAL_TIME, GREATEST_MULTIPLE, GREATEST_SPEED, MOST_ARCS, MOST_JOBS,

@@ -1,14 +1,11 @@
--- The limits of schedules, by their numbers.
+-- The limits of schedules and of fractions that are compared, by their numbers.
 use Rattle.std.specs.Prelude.{◌≡◌, ◌*◌, ◌^◌, pos}
-use Rattle.msp_class.specs.declared.sizes.TheConstants.{MOST_PIECES, GREATEST_UNIT}
 use Rattle.msp_schedule.specs.declared.limits.TheConstants.{GREATEST_CARRIED_UNIT, GREATEST_MOMENT, GREATEST_COMPARED_NUMERATOR, GREATEST_COMPARED_DENOMINATOR}
 
--- Pieces, the unit, the unit that is carried beyond the limits of texts, moments, and the numbers of fractions that are compared.
+-- The unit that is carried beyond the limits of texts, moments, and the numbers of fractions that are compared.
 abbrev pub AreLimits : Type 0
 AreLimits =
-    (MOST_PIECES ≡ 500000)
-    × (GREATEST_UNIT ≡ pos (10 ^ 13))
-    × (GREATEST_CARRIED_UNIT ≡ pos 4096)
+    (GREATEST_CARRIED_UNIT ≡ pos 4096)
     × (GREATEST_MOMENT ≡ pos (2 * 10 ^ 26))
     × (GREATEST_COMPARED_NUMERATOR ≡ 2 ^ 80)
     × (GREATEST_COMPARED_DENOMINATOR ≡ 2 ^ 44)

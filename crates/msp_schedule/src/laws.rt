@@ -68,7 +68,7 @@ pub fn law_of_blocks()
     ensures { LawOfBlocks }
 {}
 
-/// The limits of schedules are these numbers.
+/// The limits of moments, of units that are carried, and of fractions that are compared, by their numbers.
 pub fn law_of_limits()
     ensures { AreLimits }
 {}
