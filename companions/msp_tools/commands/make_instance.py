@@ -256,8 +256,8 @@ def words(parser: Parser) -> None:
                              "rule by hand (docs/teachers.md lists them)")
     parser.add_argument("--whole", type=int, choices=(1, 2), nargs="?", const=1, help="all moments of the best schedule are whole, or halves")
     parser.add_argument("--sheets", metavar="COUNT", type=positive,
-                        help="writes so many sheets, sheet-SEED.txt from SEED on, into the folder of --to, and prints a table of their answers as "
-                             "CSV: the sheet, the draw, the best cost, each rule's cost. Sheets that are equal are told")
+                        help="writes so many sheets, sheet-SEED.txt from SEED on, into the folder of --to, and prints a table of their answers "
+                             "as CSV: the sheet, the draw, the best cost, each rule's cost. Sheets that are equal are told")
     parser.add_argument("--to", metavar="FOLDER", help="the folder of the sheets")
     add_program(parser)
 
