@@ -3,7 +3,7 @@
 PREFIX ?= /usr/local
 OUT := crates/msp/out
 SOURCES := $(shell find crates/*/src crates/*/specs crates/*/proofs 2>/dev/null)
-COMPANIONS := $(sort $(shell find companions -maxdepth 1 -type f -name '[a-z]*'))
+COMPANIONS := $(sort $(shell find companions -maxdepth 1 -type f -perm -u+x))
 TO = $(DESTDIR)$(PREFIX)
 # The program to be installed.
 PROGRAM ?= $(if $(shell command -v rt 2>/dev/null),$(OUT)/msp,released/msp)
@@ -28,7 +28,7 @@ help:
 	@echo 'make install        the program, its manual page, and the companions as msp-NAME, to $(PREFIX) (PREFIX=..., DESTDIR=...)'
 	@echo 'make atlas          all classes as one page, $(OUT)/atlas.html'
 	@echo 'make release        puts what was built into released/, with all checksums'
-	@echo 'make dist           archives of the released program and of the sources, in $(OUT)/dist'
+	@echo 'make dist           archives of the released program and of the sources, and wheels, in $(OUT)/dist'
 	@echo 'make clean          removes all that was built'
 
 check:
@@ -37,15 +37,15 @@ check:
 install:
 	@if [ $(PROGRAM) != released/msp ]; then $(MAKE) $(PROGRAM); \
 	elif ! why=$$(tools/released); then echo "the released program is not that of the sources here, and not installed: $$why" >&2; exit 1; fi
-	install -d "$(TO)/bin" "$(TO)/lib/msp" "$(TO)/share/man/man1" "$(TO)/share/msp/examples" "$(TO)/share/msp/docs/results"
+	install -d "$(TO)/bin" "$(TO)/lib/msp/msp_tools/commands" "$(TO)/share/man/man1"
 	install -m 755 $(PROGRAM) "$(TO)/bin"
 	install -m 755 $(COMPANIONS) "$(TO)/lib/msp"
+	install -m 644 companions/msp_tools/*.py companions/msp_tools/py.typed "$(TO)/lib/msp/msp_tools"
+	install -m 644 companions/msp_tools/commands/*.py "$(TO)/lib/msp/msp_tools/commands"
 	install -m 644 docs/msp.1 "$(TO)/share/man/man1"
-	install -m 644 examples/known-*.csv "$(TO)/share/msp/examples"
-	install -m 644 docs/results/literature.bib docs/results/open.md docs/results/proofs-of-results.md "$(TO)/share/msp/docs/results"
-	install -m 644 docs/solved-classes.md "$(TO)/share/msp/docs"
+	for it in $$(cat companions/data-files); do install -D -m 644 "$$it" "$(TO)/share/msp/$$it"; done
 	ln -sf ../../bin/msp "$(TO)/lib/msp/msp"
-	for it in $(notdir $(filter-out %.py %.html,$(COMPANIONS))); do ln -sf ../lib/msp/$$it "$(TO)/bin/msp-$$it"; done
+	for it in $(notdir $(COMPANIONS)); do ln -sf ../lib/msp/$$it "$(TO)/bin/msp-$$it"; done
 
 release:
 	tools/release

@@ -8,7 +8,7 @@ PACKAGE = Path(__file__).resolve().parent
 
 def version_in(package: Path) -> str:
     """The version that stands in the clone, in the package, or where make installs it."""
-    for path in (package.parent.parent / "VERSION", package / "data" / "VERSION", package.parent / "VERSION"):
+    for path in (package.parent.parent / "VERSION", package / "data" / "VERSION", package.parent.parent.parent / "share" / "msp" / "VERSION"):
         if path.is_file():
             return path.read_text(encoding="utf-8").strip()
     return "0"

@@ -3,7 +3,7 @@ from __future__ import annotations
 
 import re
 
-PLACE = re.compile(r"((?:.*: )?line [0-9]+|--[a-z][a-z-]*): ", re.S)
+PLACE = re.compile(r"((?:.*: )?(?:line|row) [0-9]+(?:, column [^:\n]*)?|--[a-z][a-z-]*): ", re.S)
 
 
 class Refusal(Exception):

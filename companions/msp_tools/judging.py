@@ -103,6 +103,11 @@ def judge(program: Program, instance_text: str, schedule_text: str, pieces: Sequ
     status, report, note = program.call(["check"], instance_text + schedule_text)
     if status > 1:
         raise Fault(note)
+    return verdict_of(report, pieces, words)
+
+
+def verdict_of(report: str, pieces: Sequence[Piece], words: Words) -> Verdict:
+    """What a report of check says."""
     told = dict(line.split(" ", 1) for line in report.splitlines() if " " in line)
     if told["feasible"] == "no":
         return Verdict(False, words.broken(told["break"].split(" "), pieces))

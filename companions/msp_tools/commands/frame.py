@@ -107,9 +107,13 @@ class Command(Generic[W, A]):
         """Prints a note on standard error behind the command's name."""
         print(f"{self.name}: {line}", file=sys.stderr, flush=True)
 
+    def read(self, words: Sequence[str] | None) -> W:
+        """Reads the words."""
+        return self.parser().parse_args(words, namespace=self.wanted())
+
     def finish(self, words: Sequence[str] | None) -> int:
         """Reads the words, prints the answer, and gives the status."""
-        wanted = self.parser().parse_args(words, namespace=self.wanted())
+        wanted = self.read(words)
         answer = self.answer(wanted, self.tell)
         if vars(wanted).get("json"):
             print(json.dumps(plain(answer), ensure_ascii=False, indent=1))
