@@ -10,8 +10,8 @@ import re
 import unicodedata
 from dataclasses import dataclass, field
 
-from .classes import Meaning
 from .faults import Fault
+from .naming import Meaning, equal_times, speeds_note
 from .program import Program
 
 OUR_FIELDS = ("source", "alsosource", "named")
@@ -32,11 +32,13 @@ def labels_in(report: str) -> dict[str, str]:
 
 
 def lines_of(program: Program, results: str, means: Meaning) -> list[str]:
-    """What is said of a name that stands for several classes, or for a fixed number of machines, by their labels; nothing of others."""
-    if means.single:
+    """What is said by labels of a name that stands for several classes, or fixes a number of machines, and of unit times on uniform machines."""
+    other = [equal_times(it) for it in means.classes]
+    if means.single and other == means.classes:
         return []
-    names = [str(it) for it in [*means.classes, *means.with_input]]
-    return means.lines(labels_in(program.report(["label", *names], results).report))
+    names = [str(it) for it in [*means.classes, *means.with_input, *other]]
+    labels = labels_in(program.report(["label", *dict.fromkeys(names)], results).report)
+    return means.lines(labels) + [line for it in means.classes for line in speeds_note(it, labels)]
 
 
 # Reports of `why`
@@ -175,6 +177,32 @@ def source_of(entry: str) -> tuple[str, str]:
 def verdicts_in(results: str) -> list[str]:
     """What the records of a file of known results say of their classes, by number; the one at 0 is that of the head."""
     return [it[1] for it in csv.reader(io.StringIO(results.removeprefix("\ufeff"), newline="")) if it]
+
+
+@dataclass(frozen=True)
+class Fact:
+    """What the literature says beside a result: the time of the rule in its source, or the problem from which it was reduced; and where."""
+    time: str
+    problem: str
+    source: str
+
+    def text(self) -> str:
+        """The fact as a line of plain text."""
+        if self.problem:
+            return f"reduced from {self.problem} ({self.source})"
+        return f"the rule takes {self.time} ({self.source}); that is the time of the literature's rule, not of the solver here"
+
+
+def facts_in(text: str) -> dict[tuple[str, str], Fact]:
+    """The facts of docs/results/facts.csv, by class and verdict."""
+    rows = csv.DictReader(io.StringIO(text, newline=""))
+    return {(it["class"], it["verdict"]): Fact(it["time"], it["from"], it["source"]) for it in rows}
+
+
+def own_results(results: str, published: str) -> set[tuple[str, str]]:
+    """The classes with their verdicts that stand in a file of results and not in the one of what is published."""
+    known, printed = ([(it[0], it[1]) for it in csv.reader(io.StringIO(text, newline="")) if len(it) > 1] for text in (results, published))
+    return set(known) - set(printed)
 
 
 # Documents

@@ -5,10 +5,11 @@ import re
 import sys
 from dataclasses import dataclass, field
 
-from ..classes import ClassName, Meaning, Variant, meaning_in_words, meaning_of
+from ..classes import ClassName
 from ..faults import Misfit
 from ..files import need_file, read_text
 from ..literature import lines_of
+from ..naming import Meaning, Variant, meaning_in_words, meaning_of
 from ..nearby import Bound, Near, Served, Solver, bounding, bounds_for, schedules_for, serving, solver_of
 from ..program import Program, need_program
 from ..texts import Instance, read_instance_at

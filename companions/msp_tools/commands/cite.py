@@ -3,11 +3,11 @@ from __future__ import annotations
 
 from dataclasses import dataclass, field
 
-from ..classes import meaning_of
-from ..faults import ProgramRefusal
+from ..faults import Misfit, ProgramRefusal
 from ..files import find_file, need_file, read_text
-from ..literature import (NO_PUBLICATION, Reason, Reference, Why, by_source, lines_of, proofs_in, read_references, read_why, reasons_in, rows_in,
-                          source_of, verdicts_in)
+from ..literature import (NO_PUBLICATION, Fact, Reason, Reference, Why, by_source, facts_in, lines_of, own_results, proofs_in, read_references,
+                          read_why, reasons_in, rows_in, source_of, verdicts_in)
+from ..naming import meaning_of
 from ..program import Program, need_program
 from .frame import Command, Parser, Tell, add_program, add_results
 
@@ -18,10 +18,21 @@ CLASS is a name in any spelling of docs/notation.md, as '1|r|Lmax'; `Pm`, a fixe
 with three, and `tree` for intree and outtree. The label and the chains are those of `msp why CLASS`, over examples/known-strengths.csv or the
 results file that is named; the references stand in docs/results/literature.bib or the file that is named, by the words of the source
 up to its semicolon. Where a proof of our own stands in docs/results/proofs-of-results.md its section is named, and of an open class the
-reason of docs/results/open.md where it has one.
+reason of docs/results/open.md where it has one. The running time of a rule, or the problem from which a class was reduced, is shown
+where docs/results/facts.csv has it: that time is the literature's, not the solver's here. An entry that rests on a proof of our own says so;
+--published leaves all of these out.
 
 It ends with 1 where the results clash, with 2 where the words do not fit, and with 3 where a file is none of its kind.
 """
+PUBLISHED = "examples/known-published.csv"
+OURS = "no publication is known: it rests on a proof of our own that no journal has seen"
+# (of CITATION.cff, which a test compares)
+OUR_ENTRY = """@misc{msp,
+  author = {{Withuqe maintainers}},
+  title = {msp, a classifier and solver of deterministic machine scheduling problems whose answers are proved},
+  year = {2026},
+  note = {docs/results/proofs-of-results.md: proofs on paper, not refereed}
+}"""
 NOT_FIRST = "(the entry at the end of a chain is what decides here; who showed it first may be another)"
 
 
@@ -30,6 +41,7 @@ class Wanted:
     """The words of the call."""
     name: str = ""
     bibtex: bool = False
+    published: bool = False
     results: str | None = None
     literature: str | None = None
     program: str | None = None
@@ -43,6 +55,8 @@ class Cited:
     verdict: str
     references: list[Reference]
     instead: list[str]
+    fact: Fact | None = None
+    own: bool = False
 
 
 @dataclass
@@ -71,6 +85,8 @@ class Documents:
     proofs: dict[str, str]
     opened: dict[str, tuple[str, str]]
     rows: dict[int, str]
+    facts: dict[tuple[str, str], Fact]
+    own: set[tuple[str, str]]
 
     def cited(self, reason: Reason) -> Cited:
         """A chain with what stands for its entry."""
@@ -82,7 +98,9 @@ class Documents:
         instead = [] if found or source in NO_PUBLICATION else [f"no reference for: {source or 'an entry without a source'}"]
         if reason.listed in self.proofs:
             instead.append(f"a proof of our own: docs/results/proofs-of-results.md, {self.proofs[reason.listed]}")
-        return Cited(reason, rows, self.verdicts[reason.record], found, instead)
+        verdict = self.verdicts[reason.record]
+        entry = (reason.listed, verdict)
+        return Cited(reason, rows, verdict, found, instead, self.facts.get(entry), entry in self.own)
 
     def cite(self, why: Why) -> Class:
         """A class with all that is cited for it."""
@@ -92,16 +110,25 @@ class Documents:
 def documents_of(program: Program, wanted: Wanted, results: str) -> Documents:
     """The files that are cited; documents of the shipped results say nothing of a file of one's own."""
     literature = read_text(need_file(wanted.literature, "docs/results/literature.bib", "--literature"))
-    proofs, opened = (None if wanted.results else find_file(f"docs/results/{it}.md") for it in ("proofs-of-results", "open"))
-    return Documents(verdicts_in(results), by_source(read_references(literature)), proofs_in(read_text(proofs)) if proofs else {},
-                     reasons_in(read_text(opened)) if opened else {}, rows_in(program.report(["rows"]).report))
+    proofs, opened, facts, published = ("" if wanted.results else shipped(it) for it in (
+        "docs/results/proofs-of-results.md", "docs/results/open.md", "docs/results/facts.csv", PUBLISHED))
+    return Documents(verdicts_in(results), by_source(read_references(literature)), proofs_in(proofs), reasons_in(opened),
+                     rows_in(program.report(["rows"]).report), facts_in(facts), own_results(results, published) if published else set())
+
+
+def shipped(name: str) -> str:
+    """The text of a file that comes with the package, or nothing where it is not there."""
+    path = find_file(name)
+    return read_text(path) if path else ""
 
 
 def answer(wanted: Wanted, _: Tell) -> Answer:
     """What is cited for a class, or for each class for which a name stands."""
     means = meaning_of(wanted.name)
     program = need_program(wanted.program)
-    results = read_text(need_file(wanted.results, "examples/known-strengths.csv", "--results"))
+    if wanted.published and wanted.results:
+        raise Misfit("--published names a results file of its own: leave --results out")
+    results = read_text(need_file(wanted.results, PUBLISHED if wanted.published else "examples/known-strengths.csv", "--results"))
     try:
         replies = [program.report(["why", str(kind)], results) for kind in means.classes]
     except ProgramRefusal as fault:
@@ -122,6 +149,7 @@ def chain_lines(cited: Cited) -> list[str]:
     if reason.record:
         lines.append(f"this decides: {reason.listed} is listed {cited.verdict}: entry {reason.record}, {reason.source or 'without a source'}")
         lines += [f"  {it.text()}" for it in cited.references] + [f"  {it}" for it in cited.instead]
+        lines += [f"  {OURS}"] * cited.own + ([f"  {cited.fact.text()}"] if cited.fact else [])
     return lines
 
 
@@ -144,6 +172,9 @@ def as_bibtex(found: Class, seen: set[str]) -> str:
             if it.key not in seen:
                 parts.append(f"% decides by {cited.reason.listed}, listed {cited.verdict}\n{it.bibtex()}")
             seen.add(it.key)
+        if cited.own and "msp" not in seen:
+            parts.append(f"% decides by {cited.reason.listed}, listed {cited.verdict}: {OURS}\n{OUR_ENTRY}")
+            seen.add("msp")
         for line in cited.instead:
             comment = f"% {cited.reason.listed} ({cited.reason.source}): {line}"
             parts += [comment] if comment not in parts else []
@@ -167,6 +198,7 @@ def words(parser: Parser) -> None:
     """Adds the words."""
     parser.add_argument("name", metavar="CLASS", help="the name of a class")
     parser.add_argument("--bibtex", action="store_true", help="prints the references alone, as BibTeX, each once; what has none is a comment there")
+    parser.add_argument("--published", action="store_true", help="takes published results alone: none that rests on a proof of our own")
     add_results(parser)
     parser.add_argument("--literature", metavar="FILE", help="a bibliography; without it docs/results/literature.bib")
     add_program(parser)

@@ -15,8 +15,9 @@ from fractions import Fraction
 from typing import Any, Callable, Generic, NoReturn, Sequence, TypeVar
 
 from ..about import VERSION
-from ..classes import ClassName, near
+from ..classes import ClassName
 from ..faults import Refusal
+from ..naming import near
 
 Tell = Callable[[str], None]
 W = TypeVar("W")

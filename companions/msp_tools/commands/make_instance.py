@@ -9,12 +9,13 @@ from dataclasses import dataclass, field
 from fractions import Fraction
 from typing import Callable
 
-from ..classes import ClassName, class_of
+from ..classes import ClassName
 from ..draws import Wanted as Drawn
 from ..draws import text_of
 from ..faults import Fault, Misfit
 from ..files import write_text
 from ..limits import GREATEST, GREATEST_EQUAL_TIME, MOST_JOBS, MOST_MACHINES, SEEDS, said
+from ..naming import class_of
 from ..numbers import decimal
 from ..numbers import said as said_number
 from ..program import Program, find_program, need_program

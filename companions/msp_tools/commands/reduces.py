@@ -7,8 +7,8 @@ import re
 from dataclasses import dataclass
 from typing import Iterable
 
-from ..classes import Meaning, meaning_of
 from ..faults import Misfit
+from ..naming import Meaning, named_by
 from ..program import Program, need_program
 from .frame import Command, Parser, Tell, add_program
 
@@ -81,7 +81,7 @@ def chains(program: Program, start: Meaning, end: Meaning, texts: dict[int, str]
 
 def answer(wanted: Wanted, _: Tell) -> Answer:
     """The chains from A to B, and with --both those back."""
-    start, end = meaning_of(wanted.start), meaning_of(wanted.end)
+    start, end = named_by(wanted.start), named_by(wanted.end)
     program = need_program(wanted.program)
     rows = re.finditer(r"(?m)^row (\d+) (.*)$", program.report(["rows"]).report)
     texts = {int(it[1]): it[2] for it in rows}

@@ -6,10 +6,10 @@ import io
 from concurrent.futures import ThreadPoolExecutor
 from dataclasses import dataclass, field
 
-from ..classes import meaning_of
 from ..faults import Misfit
 from ..files import read_text
 from ..literature import labels_in
+from ..naming import named_by
 from ..program import Program, need_program
 from .frame import Command, Parser, Tell, add_program
 
@@ -70,6 +70,7 @@ class Answer:
     change: Change | None
     open: list[Settled] = field(default_factory=list)
     hard: str = "hard"
+    single: bool = field(default=True, repr=False)
 
 
 def with_entries(text: str, names: list[str], verdict: str) -> str:
@@ -144,7 +145,8 @@ def answer(wanted: Wanted, _: Tell) -> Answer:
     verdict = wanted.verdict or ""
     if known and verdict not in known:
         raise Misfit(f"{verdict} is no verdict of this file: it is one of {', '.join(known)}")
-    return Answer(change_of(program, text, [str(it) for it in meaning_of(wanted.name).classes], verdict))
+    means = named_by(wanted.name)
+    return Answer(change_of(program, text, [str(it) for it in means.classes], verdict), single=means.single)
 
 
 def show(found: Answer) -> None:
@@ -153,7 +155,7 @@ def show(found: Answer) -> None:
     if change is None:
         print("\n".join([f"open {len(found.open)}", *(f"{it.name} easy {it.easy} {found.hard} {it.hard}" for it in found.open), "end"]))
         return
-    lines = [f"entry {it} {change.verdict}" for it in (change.entries if len(change.entries) > 1 else [])]
+    lines = [f"entry {it} {change.verdict}" for it in ([] if found.single else change.entries)]
     lines += [f"labels {len(change.labels)}", *(f"{name} {old} {new}" for name, old, new in change.labels), *change.clash]
     for it in change.frontier:
         lines += [f"{it.name} {it.before} {it.after}", *(f"- {name}" for name in it.gone), *(f"+ {name}" for name in it.come)]
