@@ -1,0 +1,136 @@
+/**
+ * The host of msp.wasm: one call of the program, on any engine of JavaScript. It stands on no environment: the command line for Node
+ * (node.js) and web/engine.js bring the streams.
+ *
+ * The module asks its host for four things, by numbers of 32 bits; addresses are those of its memory. A growth that is refused is a want
+ * of memory, which the program reports (status 9). Each call has an instance of its own, so nothing is left from call to call. What ends
+ * a call without an answer is thrown: the engine's own error where its stack or the module's runs out, say. The next call does not see it.
+ */
+
+/**
+ * What one call reads and writes.
+ * @typedef {object} Streams
+ * @property {(room: Uint8Array) => number} read - Puts bytes of standard input at the beginning of the room, which is never empty, and
+ *     answers how many: 0 at the end of the input, -1 where it can't be read.
+ * @property {(stream: 1 | 2, bytes: Uint8Array) => number} write - Takes bytes for standard output (1) or standard error (2), and answers
+ *     how many, perhaps fewer than all; -1 where they can't be written. The bytes are the module's memory: copy what is kept.
+ * @property {(memory: WebAssembly.Memory, pages: number) => boolean} [grow] - Lets the memory grow by so many pages of 65,536 bytes, and
+ *     answers whether it did; left out, the engine decides.
+ */
+
+/**
+ * What a call gave: the exit status, and the bytes of standard output and standard error.
+ * @typedef {object} Answer
+ * @property {number} status
+ * @property {Uint8Array} report
+ * @property {Uint8Array} note
+ */
+
+/**
+ * Lets a memory grow, if the engine has so much.
+ * @param {WebAssembly.Memory} memory
+ * @param {number} pages
+ * @returns {boolean}
+ */
+export function grow(memory, pages) {
+    try {
+        memory.grow(pages);
+        return true;
+    } catch (error) {
+        return false;
+    }
+}
+
+/**
+ * Runs the program once.
+ * @param {WebAssembly.Module} program - released/msp.wasm, compiled
+ * @param {Uint8Array[]} words - the words of the command line, in UTF-8, without the program's name
+ * @param {Streams} streams
+ * @returns {number} the exit status, 0 to 9
+ */
+export function run(program, words, streams) {
+    const all = [new TextEncoder().encode('msp')].concat(words);
+    /** @type {WebAssembly.Memory | undefined} */
+    let memory;
+
+    /** @type {() => WebAssembly.Memory} */
+    function memoryOf() {
+        if (memory === undefined) {
+            memory = /** @type {WebAssembly.Memory} */ (instance.exports.memory);
+        }
+        return memory;
+    }
+
+    /** @type {(at: number, length: number) => Uint8Array} */
+    function bytes(at, length) {
+        return new Uint8Array(memoryOf().buffer, at >>> 0, length >>> 0);
+    }
+
+    const machine = {
+        // Word number so and so: its length, -1 where there is none, -2 where it does not fit.
+        word(/** @type {number} */ number, /** @type {number} */ at, /** @type {number} */ room) {
+            if (number >>> 0 >= all.length) {
+                return -1;
+            }
+            const word = all[number];
+            const held = bytes(at, room);
+            held.set(word.subarray(0, held.length));
+            return word.length > held.length ? -2 : word.length;
+        },
+        read(/** @type {number} */ at, /** @type {number} */ room) {
+            return room === 0 ? 0 : streams.read(bytes(at, room));
+        },
+        write(/** @type {number} */ stream, /** @type {number} */ at, /** @type {number} */ length) {
+            return streams.write(stream === 1 ? 1 : 2, bytes(at, length));
+        },
+        grow(/** @type {number} */ pages) {
+            return (streams.grow || grow)(memoryOf(), pages >>> 0) ? 1 : 0;
+        },
+    };
+    const instance = new WebAssembly.Instance(program, {msp: machine});
+    return /** @type {() => number} */ (instance.exports.run)();
+}
+
+/**
+ * Pieces of bytes as one array.
+ * @param {Uint8Array[]} pieces
+ * @returns {Uint8Array}
+ */
+function joined(pieces) {
+    const whole = new Uint8Array(pieces.reduce((sum, piece) => sum + piece.length, 0));
+    let at = 0;
+    for (const piece of pieces) {
+        whole.set(piece, at);
+        at += piece.length;
+    }
+    return whole;
+}
+
+/**
+ * Runs the program once on an input in memory.
+ * @param {WebAssembly.Module} program - released/msp.wasm, compiled
+ * @param {string[]} words - the words of the command line, without the program's name
+ * @param {Uint8Array} input - what stands on standard input
+ * @param {Streams['grow']} [grows] - as in Streams
+ * @returns {Answer}
+ */
+export function call(program, words, input, grows) {
+    const encoder = new TextEncoder();
+    /** @type {{1: Uint8Array[], 2: Uint8Array[]}} */
+    const written = {1: [], 2: []};
+    let left = input;
+    const status = run(program, words.map((word) => encoder.encode(word)), {
+        read(room) {
+            const piece = left.subarray(0, room.length);
+            room.set(piece);
+            left = left.subarray(piece.length);
+            return piece.length;
+        },
+        write(stream, bytes) {
+            written[stream].push(bytes.slice());
+            return bytes.length;
+        },
+        grow: grows,
+    });
+    return {status, report: joined(written[1]), note: joined(written[2])};
+}
