@@ -97,7 +97,10 @@ static long moved(int count)
 }
 
 /* POSIX's read of standard input: puts bytes at `at` and answers how many, 0 at the end, -1 where it fails. */
-long read(int stream, byte *at, word room) { return moved(host_read(ADDRESS(at), room < MOST_MOVED ? room : MOST_MOVED)); }
+long read(int stream, byte *at, word room)
+{
+    return moved(host_read(ADDRESS(at), room < MOST_MOVED ? room : MOST_MOVED));
+}
 
 /* POSIX's write to standard output (1) or standard error (2): how many of the bytes were taken, perhaps fewer than all; -1 where it fails. */
 long write(int stream, const byte *at, word length)

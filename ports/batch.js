@@ -1,0 +1,44 @@
+/**
+ * Many calls of msp.wasm in one process of Node, for tools/try-ports and tools/measure-ports: a line of JSON for each on standard input,
+ * {words, input, refuse, feign}, and one for its answer on standard output, {status, report, note, growths, pages, milliseconds}, or {fault}
+ * where the call was ended without one. Bytes are in base64; a word is a text. The growth of memory with the number `refuse` is refused,
+ * and that with the number `feign` is said to be done and is not, so that the call runs into the end of its memory.
+ *
+ *     node ports/batch.js [MODULE]
+ */
+import {readFileSync} from 'node:fs';
+import {createInterface} from 'node:readline';
+import {call, grow} from './host.js';
+
+const path = process.argv[2] || new URL('../released/msp.wasm', import.meta.url);
+const begun = performance.now();
+const program = new WebAssembly.Module(readFileSync(path));
+const compiled = performance.now() - begun;
+
+/**
+ * The answer of one call.
+ * @param {{words: string[], input: string, refuse?: number, feign?: number}} asked
+ * @returns {object}
+ */
+function answer(asked) {
+    let growths = 0, pages = 0;
+    const begin = performance.now();
+    try {
+        const {status, report, note} = call(program, asked.words, Buffer.from(asked.input, 'base64'), (memory, more) => {
+            growths += 1;
+            const grown = growths === asked.feign || (growths !== asked.refuse && grow(memory, more));
+            pages = memory.buffer.byteLength / 65536;
+            return grown;
+        });
+        const milliseconds = performance.now() - begin;
+        const [out, notes] = [report, note].map((bytes) => Buffer.from(bytes).toString('base64'));
+        return {status, report: out, note: notes, growths, pages, milliseconds};
+    } catch (fault) {
+        return {fault: String(fault)};
+    }
+}
+
+console.log(JSON.stringify({compiled}));
+for await (const line of createInterface({input: process.stdin})) {
+    console.log(JSON.stringify(answer(JSON.parse(line))));
+}
