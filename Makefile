@@ -5,14 +5,15 @@ OUT := crates/msp/out
 SOURCES := $(shell find crates/*/src crates/*/specs crates/*/proofs 2>/dev/null)
 COMPANIONS := $(sort $(shell find companions -maxdepth 1 -type f -perm -u+x))
 TO = $(DESTDIR)$(PREFIX)
-# The program to be installed.
-PROGRAM ?= $(if $(shell command -v rt 2>/dev/null),$(OUT)/msp,released/msp)
+# The program that was released for this machine, and the one to be installed.
+RELEASED := released/msp$(if $(filter aarch64,$(shell uname -m)),-aarch64)
+PROGRAM ?= $(if $(shell command -v rt 2>/dev/null),$(OUT)/msp,$(RELEASED))
 PROCESSORS := $(shell getconf _NPROCESSORS_ONLN 2>/dev/null || echo 1)
 # Crates proved at once: half as many again as processors, since most take one and wait at times, but a gigabyte and a half each.
 ROOM := $(shell awk '/^MemAvailable/ { most = int($$2 / 1500000); print (most < 1 ? 1 : most) }' /proc/meminfo 2>/dev/null || echo 1)
 AT_ONCE ?= $(shell printf '%s\n' $$((3 * $(PROCESSORS) / 2)) $(ROOM) | sort -n | head -n 1)
 
-.PHONY: program check install clean help atlas dist release
+.PHONY: program check install clean help atlas dist release ports
 .DELETE_ON_ERROR:
 MAKEFLAGS += --no-builtin-rules --no-print-directory
 
@@ -27,7 +28,8 @@ help:
 	@echo 'make check          the gate: every proof, every test, every wrong body (rt ci), and the released program against them'
 	@echo 'make install        the program, its manual page, and the companions as msp-NAME, to $(PREFIX) (PREFIX=..., DESTDIR=...)'
 	@echo 'make atlas          all classes as one page, $(OUT)/atlas.html'
-	@echo 'make release        puts what was built into released/, with all checksums'
+	@echo 'make ports          the program for browsers, for Node and for ARM, in $(OUT)/ports; says what it needs that is not here'
+	@echo 'make release        puts what was built into released/, its ports too, with all checksums'
 	@echo 'make dist           archives of the released program and of the sources, and wheels, in $(OUT)/dist'
 	@echo 'make clean          removes all that was built'
 
@@ -35,10 +37,10 @@ check:
 	.ci/run
 
 install:
-	@if [ $(PROGRAM) != released/msp ]; then $(MAKE) $(PROGRAM); \
-	elif ! why=$$(tools/released); then echo "the released program is not that of the sources here, and not installed: $$why" >&2; exit 1; fi
+	@if [ $(PROGRAM) != $(RELEASED) ]; then $(MAKE) $(PROGRAM); \
+	elif ! why=$$(tools/released && tools/released $(if $(findstring -,$(RELEASED)),--ports)); then echo "the released program is not that of the sources here, and not installed: $$why" >&2; exit 1; fi
 	install -d "$(TO)/bin" "$(TO)/lib/msp/msp_tools/commands" "$(TO)/share/man/man1"
-	install -m 755 $(PROGRAM) "$(TO)/bin"
+	install -m 755 $(PROGRAM) "$(TO)/bin/msp"
 	install -m 755 $(COMPANIONS) "$(TO)/lib/msp"
 	install -m 644 companions/msp_tools/*.py companions/msp_tools/py.typed "$(TO)/lib/msp/msp_tools"
 	install -m 644 companions/msp_tools/commands/*.py "$(TO)/lib/msp/msp_tools/commands"
@@ -50,6 +52,9 @@ install:
 release:
 	tools/release
 
+ports:
+	tools/build-ports
+
 dist:
 	tools/dist
 
@@ -59,7 +64,7 @@ atlas: program
 clean:
 	rm -rf crates/*/out
 
-ifneq ($(filter-out help clean check install release dist,$(or $(MAKECMDGOALS),program)),)
+ifneq ($(filter-out help clean check install release ports dist,$(or $(MAKECMDGOALS),program)),)
 MAKEFLAGS += -j$(AT_ONCE)
 # When this call began, by which tools/progress tells what it proved.
 export BEGUN := $(shell date +%s)
