@@ -8,11 +8,24 @@ import { ends } from './classes.js';
 /** @typedef {{boxes: Box[], lines: Line[], heads: string[]}} Picture */
 
 /**
- * Columns of classes as boxes.
+ * Columns of classes as boxes: in each column but the first they stand in the order of the middle of those from which lines lead to them.
  * @param {number[][]} columns
+ * @param {Line[]} lines
  * @returns {Box[]}
  */
-function boxesOf(columns) { return columns.flatMap((those, column) => those.map((at, place) => ({ at, column, place }))); }
+function boxesOf(columns, lines) {
+  /** @type {Map<number, number>} */
+  const places = new Map();
+  return columns.flatMap((those, column) => {
+    const middle = new Map(those.map((at, place) => {
+      const before = lines.filter(it => it.to === at && places.has(it.from)).map(it => places.get(it.from) || 0);
+      return [at, before.length ? before.reduce((sum, it) => sum + it, 0) / before.length : (place + 0.5) / those.length];
+    }));
+    const sorted = column ? [...those].sort((one, other) => (middle.get(one) || 0) - (middle.get(other) || 0)) : those;
+    sorted.forEach((at, place) => places.set(at, (place + 0.5) / sorted.length));
+    return sorted.map((at, place) => ({ at, column, place }));
+  });
+}
 
 /**
  * The classes around one: those from which rows lead to it on the left, those to which rows lead on the right, with the chains that decide
@@ -38,9 +51,9 @@ export function around(atlas, chains, at) {
   const columns = Array.from({ length: count }, (_, it) => Array.from(column.keys()).filter(one => column.get(one) === it + least));
   const lines = Array.from(column.keys()).flatMap(from => atlas.above(from)
     .filter(([, to]) => column.has(to) && (column.get(to) || 0) > (column.get(from) || 0)).map(([row, to]) => ({ from, to, row })));
-  const heads = columns.map((_, it) => it + least === 0 ? 'this class' : it + least === -1 ? 'easier by a row' : it + least === 1
-    ? 'harder by a row' : '');
-  return { boxes: boxesOf(columns), lines, heads };
+  /** @type {Object<string, string>} */
+  const titles = { '-1': 'easier by a row', 0: 'this class', 1: 'harder by a row' }, heads = columns.map((_, it) => titles[it + least] || '');
+  return { boxes: boxesOf(columns, lines), lines, heads };
 }
 
 /**
@@ -58,12 +71,13 @@ export function frontier(atlas, labels, machines) {
   const columns = [ends(atlas, labels, among, ['easy'], true), easiest,
     ends(atlas, labels, among, open, true).filter(at => !easiest.includes(at)), ends(atlas, labels, among, ['weak', 'hard', 'strong'], false)];
   const heads = ['hardest easy', 'easiest open', 'hardest open', 'easiest hard'];
-  const boxes = boxesOf(columns), shown = boxes.map(it => it.at);
+  const shown = columns.flat();
   const reached = new Map(shown.map(at => [at, atlas.reached(at)]));
   /** @type {(from: number, to: number) => boolean} */
   const leads = (from, to) => from !== to && (reached.get(from) || new Set()).has(to);
-  const lines = shown.flatMap(from => shown.filter(to => leads(from, to) && !shown.some(it => leads(from, it) && leads(it, to))).map(to => ({ from,
-    to, row: 0 })));
-  const kept = columns.map((_, it) => it).filter(it => columns[it].length);
+  /** @type {(from: number, to: number) => boolean} */
+  const next = (from, to) => leads(from, to) && !shown.some(it => leads(from, it) && leads(it, to));
+  const lines = shown.flatMap(from => shown.filter(to => next(from, to)).map(to => ({ from, to, row: 0 })));
+  const boxes = boxesOf(columns, lines), kept = columns.map((_, it) => it).filter(it => columns[it].length);
   return { boxes: boxes.map(it => ({ ...it, column: kept.indexOf(it.column) })), lines, heads: kept.map(it => heads[it]) };
 }

@@ -57,7 +57,7 @@ function words(text) {
  */
 export function entriesOf(facts, text) {
   if (/[|\\/=<_$\u2223]/.test(text)) return [];
-  let said = text;
+  let said = text.replace(/\u2019/g, '\'');
   for (const [pattern, source] of RULES) said = said.replace(pattern, source);
   const wanted = words(said);
   /** @type {(all: string, word: string) => boolean} */

@@ -2,6 +2,7 @@
 import { MEANING, withAnySpeeds } from '../classes.js';
 import { element } from '../elements.js';
 import { NAMES } from '../names.js';
+import { decidedBy, isOwn } from '../results.js';
 import { around } from '../picture.js';
 import { drawn } from './drawing.js';
 import { address, badge, chainList, classLink, reasons, restsOnOwn, rowText, selected, told } from './parts.js';
@@ -21,6 +22,23 @@ export function clashes(view) {
 }
 
 /**
+ * What is said where a label, or the chain that decides it here, rests on a proof of our own.
+ * @param {View} view
+ * @param {number} at
+ * @returns {string}
+ */
+function ownRemark(view, at) {
+  const { all, published, data } = view.atlas;
+  if (!published) return '';
+  if (view.published) return restsOnOwn(view, at) ? `With the proofs of our own it is ${all.labels[at]}.` : '';
+  if (restsOnOwn(view, at)) {
+    return `This rests on a proof of our own, which no journal has seen. The published results alone say: ${published.labels[at]}.`;
+  }
+  const own = decidedBy(view.atlas, false, at).some(it => isOwn(data, it));
+  return own ? 'The chain shown here ends at a proof of our own; the published results alone give the same label, by another chain.' : '';
+}
+
+/**
  * What has to be said of a label: why it is open, other speeds, the published results alone, the same problem.
  * @param {View} view
  * @param {number} at
@@ -30,16 +48,11 @@ function remarks(view, at) {
   const { atlas } = view, { labels } = told(view), found = [], opened = atlas.data.open[at], fast = withAnySpeeds(labels, at);
   if (opened && labels[at] === 'open') found.push(element('p', {}, element('b', {}, `${opened[0]}. `), opened[1]));
   if (fast >= 0) {
-    found.push(element('p', { class: 'warned' },
-      'Here p=1 on uniform machines goes with whole speeds: a job of one unit on a machine of speed s takes 1/s. '
-        + 'With any speeds the class that books call p=1 is ',
-      classLink(view, fast), `, which is ${labels[fast]}.`));
+    found.push(element('p', { class: 'warned' }, 'Here p=1 on uniform machines goes with whole speeds: a job of one unit on a machine of speed s '
+      + 'takes 1/s. With any speeds the class that books call p=1 is ', classLink(view, fast), `, which is ${labels[fast]}.`));
   }
-  if (restsOnOwn(view, at) && atlas.published) {
-    found.push(element('p', { class: 'warned' }, view.published ? `With the proofs of our own it is ${atlas.all.labels[at]}.`
-      : `This rests on a proof of our own, which no journal has seen. The published results alone say: ${atlas.published.labels[at]}.`));
-  }
-  const same = atlas.problem(at).filter(it => it !== at);
+  const own = ownRemark(view, at), same = atlas.problem(at).filter(it => it !== at);
+  if (own) found.push(element('p', { class: 'warned' }, own));
   if (same.length) {
     const line = element('p', { class: 'quiet' }, 'One problem with ');
     same.forEach((it, place) => line.append(place ? ', ' : '', classLink(view, it)));

@@ -78,7 +78,7 @@ function select(text) {
  * @type {Object<string, (rest: string | undefined) => string>}
  */
 const PLACES = {
-  lists: rest => showWide(`Label ${rest || 'open'}`, labelView(view, rest || '')),
+  lists: rest => showWide(`Label ${(rest || 'open').replace(',', ' on ')}`, labelView(view, rest || '')),
   frontier: rest => showWide(`Frontier ${rest || ''}`.trim(), frontierView(view, rest || '')),
   proof: rest => showWide(rest || 'Proofs', proofView(view, rest || '')),
   about: () => showWide('About', aboutView(view)),
