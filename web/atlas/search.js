@@ -54,14 +54,15 @@ function hitsOf(view, text) {
   const { reading, entries, found, at } = answer(view, text), many = entries.length || found.length;
   /** @type {Hit[]} */
   const all = many > SHOWN || reading.fixed ? [{ place: text, nodes: [`all ${many.toLocaleString('en')} hits`] }] : [];
-  if (entries.length) return { notes: [count(many, 'entry', 'entries')], hits: [...all, ...entryHits(view, entries.slice(0, SHOWN))] };
+  if (entries.length) return { notes: [count(many, 'entry', 'entries')], hits: [...entryHits(view, entries.slice(0, SHOWN)), ...all] };
   if (reading.unknown.length) {
     const those = near(reading).slice(0, NEAR);
     return { notes: [...notUnderstood(reading), ...(those.length ? ['Near:'] : [])], hits: classHits(view, those) };
   }
   if (!found.length) return { notes: ['No class has all of this.'], hits: [] };
   const first = at >= 0 ? [at, ...found.filter(it => it !== at)] : found;
-  return { notes: fixedNote(reading.fixed), hits: [...all, ...classHits(view, first.slice(0, SHOWN))] };
+  const hits = classHits(view, first.slice(0, SHOWN));
+  return { notes: fixedNote(reading.fixed), hits: reading.fixed ? [...all, ...hits] : [...hits, ...all] };
 }
 
 /**

@@ -1,0 +1,81 @@
+// What tools/try-atlas asks of the page in a browser: it puts `trial` into the window.
+
+(() => {
+  /** @param {string} name */
+  const one = name => /** @type {HTMLElement} */ (document.querySelector(name));
+  /**
+   * The address after something was done, or after a while where it stays.
+   * @param {() => void} act
+   */
+  const moved = async act => {
+    const changed = new Promise(done => { window.addEventListener('hashchange', done, { once: true }); setTimeout(done, 300); });
+    act();
+    await changed;
+    await new Promise(done => setTimeout(done));
+  };
+  const seen = () => ({
+    title: document.title, head: one('main h2').textContent, one: one('main').className === 'pair', said: one('main').textContent,
+    links: Array.from(document.querySelectorAll('main .class a'), it => it.lastChild ? it.lastChild.textContent : ''),
+  });
+  /** @param {string} hash */
+  const shown = async hash => {
+    await moved(() => { location.hash = hash; });
+    return seen();
+  };
+  /** @param {string} text */
+  const typed = async text => {
+    await shown('about');
+    const input = /** @type {HTMLInputElement} */ (one('#asked'));
+    input.value = text;
+    input.dispatchEvent(new Event('input', { bubbles: true }));
+    await moved(() => input.dispatchEvent(new KeyboardEvent('keydown', { key: 'Enter', bubbles: true })));
+    return seen();
+  };
+  /**
+   * What is seen of each text, typed and as an address.
+   * @param {string[]} texts
+   */
+  const names = async texts => {
+    const found = [];
+    for (const text of texts) found.push([await typed(text), await shown(encodeURIComponent(text.trim()))]);
+    return found;
+  };
+  window.trial = { seen, shown, typed, names };
+})();
+
+// How what is seen looks.
+(() => {
+  /** @param {string} colour */
+  const light = colour => {
+    const parts = (colour.match(/[\d.]+/g) || []).map(it => Number(it) / 255);
+    const [red, green, blue] = parts.map(it => it <= 0.03928 ? it / 12.92 : ((it + 0.055) / 1.055) ** 2.4);
+    return 0.2126 * red + 0.7152 * green + 0.0722 * blue;
+  };
+  /**
+   * @param {Element | null} it
+   * @returns {string}
+   */
+  const ground = it => {
+    const colour = it ? getComputedStyle(it).backgroundColor : 'rgb(255, 255, 255)';
+    return it && /, 0\)|transparent/.test(colour) ? ground(it.parentElement) : colour;
+  };
+  /** @param {Element} it */
+  const contrast = it => {
+    const both = [light(getComputedStyle(it).color), light(ground(it))];
+    return (Math.max(...both) + 0.05) / (Math.min(...both) + 0.05);
+  };
+  const poor = () => Array.from(document.querySelectorAll('body *'))
+    .filter(it => Array.from(it.childNodes).some(node => node.nodeType === 3 && (node.textContent || '').trim()))
+    .filter(it => it.getClientRects().length && !it.closest('svg, script, style, noscript, .hidden, .skip'))
+    .filter(it => contrast(it) < 4.5).map(it => `${it.className} ${(it.textContent || '').slice(0, 30)} ${contrast(it)}`);
+  const small = () => Array.from(document.querySelectorAll('.cell, .pick, button'), it => it.getBoundingClientRect())
+    .filter(it => it.width && (it.width < 24 || it.height < 24)).map(it => `${it.width} x ${it.height}`);
+  /** @param {string} name */
+  const file = name => {
+    const button = document.querySelector(`[data-file="${name}"]`);
+    if (button instanceof HTMLElement) button.click();
+    const area = document.querySelector('textarea');
+    return area ? area.value : '';
+  };
+  Object.assign(window.trial, { poor, small, file });
+})();
