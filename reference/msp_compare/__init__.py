@@ -1,0 +1,1 @@
+"""Compares a program with the independent implementation and with an exhaustive search."""

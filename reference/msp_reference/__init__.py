@@ -1,0 +1,1 @@
+"""An independent implementation of `msp`, written from its requirements without a look at the program."""
