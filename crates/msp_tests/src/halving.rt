@@ -1,4 +1,4 @@
-// The halving, asked about a plain number: from public calls of solvers its loop does not run.
+// The halving, asked about a plain number over wide ranges; of the solvers `Stairs` and `TreeDue` halve, too.
 ghost use Rattle.std.specs.Prelude.{◌^◌, ◌≤ℤ◌, ⊤};
 ghost use Rattle.msp_instance.specs.Conditions.{LiesWithin};
 ghost use Rattle.msp_class.proofs.IntegerRing.{≤ℤ_trans};
