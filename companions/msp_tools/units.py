@@ -232,11 +232,12 @@ class Units:
         return self.length_in_words(value)
 
     def cost_in_words(self, value: Number, criterion: str) -> str:
-        """A cost with its name and its unit, as `makespan 12 h`; `3 late`, `late jobs of weight 5`."""
+        """A cost with its name and its unit, as `makespan 12 h`; `3 late`, `late jobs of weight 5`; as it stands where the criterion is unknown."""
         if criterion == "sumwU":
             return f"late jobs of weight {self.cost(value, criterion)}"
-        name = IN_WORDS.get(criterion, "" if criterion == "sumU" else "cost")
-        return f"{name} {self.cost(value, criterion)}".strip()
+        if criterion == "sumU":
+            return self.cost(value, criterion)
+        return f"{IN_WORDS[criterion]} {self.cost(value, criterion)}" if criterion in IN_WORDS else f"cost {self.number(value)}"
 
     def at(self, value: Number, ends: bool = False) -> Moment | None:
         """The moment of the clock of a moment of the instance, where --start is known; `ends` says that something ends there."""
