@@ -1,4 +1,4 @@
-# Of 200 jobs on one machine each has a name or a number in its bar, in bands where the bars are too short, and a legend has each number;
+# Of 200 jobs on one machine each has what differs in its name in its bar, in bands where the bars are too short;
 # moments that are fractions are written as 3 1/3, the end on the axis is, too.
 python3 - > many.txt <<'PYTHON'
 names = [f"catalogue_section_{n:03d}_of_the_year" for n in range(200)]
@@ -20,8 +20,9 @@ tag = "{http://www.w3.org/2000/svg}"
 picture = ElementTree.fromstring(text)
 bars = [it for it in picture.iter(f"{tag}g") if it.find(f"{tag}rect") is not None]
 labels = [it.findtext(f"{tag}text") for it in bars]
-legend = re.findall(r">([0-9]+) catalogue", text)
-print(len(bars), "bars,", labels.count(None), "without label,", len(set(labels)), "labels,", set(labels) == set(legend), "in the legend")
+legend = re.findall(r">([A-Z]+) catalogue", text)
+print(len(bars), "bars,", labels.count(None), "without label,", len(set(labels)), "labels,", len(legend), "in the legend")
+print(all(label in legend or f"section_{label}_" in bar.findtext(f"{tag}title") for label, bar in zip(labels, bars)))
 print(len(re.findall(">machine 1<", text)), "bands")
 print("end on the axis:", re.findall(">([^<]*1/3)</text>", text)[0])
 PYTHON
