@@ -159,8 +159,8 @@ class Settling:
 class Units:
     """How moments, lengths of time and costs of an instance are shown, and read back; `german` shows decimal commas and dates as 02.03.2026."""
 
-    def __init__(self, words: UnitWords, german: bool = False) -> None:
-        self.names, self.german = read_names(words.names), german
+    def __init__(self, words: UnitWords, german: bool = False, names: Names | None = None) -> None:
+        self.names, self.german = names or read_names(words.names), german
         settling = Settling(words, self.names)
         self.scale = settling.scale()
         self.time_unit, self.start = settling.time_unit(), settling.start()

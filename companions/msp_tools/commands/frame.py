@@ -12,7 +12,7 @@ import os
 import sys
 from dataclasses import dataclass
 from fractions import Fraction
-from typing import Any, Callable, Generic, NoReturn, Sequence, TypeVar
+from typing import Any, Callable, Generic, NoReturn, Sequence, TypeVar, cast
 
 from ..about import VERSION
 from ..classes import ClassName
@@ -44,6 +44,13 @@ class Parser(argparse.ArgumentParser):
             meant = next((it for it in options if it.startswith(unknown)), None) or near(unknown, options)
             message += f": is {meant} meant?" if meant else ""
         super().error(message)
+
+    def read(self, words: Sequence[str] | None, wanted: W) -> W:
+        """Reads words into an object that has their defaults; options and others in any order, but for words that another command reads."""
+        if any(it.nargs == argparse.REMAINDER for it in self._actions):
+            return self.parse_args(words, namespace=wanted)
+        self.parse_intermixed_args(words, namespace=cast(argparse.Namespace, wanted))
+        return wanted
 
     def renamed(self, old: str, new: str) -> None:
         """Lets an option be called by the name that it had."""
@@ -110,7 +117,7 @@ class Command(Generic[W, A]):
 
     def read(self, words: Sequence[str] | None) -> W:
         """Reads the words."""
-        return self.parser().parse_args(words, namespace=self.wanted())
+        return self.parser().read(words, self.wanted())
 
     def finish(self, words: Sequence[str] | None) -> int:
         """Reads the words, prints the answer, and gives the status."""
