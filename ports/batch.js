@@ -7,6 +7,7 @@
  *     node ports/batch.js [MODULE]
  */
 import {readFileSync} from 'node:fs';
+import process from 'node:process';
 import {createInterface} from 'node:readline';
 import {call, grow} from './host.js';
 
@@ -14,6 +15,16 @@ const path = process.argv[2] || new URL('../released/msp.wasm', import.meta.url)
 const begun = performance.now();
 const program = new WebAssembly.Module(readFileSync(path));
 const compiled = performance.now() - begun;
+
+/** @type {(text: string) => Uint8Array} */
+function decoded(text) {
+    return Uint8Array.from(atob(text), (it) => it.charCodeAt(0));
+}
+
+/** @type {(bytes: Uint8Array) => string} */
+function encoded(bytes) {
+    return btoa(Array.from(bytes, (it) => String.fromCharCode(it)).join(''));
+}
 
 /**
  * The answer of one call.
@@ -24,21 +35,25 @@ function answer(asked) {
     let growths = 0, pages = 0;
     const begin = performance.now();
     try {
-        const {status, report, note} = call(program, asked.words, Buffer.from(asked.input, 'base64'), (memory, more) => {
+        const {status, report, note} = call(program, asked.words, decoded(asked.input), (memory, more) => {
             growths += 1;
             const grown = growths === asked.feign || (growths !== asked.refuse && grow(memory, more));
             pages = memory.buffer.byteLength / 65536;
             return grown;
         });
         const milliseconds = performance.now() - begin;
-        const [out, notes] = [report, note].map((bytes) => Buffer.from(bytes).toString('base64'));
-        return {status, report: out, note: notes, growths, pages, milliseconds};
+        return {status, report: encoded(report), note: encoded(note), growths, pages, milliseconds};
     } catch (fault) {
         return {fault: String(fault)};
     }
 }
 
-console.log(JSON.stringify({compiled}));
-for await (const line of createInterface({input: process.stdin})) {
-    console.log(JSON.stringify(answer(JSON.parse(line))));
+/** Answers each line. */
+async function main() {
+    console.log(JSON.stringify({compiled}));
+    for await (const line of createInterface({input: process.stdin})) {
+        console.log(JSON.stringify(answer(JSON.parse(line))));
+    }
 }
+
+main();

@@ -50,20 +50,11 @@ export function grow(memory, pages) {
  */
 export function run(program, words, streams) {
     const all = [new TextEncoder().encode('msp')].concat(words);
-    /** @type {WebAssembly.Memory | undefined} */
-    let memory;
-
-    /** @type {() => WebAssembly.Memory} */
-    function memoryOf() {
-        if (memory === undefined) {
-            memory = /** @type {WebAssembly.Memory} */ (instance.exports.memory);
-        }
-        return memory;
-    }
+    let memory = new WebAssembly.Memory({initial: 0}); // until the module has its own
 
     /** @type {(at: number, length: number) => Uint8Array} */
     function bytes(at, length) {
-        return new Uint8Array(memoryOf().buffer, at >>> 0, length >>> 0);
+        return new Uint8Array(memory.buffer, at >>> 0, length >>> 0);
     }
 
     const machine = {
@@ -84,11 +75,12 @@ export function run(program, words, streams) {
             return streams.write(stream === 1 ? 1 : 2, bytes(at, length));
         },
         grow(/** @type {number} */ pages) {
-            return (streams.grow || grow)(memoryOf(), pages >>> 0) ? 1 : 0;
+            return (streams.grow || grow)(memory, pages >>> 0) ? 1 : 0;
         },
     };
-    const instance = new WebAssembly.Instance(program, {msp: machine});
-    return /** @type {() => number} */ (instance.exports.run)();
+    const {exports} = new WebAssembly.Instance(program, {msp: machine});
+    memory = /** @type {WebAssembly.Memory} */ (exports.memory);
+    return /** @type {() => number} */ (exports.run)();
 }
 
 /**

@@ -4,6 +4,7 @@
  * beside this file as msp.wasm. Where there is no answer, as without that file or where the stack runs out, the status is 20.
  */
 import {readFileSync, readSync, writeSync} from 'node:fs';
+import process from 'node:process';
 import {run} from './host.js';
 
 const NO_ANSWER = 20;
