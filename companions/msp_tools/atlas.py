@@ -9,6 +9,7 @@ from concurrent.futures import ThreadPoolExecutor
 from dataclasses import dataclass
 from typing import Any, Dict, Iterator, List, Mapping, Sequence, Tuple, TypeVar
 
+from .apart import Apart, Listing, citation_of, facts_of, renumbered, sections_of, shipped, without_same
 from .classes import class_named
 from .draws import Wanted, text_of
 from .faults import Fault, ProgramRefusal
@@ -16,7 +17,7 @@ from .files import find_file, need_file, read_text
 from .literature import (Reference, Why, by_source, labels_in, proofs_in, read_references, read_why, reasons_in, rows_in, source_of,
                          words_to_find)
 from .program import Program, Reply
-from .reductions import KINDS, Row, Steps, entries_of, neighbours_of, problems_of, whys_of
+from .reductions import KINDS, Entry, Row, Steps, all_names, entries_of, neighbours_of, problems_of, whys_of
 
 LABELS = ("easy", "pseudo", "weak", "hard", "strong", "open", "both", "torn")
 ASKED = 200
@@ -130,6 +131,35 @@ def spread(things: Sequence[Thing], count: int) -> list[Thing]:
 
 
 @dataclass
+class Table:
+    """The classes in order of rank, their labels, the rows that apply to each, and the chains of those that are asked for."""
+    names: list[str]
+    labels: Mapping[str, str]
+    steps: Steps
+    whys: Mapping[str, Why]
+
+    @property
+    def number(self) -> dict[str, int]:
+        """The number of each class."""
+        return {name: at for at, name in enumerate(self.names)}
+
+    def packed_steps(self) -> Data:
+        """The rows that apply to each class: numbers of pairs of a row and how far behind the class that one stands to which it leads."""
+        pairs = sorted({(row, it - at) for at, those in enumerate(self.steps) for row, it in those})
+        place = {pair: at for at, pair in enumerate(pairs)}
+        words = (" ".join(str(place[row, it - at]) for row, it in those) for at, those in enumerate(self.steps))
+        return {"pairs": pairs, "steps": ",".join(words)}
+
+
+@dataclass
+class Made:
+    """What a page has, whether the results clash, and the list of all labels."""
+    data: Data
+    clash: bool
+    listing: Listing
+
+
+@dataclass
 class Source:
     """What a page is made of: the program, the results and the bibliography; `own` says that the results are not the shipped ones."""
     program: Program
@@ -162,36 +192,61 @@ class Source:
                 "texts": {it.key: [it.text(), it.bibtex()] for those in used.values() for it in those},
                 "finds": {source: [words_to_find(it) for it in (source, " ".join(it.text() for it in used.get(source, [])))] for source in sources}}
 
-    def data(self, part: int | None) -> tuple[Data, bool]:
+    def told(self, results: str, table: Table, chains: Data) -> Data:
+        """Labels, chains and the frontier under a file of results."""
+        return {"labels": "".join(str(LABELS.index(table.labels[it])) for it in table.names), "chains": chains,
+                "frontier": frontier_of(self.program, results, table.number)}
+
+    def published(self, table: Table, data: Data) -> tuple[Data, dict[str, str]]:
+        """What the published results alone say, beside what all of them say, and their labels; nothing where they are not at hand."""
+        text = None if self.own else shipped("examples/known-published.csv")
+        if text is None:
+            return {}, {}
+        apart = Apart(entries_of(self.results), entries_of(text))
+        numbers, weaker = apart.numbers()
+        further = len(apart.entries) + 1
+        data["entries"].update({at: [table.number[name], verdict, source] for at, (name, verdict, source) in enumerate(weaker, further)})
+        labels = labels_of(self.program, text)
+        every = renumbered(whys_of(table.names, labels, table.steps, text), numbers)
+        whys = {name: every[name] for name in table.whys}
+        chains = {kind: without_same(packed(whys, table.number, kind), data["chains"][kind]) for kind in KINDS}
+        other = Table(table.names, labels, table.steps, whys)
+        return {"own": apart.own(), "published": self.told(text, other, chains)}, labels
+
+    def beside(self, entries: Sequence[Entry]) -> Data:
+        """Times, the texts of proofs and the version."""
+        if self.own:
+            return {}
+        return {"facts": facts_of(entries, shipped("docs/results/facts.csv")), "sections": sections_of(shipped("docs/results/proofs-of-results.md")),
+                "citation": citation_of(shipped("CITATION.cff"))}
+
+    def data(self, part: int | None) -> Made:
         """What the page has, with chains of all classes or of a part of them, and whether the results clash."""
         labels = labels_of(self.program, self.results)
         names = list(labels)
-        number = {name: at for at, name in enumerate(names)}
         rows = rows_in(answer(self.program, ["rows"]).report)
         steps = neighbours_of(names, rows)
         every = whys_of(names, labels, steps, self.results)
-        whys = {name: every[name] for name in (spread(names, part) if part else names)}
-        clashes = [it for it in self.compared(whys)[0].reasons if not it.record]
-        entries = entries_of(self.results)
-        pairs = sorted({(row, it - at) for at, those in enumerate(steps) for row, it in those})
-        place = {pair: at for at, pair in enumerate(pairs)}
-        return {
-            "names": "\n".join(names),
-            "labels": "".join(str(LABELS.index(labels[it])) for it in names),
+        table = Table(names, labels, steps, {name: every[name] for name in (spread(names, part) if part else names)})
+        number, entries = table.number, entries_of(self.results)
+        clashes = [it for it in self.compared(table.whys)[0].reasons if not it.record]
+        data = {
+            **self.told(self.results, table, {kind: packed(table.whys, number, kind) for kind in KINDS}),
+            **table.packed_steps(),
             "label_names": LABELS,
             "rows": rows,
-            "pairs": pairs,
-            "steps": ",".join(" ".join(str(place[row, it - at]) for row, it in those) for at, those in enumerate(steps)),
-            "chains": {kind: packed(whys, number, kind) for kind in KINDS},
             "entries": {at: [number[name], verdict, source] for at, (name, verdict, source) in enumerate(entries, 1)},
             **self.sources(entries),
             **self.documents(number),
-            "solvers": solvers_of(self.program, number, set(whys)),
-            "frontier": frontier_of(self.program, self.results, number),
+            **self.beside(entries),
+            "solvers": solvers_of(self.program, number, set(table.whys)),
             "problems": problems_of(steps),
-            "asked": len(whys),
+            "asked": len(table.whys),
             "clashes": [[it.kind, number[it.start], [(row, number[name]) for row, name in it.rows]] for it in clashes],
-        }, bool(clashes)
+        }
+        more, published = self.published(table, data)
+        data.update(more)
+        return Made(data, bool(clashes), Listing(labels, published, table.whys, data))
 
 
 def page_of(data: Data) -> str:
@@ -199,7 +254,7 @@ def page_of(data: Data) -> str:
     template = read_text(need_file(None, "companions/atlas-page.html", "--output"))
     if template.count(DATA) != 1:
         raise Fault("atlas-page.html has no single place for the data")
-    return template.replace(DATA, json.dumps(data, ensure_ascii=False, separators=(",", ":")).replace("</", "<\\/"))
+    return template.replace(DATA, json.dumps(data, ensure_ascii=False, separators=(",", ":")).replace("</", "<\\/").replace("<!", "\\u003c!"))
 
 
 # A page and the program
@@ -212,7 +267,7 @@ class Page:
         if found is None:
             raise Fault("a page without data: atlas --output writes one that has them")
         self.data: Data = json.loads(found[1].replace("<\\/", "</"))
-        self.names: list[str] = self.data["names"].split("\n")
+        self.names = all_names()
         self.chains = {kind: words.split(",") for kind, words in self.data["chains"].items()}
         pairs: list[Row] = [(row, gap) for row, gap in self.data["pairs"]]
         self.steps: Steps = [[pairs[int(it)] for it in words.split()] for words in self.data["steps"].split(",")]

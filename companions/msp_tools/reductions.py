@@ -6,11 +6,12 @@ from __future__ import annotations
 
 import csv
 import io
+import itertools
 import re
 from collections import deque
 from typing import Callable, Dict, Iterable, Iterator, List, Mapping, Sequence, Tuple
 
-from .classes import CRITERIA, PRECEDENCE, class_named
+from .classes import CRITERIA, ENVIRONMENTS, PRECEDENCE, class_named
 from .faults import Fault
 from .literature import Reason, Why
 
@@ -50,6 +51,13 @@ def name_of(parts: Parts) -> str:
     environment, _, short = parts["environment"].partition(" with ")
     items = (parts["cut"], parts["order"], parts["release"], parts["times"], short)
     return f"{environment}|{','.join(it for it in items if it not in ('uncut', 'none', 'no r', 'general', ''))}|{parts['criterion']}"
+
+
+def all_names() -> list[str]:
+    """The names of all classes, in order of rank: a bound on the operations of a job counts as machines of its own, before those without it."""
+    machines = [it for it in ENVIRONMENTS if it[0] != "J"] + ["J2 with n<=2", "J with n<=2", "J2", "J"]
+    parts = (machines, ("uncut", "pmtn"), ("none", *PRECEDENCE), ("no r", "r"), ("general", "p=1", "p=p"), CRITERIA)
+    return [name_of(dict(zip(("environment", "cut", "order", "release", "times", "criterion"), it))) for it in itertools.product(*parts)]
 
 
 def part_named(word: str) -> str:

@@ -19,7 +19,8 @@ The page is written to standard output, or to the file that is named. What it sa
 examples/known-strengths.csv or the results file that is named: labels by `label`, the frontier by `frontier`, rows by `rows`; solvers
 stand in docs/solved-classes.md, and their chains are those of `solve` for a drawn instance. Which classes are neighbours follows from the
 texts of `rows`, and from that the chains, by the rule of `why`; `why` is asked of two hundred classes, spread evenly, whether it prints
-the same, and the label of each class has to be the one that its chains give.
+the same, and the label of each class has to be the one that its chains give. Beside the shipped results stands what follows from the
+published ones alone (examples/known-published.csv); with --labels both labels of each class are written as a CSV file, too.
 
 With --compare a page is read instead: the chains of some classes, spread evenly, are compared with what `why` prints of each, and the
 neighbours with `label` on a file that has nothing but a class of the page.
@@ -32,6 +33,7 @@ It ends with 1 where the results clash or the page differs, with 2 where the wor
 class Wanted:
     """The words of the call."""
     output: str | None = None
+    labels: str | None = None
     results: str | None = None
     literature: str | None = None
     part: int | None = None
@@ -73,7 +75,7 @@ def compare(program: Program, results: str, page: Page, count: int) -> Compared:
 
 def answer(wanted: Wanted, _: Tell) -> Answer:
     """The page, or what was compared."""
-    of_pages = (wanted.output, wanted.literature, wanted.part)
+    of_pages = (wanted.output, wanted.labels, wanted.literature, wanted.part)
     if any(of_pages if wanted.compare else (wanted.classes,)):
         raise Misfit("--compare goes with --classes, --results and --program alone")
     program = need_program(wanted.program)
@@ -81,12 +83,14 @@ def answer(wanted: Wanted, _: Tell) -> Answer:
     if wanted.compare:
         return Answer(compared=compare(program, results, Page(read_text(wanted.compare)), wanted.classes or ASKED))
     literature = read_text(need_file(wanted.literature, "docs/results/literature.bib", "--literature"))
-    data, clash = Source(program, results, literature, wanted.results is not None).data(wanted.part)
-    page = page_of(data)
+    made = Source(program, results, literature, wanted.results is not None).data(wanted.part)
+    page = page_of(made.data)
+    if wanted.labels:
+        write_text(wanted.labels, made.listing.csv(), newline="")
     if wanted.output:
         write_text(wanted.output, page)
-        return Answer(written=wanted.output, clash=clash)
-    return Answer(page, clash=clash)
+        return Answer(written=wanted.output, clash=made.clash)
+    return Answer(page, clash=made.clash)
 
 
 def show(found: Answer) -> None:
@@ -116,6 +120,7 @@ def whole_number(text: str) -> int:
 def words(parser: Parser) -> None:
     """Adds the words."""
     parser.add_argument("--output", metavar="FILE", help="the page")
+    parser.add_argument("--labels", metavar="FILE", help="a CSV file of all classes beside the page: labels, entries that decide, references, solvers")
     add_results(parser)
     parser.add_argument("--literature", metavar="FILE", help="a bibliography; without it docs/results/literature.bib")
     parser.add_argument("--part", metavar="N", type=whole_number, help="has chains of N classes alone, spread evenly: a small page for a first look")

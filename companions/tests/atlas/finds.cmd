@@ -8,4 +8,4 @@ import json, re
 page = open('page.html', encoding='utf-8').read()
 data = json.loads(re.search('<script id=\"data\" type=\"application/json\">(.*?)</script>', page, re.S)[1].replace('<\\\\\\\\/', '</'))
 lines = sum(1 for _ in open('examples/known-strengths.csv', encoding='utf-8')) - 1
-print(len(data['entries']) == lines and 'every entry')"
+print(len(data['entries']) == lines + 1 and 'every entry, and a weaker one that is published')"
