@@ -11,18 +11,11 @@ from dataclasses import dataclass
 from typing import Any, Dict, List, Mapping, Sequence, Tuple
 
 from .about import VERSION
-from .files import find_file, read_text
-from .literature import Why
+from .literature import Why, facts_in
 from .reductions import Entry
 
 Record = List[Any]  # (the number of a class, a verdict and a source)
 Numbers = Dict[int, int]  # (from the number of a record to that of the same entry in another file)
-
-
-def shipped(name: str) -> str | None:
-    """The text of a file that comes with the package, or None where it is not there."""
-    path = find_file(name)
-    return read_text(path) if path else None
 
 
 @dataclass
@@ -62,7 +55,7 @@ def without_same(words: str, other: str) -> str:
 
 def facts_of(entries: Sequence[Entry], text: str | None) -> dict[int, list[str]]:
     """From the number of an entry to the time of the rule in its source, the problem from which it was reduced, and where that stands."""
-    listed = {(it["class"], it["verdict"]): [it["time"], it["from"], it["source"]] for it in csv.DictReader(io.StringIO(text or "", newline=""))}
+    listed = {entry: [it.time, it.problem, it.source] for entry, it in facts_in(text or "").items()}
     return {at: listed[name, verdict] for at, (name, verdict, _) in enumerate(entries, 1) if (name, verdict) in listed}
 
 

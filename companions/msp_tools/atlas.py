@@ -9,11 +9,11 @@ from concurrent.futures import ThreadPoolExecutor
 from dataclasses import dataclass
 from typing import Any, Dict, Iterator, List, Mapping, Sequence, Tuple, TypeVar
 
-from .apart import Apart, Listing, citation_of, facts_of, renumbered, sections_of, shipped, without_same
+from .apart import Apart, Listing, citation_of, facts_of, renumbered, sections_of, without_same
 from .classes import class_named
 from .draws import Wanted, text_of
 from .faults import Fault, ProgramRefusal
-from .files import find_file, need_file, read_text
+from .files import find_file, need_file, read_text, shipped
 from .literature import (Reference, Why, by_source, labels_in, proofs_in, read_references, read_why, reasons_in, rows_in, source_of,
                          words_to_find)
 from .program import Program, Reply

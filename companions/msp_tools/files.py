@@ -55,6 +55,12 @@ def find_file(name: str) -> str | None:
     return None
 
 
+def shipped(name: str) -> str | None:
+    """The text of a file that comes with the package, or None where it is not there."""
+    path = find_file(name)
+    return read_text(path) if path else None
+
+
 def need_file(named: str | None, name: str, option: str) -> str:
     """The path of the named file, or of the one that comes with the package; a misfit names the option."""
     path = named or find_file(name)

@@ -18,11 +18,11 @@ from typing import Dict, Iterable, List, Mapping, Protocol, Sequence
 
 from . import judging, lists, schedules, texts
 from .charts import Chart, Options
-from .classes import class_of
 from .faults import Fault, Misfit, ProgramRefusal, Refusal
 from .files import need_file, read_bytes, read_text
 from .judging import AsTheyStand, Verdict, verdict_of
 from .literature import Why, labels_in, read_why
+from .naming import class_of
 from .numbers import fraction
 from .pictures import svg
 from .program import Program, need_program

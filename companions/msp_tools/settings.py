@@ -8,11 +8,12 @@ from fractions import Fraction
 
 from . import limits
 from .calendars import Calendar, calendar_of, holidays_in, shifts_of
-from .classes import ClassName, class_of
+from .classes import ClassName
 from .columns import Column, Header, needed_keys
 from .dates import HOUR, Moment, length_of
 from .faults import Fault, Misfit
 from .files import read_text
+from .naming import class_of
 from .numbers import decimal, said
 from .telling import Told
 from .units import start_of, unit_of, words_of_call

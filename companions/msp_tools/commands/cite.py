@@ -4,7 +4,7 @@ from __future__ import annotations
 from dataclasses import dataclass, field
 
 from ..faults import Misfit, ProgramRefusal
-from ..files import find_file, need_file, read_text
+from ..files import need_file, read_text, shipped
 from ..literature import (NO_PUBLICATION, Fact, Reason, Reference, Why, by_source, facts_in, lines_of, own_results, proofs_in, read_references,
                           read_why, reasons_in, rows_in, source_of, verdicts_in)
 from ..naming import meaning_of
@@ -110,16 +110,10 @@ class Documents:
 def documents_of(program: Program, wanted: Wanted, results: str) -> Documents:
     """The files that are cited; documents of the shipped results say nothing of a file of one's own."""
     literature = read_text(need_file(wanted.literature, "docs/results/literature.bib", "--literature"))
-    proofs, opened, facts, published = ("" if wanted.results else shipped(it) for it in (
+    proofs, opened, facts, published = ("" if wanted.results else shipped(it) or "" for it in (
         "docs/results/proofs-of-results.md", "docs/results/open.md", "docs/results/facts.csv", PUBLISHED))
     return Documents(verdicts_in(results), by_source(read_references(literature)), proofs_in(proofs), reasons_in(opened),
                      rows_in(program.report(["rows"]).report), facts_in(facts), own_results(results, published) if published else set())
-
-
-def shipped(name: str) -> str:
-    """The text of a file that comes with the package, or nothing where it is not there."""
-    path = find_file(name)
-    return read_text(path) if path else ""
 
 
 def answer(wanted: Wanted, _: Tell) -> Answer:
