@@ -78,6 +78,15 @@ def unwrapped(text: str) -> Any:
 
 # Chromium
 
+@contextlib.contextmanager
+def driven() -> Iterator[None]:
+    """Says what selenium could not do."""
+    try:
+        yield
+    except library("selenium.common.exceptions").WebDriverException as fault:
+        raise Failed(f"chromium: {fault.msg}") from None
+
+
 class Chromium:
     """Chromium by selenium and chromedriver."""
     name = "chromium"
@@ -89,22 +98,35 @@ class Chromium:
         for word in ("--headless=new", "--no-sandbox", "--disable-dev-shm-usage", "--disable-gpu", f"--user-data-dir={folder}/profile"):
             options.add_argument(word)
         service = library("selenium.webdriver.chrome.service").Service(needed("chromedriver"), env=environment(folder))
-        self.driver = self.selenium.Chrome(service=service, options=options)
+        with driven():
+            self.driver = self.selenium.Chrome(service=service, options=options)
+        try:
+            self.shape(screen)
+        except BaseException:
+            self.close()
+            raise
+
+    @driven()
+    def shape(self, screen: Screen) -> None:
+        """Gives the page its window, which may be narrower than any that chromium opens."""
         self.driver.set_script_timeout(PATIENCE)
         self.driver.execute_cdp_cmd("Emulation.setDeviceMetricsOverride",
                                     {"width": screen.width, "height": screen.height, "deviceScaleFactor": 1, "mobile": False})
         self.driver.execute_cdp_cmd("Emulation.setEmulatedMedia",
                                     {"features": [{"name": "prefers-color-scheme", "value": "dark" if screen.dark else "light"}]})
 
+    @driven()
     def open(self, address: str) -> None:
         """Opens a page, and waits until it is there."""
         self.driver.get("about:blank")
         self.driver.get(address)
 
+    @driven()
     def evaluate(self, code: str) -> Any:
         """The value of an expression in the page."""
         return unwrapped(self.driver.execute_async_script(f"{wrapped(code)}.then(arguments[arguments.length - 1])"))
 
+    @driven()
     def press(self, *keys: str) -> None:
         """Presses the keys together."""
         chain = self.selenium.ActionChains(self.driver)
@@ -114,6 +136,7 @@ class Chromium:
             chain.key_up(key)
         chain.perform()
 
+    @driven()
     def picture(self, file: Path) -> None:
         """Writes what is seen."""
         file.write_bytes(self.driver.get_screenshot_as_png())

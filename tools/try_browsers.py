@@ -13,10 +13,13 @@ from __future__ import annotations
 
 import argparse
 import base64
+import functools
+import http.server
 import json
 import subprocess
 import sys
 import tempfile
+import threading
 import time
 from collections.abc import Callable, Sequence
 from dataclasses import asdict, dataclass, field
@@ -65,8 +68,9 @@ class Told:
 
 # The calls
 
-def answers_in(browser: Browser, calls: Sequence[tuple[list[str], str]]) -> list[Bytes]:
-    """The status, the report and the note of each call."""
+def answers_in(browser: Browser, page: Path, calls: Sequence[tuple[list[str], str]]) -> list[Bytes]:
+    """The status, the report and the note of each call, made in the page."""
+    browser.open(page.as_uri())
     parts = [calls[begin:begin + AT_ONCE] for begin in range(0, len(calls), AT_ONCE)]
     return [(status, report, note) for part in parts for status, report, note in browser.evaluate(f"{CALLS}({json.dumps(part)})")]
 
@@ -92,7 +96,7 @@ class Use:
         """Waits until an expression holds, in which `values` are texts."""
         self.told.used.append(f"{self.screen}: {what}")
         for _ in range(100):
-            if self.ask(f"(values => {code})({json.dumps(values)})"):
+            if self.ask(f"(async values => {code})({json.dumps(values)})"):
                 return
             time.sleep(0.1)
         shown = self.ask("[at('note').textContent, at('status').textContent, document.activeElement.id]")
@@ -174,6 +178,24 @@ def used(browser: Browser, told: Told, screen: str, page: Path, pictures: Option
         browser.picture(pictures / f"try-{browser.name}-{screen}.png")
     browser.open(f"{page.as_uri()}#late-jobs")
     use.expect("an example by its address", "at('input').value === values[0]", example("late-jobs.txt"))
+    if screen == "wide":
+        use_modules(use)
+
+
+class Quiet(http.server.SimpleHTTPRequestHandler):
+    """A server of the files of this clone that says nothing."""
+
+    def log_message(self, *_: object) -> None:
+        """Says nothing."""
+
+
+def use_modules(use: Use) -> None:
+    """The engine module by module, as a web server has it."""
+    with http.server.ThreadingHTTPServer(("127.0.0.1", 0), functools.partial(Quiet, directory=str(TOP))) as server:
+        threading.Thread(target=server.serve_forever, daemon=True).start()
+        use.browser.open(f"http://127.0.0.1:{server.server_port}/web/types/")
+        use.expect("the engine from a web server", "import('/web/engine.js').then(it => it.run(['rows'])).then(it => it.status === 0)")
+        server.shutdown()
 
 
 # Each browser
@@ -186,7 +208,7 @@ def tried(name: str, words: argparse.Namespace, calls: Sequence[tuple[list[str],
             with browsers.opened(name, shape) as browser:
                 used(browser, told, screen, words.page, words.pictures)
                 if shape == Screen():
-                    told.answers = answers_in(browser, calls)
+                    told.answers = answers_in(browser, words.page, calls)
     except Missing as fault:
         return Told(name, skipped=str(fault))
     except (Failed, OSError) as fault:
@@ -201,7 +223,7 @@ def main() -> int:
     reader.add_argument("--page", type=Path, default=PAGE)
     reader.add_argument("--pictures", type=Path)
     words = reader.parse_args()
-    words.page = words.page.resolve()
+    words.page = words.page.resolve(strict=True)
     calls = json.loads(words.calls.read_text(encoding="utf-8")) if words.calls else []
     without_network = browsers.cut_off()
     for name in browsers.BROWSERS:
