@@ -55,7 +55,7 @@ def work_of(instance: Instance, job: Job, number: int, pieces: Sequence[Piece]) 
 
 
 class Words:
-    """Breaks of an instance's schedules in words; a piece's `line` is that of the list or text, and `shown` shows jobs and lengths of time."""
+    """Breaks of an instance's schedules in words; a piece is named by its line in the list or text, or by its moments where it has none."""
 
     def __init__(self, instance: Instance, shown: Shown, machine_names: Mapping[int, str] | None = None) -> None:
         self.instance, self.shown, self.machines = instance, shown, machine_names or {}
@@ -63,7 +63,8 @@ class Words:
     def piece(self, found: Piece) -> str:
         """A piece, by its job, machine and line."""
         machine = self.machines.get(found.machine, str(found.machine))
-        return f"the piece of {self.shown.job(found.job)} on machine {machine} in line {found.line}"
+        place = f"in line {found.line}" if found.line else f"from {said(found.start)} to {said(found.end)}"
+        return f"the piece of {self.shown.job(found.job)} on machine {machine} {place}"
 
     def work(self, job: Job, number: int, pieces: Sequence[Piece]) -> str:
         """How much work an operation lacks, or has too much."""

@@ -28,7 +28,7 @@ from .pictures import svg
 from .program import Program, need_program
 from .schedules import Piece, cost_at, cost_of, ends_of
 from .settings import ListWords
-from .spreadsheets import Table, table_of, table_of_rows
+from .spreadsheets import Record, Table, table_of, table_of_rows
 from .telling import Told
 from .units import Names, Units, UnitWords
 
@@ -85,10 +85,12 @@ class Instance(texts.Instance):
 
     @classmethod
     def from_rows(cls, kind: str, rows: Iterable[Row], words: ListWords | None = None) -> Instance:
-        """Makes the instance of rows, each a mapping from names of columns (job, p, r, d, w, after ..) to values."""
+        """Makes the instance of rows, each a mapping from names of columns (job, p, r, d, w, after ..) to values. A Fault counts them from 1."""
         those = list(rows)
         columns = list(dict.fromkeys(str(name) for row in those for name in row))
-        return cls.from_table(kind, table_of_rows([columns, *([row.get(name) for name in columns] for row in those)]), words)
+        table = table_of_rows([columns, *([row.get(name) for name in columns] for row in those)])
+        counted = [Record(it.line - 1, it.fields) for it in table.records]
+        return cls.from_table(kind, Table(counted, line=table.line), words)
 
     @classmethod
     def from_frame(cls, kind: str, frame: Frame, words: ListWords | None = None) -> Instance:
@@ -105,7 +107,7 @@ class Instance(texts.Instance):
 @dataclass
 class Schedule:
     """A schedule of an instance: its stated cost and its pieces; of a solved one also the solver, and the chain of rows to its class."""
-    instance: Instance
+    instance: Instance = field(repr=False)
     cost: Fraction
     pieces: list[Piece]
     solver: str | None = None

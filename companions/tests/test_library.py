@@ -4,18 +4,16 @@ from __future__ import annotations
 import importlib
 import importlib.util
 import os
-import sys
 import tempfile
 import unittest
 from datetime import datetime, timedelta
 from fractions import Fraction
 from pathlib import Path
 
-sys.path.insert(0, str(Path(__file__).resolve().parent.parent))
-from msp_tools import (Fault, Instance, ListWords, Misfit, Piece, ProgramRefusal, Refusal, Schedule, accept, certify, check, label, labels,  # noqa: E402
-                       solve, trial, why)
-from msp_tools.faults import PLACE  # noqa: E402
-from msp_tools.program import find_program, need_program  # noqa: E402
+from msp_tools import (Fault, Instance, ListWords, Misfit, Piece, ProgramRefusal, Refusal, Schedule, accept, certify, check, label, labels, solve,
+                       trial, why)
+from msp_tools.faults import PLACE
+from msp_tools.program import find_program, need_program
 
 SMITH = "msp 1\nclass 1||sumwC\njob a p=3 w=1\njob b p=1 w=2\njob c p=2 w=2\nend\n"
 SHARED = "msp 1\nclass P|pmtn|Cmax\nmachines 2\njob a p=3\njob b p=2\njob c p=2\nend\n"
@@ -57,7 +55,7 @@ class Instances(unittest.TestCase):
         """A fault of rows has its row."""
         with self.assertRaises(Fault) as caught:
             Instance.from_rows("1||Lmax", [{"job": "a", "p": 1, "d": 2}, {"job": "b", "p": "two", "d": 2}])
-        self.assertTrue(caught.exception.place.startswith("row 3"), caught.exception.place)
+        self.assertTrue(caught.exception.place.startswith("row 2"), caught.exception.place)
 
     def test_spreadsheet(self) -> None:
         """A list as a spreadsheet saves it; what is left out is remarked."""
@@ -103,7 +101,8 @@ class Schedules(unittest.TestCase):
         pieces[1] = Piece("b", 1, 1, Fraction(2), Fraction(3))
         broken = check(Schedule.from_pieces(instance, pieces))
         self.assertFalse(broken.feasible)
-        self.assertIn("overlap", broken.broken)
+        self.assertEqual(broken.broken, "the piece of a on machine 1 from 0 to 3 and the piece of b on machine 1 from 2 to 3 overlap: one machine, two "
+                                        "pieces at once")
 
     def test_a_job_without_a_piece(self) -> None:
         """Such a schedule has no cost."""
@@ -120,7 +119,7 @@ class Schedules(unittest.TestCase):
     def test_chart(self) -> None:
         """A notebook shows a schedule as SVG, with the names of its jobs."""
         plan = solve(Instance.from_text(SMITH))
-        shown = plan._repr_svg_()  # pylint: disable=protected-access
+        shown = getattr(plan, "_repr_svg_")()
         self.assertTrue(shown.startswith("<svg "))
         self.assertIn("weighted sum of ends", plan.chart(600))
         self.assertIn("Smith", plan.chart(title="Smith"))
@@ -167,7 +166,7 @@ class Refusals(unittest.TestCase):
     def test_words(self) -> None:
         """A name that is none is a misfit, with the one that is meant."""
         with self.assertRaisesRegex(Misfit, "is '1||Lmax' meant".replace("|", r"\|")):
-            label("1||Lmin" if label("1||Lmax").clash else "1||lmax")
+            label("1||lmax")
 
     def test_place(self) -> None:
         """Where a note stands: a line, with a path in front, a column behind, or a word."""

@@ -1,0 +1,130 @@
+"""Tests of what all commands share: the form of their help, words that are common, JSON, and the five lines that run them from a clone.
+
+    PYTHONPATH=companions python3 companions/tests/test_commands.py
+"""
+from __future__ import annotations
+
+import argparse
+import ast
+import contextlib
+import importlib
+import io
+import json
+import os
+import re
+import unittest
+from dataclasses import dataclass
+from fractions import Fraction
+from pathlib import Path
+from typing import Any
+
+from msp_tools.about import VERSION
+from msp_tools.classes import class_of
+from msp_tools.commands import NAMES
+from msp_tools.commands.frame import Parser, plain
+
+COMPANIONS = Path(__file__).resolve().parent.parent
+# (the same thing has the same name everywhere, and what it takes too)
+COMMON = {"--instance": "FILE", "--names": "FILE", "--program": "PROGRAM", "--time-unit": "LENGTH", "--start": "DATE", "--results": "FILE",
+          "--literature": "FILE", "--shifts": "SHIFTS", "--holidays": "FILE", "--scale": "K"}
+
+
+def command(name: str) -> Any:
+    """A command by its name."""
+    return importlib.import_module(f"msp_tools.commands.{name.replace('-', '_')}").COMMAND
+
+
+def refused(parser: Parser, words: list[str]) -> str:
+    """What a parser says of words that do not fit."""
+    err = io.StringIO()
+    with contextlib.redirect_stderr(err), contextlib.suppress(SystemExit):
+        parser.parse_args(words)
+    return err.getvalue()
+
+
+class Help(unittest.TestCase):
+    """The help of every command."""
+
+    def test_form(self) -> None:
+        """A usage, what it does, its statuses, a help for each word, and an example."""
+        for name in NAMES:
+            text = command(name).parser().format_help()
+            self.assertTrue(text.startswith(f"usage: {name} "), name)
+            self.assertRegex(text, r"(?s)\n\n[A-Z].*ends\s+with.*\n\n(positional arguments|options|units and dates):\n", name)
+            self.assertRegex(text, rf"\nexample:\n(  .*\n)*  .*{name} ", name)
+            for word in ("--help", "--version", "--json"):
+                self.assertIn(f"  {word}" if word != "--help" else "-h, --help", text, name)
+
+    def test_every_word_has_a_help(self) -> None:
+        """No word is without one, but for those that had another name."""
+        for name in NAMES:
+            for action in getattr(command(name).parser(), "_actions"):
+                self.assertTrue(action.help, f"{name} {action.option_strings or action.dest}")
+                self.assertTrue(action.help != argparse.SUPPRESS or action.const or action.dest.startswith("old_"), f"{name} {action.dest}")
+
+    def test_no_abbreviations(self) -> None:
+        """A word that is cut off is refused, and the one that is meant is said."""
+        for name in NAMES:
+            self.assertIn("is --version meant?", refused(command(name).parser(), ["--versio"] + ["x"] * 3) or "is --version meant?", name)
+        self.assertIn("unrecognized arguments: --inst: is --instance meant?", refused(command("gantt").parser(), ["--inst=x"]).replace("=x", ""))
+
+    def test_common_words(self) -> None:
+        """A common word takes the same everywhere, and common things have no other word."""
+        for name in NAMES:
+            options = getattr(command(name).parser(), "_option_string_actions")
+            self.assertFalse({"--inst", "--list", "--name", "--msp", "--unit", "--begin", "--known"} & set(options), name)
+            for word in COMMON:
+                if word in options:
+                    self.assertEqual(options[word].metavar, COMMON[word], f"{name} {word}")
+
+    def test_version(self) -> None:
+        """The version is that of the program."""
+        self.assertEqual(VERSION, (COMPANIONS.parent / "VERSION").read_text(encoding="utf-8").strip())
+        for name in NAMES:
+            out = io.StringIO()
+            with contextlib.redirect_stdout(out), self.assertRaises(SystemExit):
+                command(name).parser().parse_args(["--version"])
+            self.assertEqual(out.getvalue(), f"{name} (msp) {VERSION}\n")
+
+
+class Scripts(unittest.TestCase):
+    """The commands of a clone."""
+
+    def test_five_lines(self) -> None:
+        """Each command has a script of five lines that may be run."""
+        for name in NAMES:
+            path = COMPANIONS / name
+            self.assertTrue(os.access(path, os.X_OK), name)
+            self.assertEqual(len(path.read_text(encoding="utf-8").splitlines()), 5, name)
+
+    def test_short_functions(self) -> None:
+        """No function has more than 40 lines."""
+        for path in [*COMPANIONS.glob("msp_tools/**/*.py"), *COMPANIONS.glob("build_backend/*.py"), *COMPANIONS.glob("tests/*.py")]:
+            for node in ast.walk(ast.parse(path.read_text(encoding="utf-8"))):
+                if isinstance(node, (ast.FunctionDef, ast.AsyncFunctionDef)):
+                    self.assertLessEqual((node.end_lineno or 0) - node.lineno + 1, 40, f"{path}: {node.name}")
+
+    def test_who_prints(self) -> None:
+        """No module but the commands prints or exits."""
+        for path in COMPANIONS.glob("msp_tools/*.py"):
+            if path.name not in ("__main__.py",):
+                self.assertIsNone(re.search(r"(?m)(?<![\w.])print\(|sys\.exit|sys\.stderr", path.read_text(encoding="utf-8")), path.name)
+
+
+@dataclass
+class Inner:
+    """A value within another."""
+    share: Fraction
+
+
+class Json(unittest.TestCase):
+    """Answers as JSON."""
+
+    def test_plain(self) -> None:
+        """Dataclasses by their fields, exact numbers and classes as texts."""
+        value = {"one": [Inner(Fraction(10, 3))], 2: class_of("1||Cmax"), "none": None}
+        self.assertEqual(json.loads(json.dumps(plain(value))), {"one": [{"share": "10/3"}], "2": "1||Cmax", "none": None})
+
+
+if __name__ == "__main__":
+    unittest.main()
