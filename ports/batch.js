@@ -1,8 +1,9 @@
 /**
  * Many calls of msp.wasm in one process of Node, for tools/try-ports and tools/measure-ports: a line of JSON for each on standard input,
  * {words, input, refuse, feign}, and one for its answer on standard output, {status, report, note, growths, pages, milliseconds}, or {fault}
- * where the call was ended without one. Bytes are in base64; a word is a text. The growth of memory with the number `refuse` is refused,
- * and that with the number `feign` is said to be done and is not, so that the call runs into the end of its memory.
+ * where the call was ended without one. Bytes are in base64; a word is a text; times are those of the processor, in all threads. The growth
+ * of memory with the number `refuse` is refused, and that with the number `feign` is said to be done and is not, so that the call runs into
+ * the end of its memory.
  *
  *     node ports/batch.js [MODULE]
  */
@@ -11,10 +12,16 @@ import process from 'node:process';
 import {createInterface} from 'node:readline';
 import {call, grow} from './host.js';
 
-const path = process.argv[2] || new URL('../released/msp.wasm', import.meta.url);
-const begun = performance.now();
-const program = new WebAssembly.Module(readFileSync(path));
-const compiled = performance.now() - begun;
+/** @type {() => number} */
+function processorTime() {
+    const {user, system} = process.cpuUsage();
+    return (user + system) / 1000;
+}
+
+const bytes = readFileSync(process.argv[2] || new URL('../released/msp.wasm', import.meta.url));
+const begun = processorTime();
+const program = new WebAssembly.Module(bytes);
+const compiled = processorTime() - begun;
 
 /** @type {(text: string) => Uint8Array} */
 function decoded(text) {
@@ -33,7 +40,7 @@ function encoded(bytes) {
  */
 function answer(asked) {
     let growths = 0, pages = 0;
-    const begin = performance.now();
+    const begin = processorTime();
     try {
         const {status, report, note} = call(program, asked.words, decoded(asked.input), (memory, more) => {
             growths += 1;
@@ -41,7 +48,7 @@ function answer(asked) {
             pages = memory.buffer.byteLength / 65536;
             return grown;
         });
-        const milliseconds = performance.now() - begin;
+        const milliseconds = processorTime() - begin;
         return {status, report: encoded(report), note: encoded(note), growths, pages, milliseconds};
     } catch (fault) {
         return {fault: String(fault)};

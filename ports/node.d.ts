@@ -11,6 +11,7 @@ declare module 'node:process' {
     platform: string;
     exitCode: number | undefined;
     stdin: AsyncIterable<Uint8Array>;
+    cpuUsage(): { user: number; system: number };
   };
   export default process;
 }
