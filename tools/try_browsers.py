@@ -223,7 +223,9 @@ def main() -> int:
     reader.add_argument("--page", type=Path, default=PAGE)
     reader.add_argument("--pictures", type=Path)
     words = reader.parse_args()
-    words.page = words.page.resolve(strict=True)
+    words.page = words.page.resolve()
+    if not words.page.exists():
+        reader.error(f"there is no {words.page}: tools/build-try makes the page")
     calls = json.loads(words.calls.read_text(encoding="utf-8")) if words.calls else []
     without_network = browsers.cut_off()
     for name in browsers.BROWSERS:
@@ -267,10 +269,12 @@ def try_page(cases: Sequence[tuple[Call, Answer]], part: Part, page: Path = PAGE
         with tempfile.NamedTemporaryFile("w", suffix=".json") as file:
             json.dump(calls, file)
             file.flush()
-            made = subprocess.run([a_python(), __file__, file.name, "--page", str(page)], stdout=subprocess.PIPE, text=True, check=True)
+            made = subprocess.run([a_python(), __file__, file.name, "--page", str(page)], stdout=subprocess.PIPE, text=True, check=False)
     except Missing as fault:
         print(f"browsers: skipped: {fault}", flush=True)
         return
+    if made.returncode:
+        part("browsers", [f"tools/try_browsers.py ended with status {made.returncode}"], 1)
     for told in (Told(**json.loads(line)) for line in made.stdout.splitlines()):
         if told.skipped:
             print(f"{told.browser}: skipped: {told.skipped}", flush=True)
