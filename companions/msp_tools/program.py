@@ -15,6 +15,7 @@ from .faults import Misfit, ProgramRefusal
 from .files import PACKAGE
 
 CLONE = PACKAGE.parent.parent
+PORTS = ("--ports",)
 # (the released program for each machine on which Linux may run, by what Python calls it)
 RELEASED = {"x86_64": "msp", "amd64": "msp", "aarch64": "msp-aarch64", "arm64": "msp-aarch64"}
 
@@ -78,20 +79,20 @@ def beside_package() -> Iterator[Path]:
 def in_clone() -> Iterator[Path]:
     """Where the program may stand in a clone: the released one of this machine where it is that of the sources, and the built one."""
     name = RELEASED.get(platform.machine().lower())
-    if sys.platform == "linux" and name and (CLONE / "released" / name).is_file() and is_released():
+    if sys.platform == "linux" and name and (CLONE / "released" / name).is_file() and is_released(*PORTS * (name != "msp")):
         yield CLONE / "released" / name
     yield CLONE / "crates" / "msp" / "out" / "msp"
 
 
-def is_released() -> bool:
-    """Whether the released programs have their checksums, and are those of the sources beside them."""
-    return subprocess.run(["sh", str(CLONE / "tools" / "released")], stdout=subprocess.DEVNULL, check=False).returncode == 0
+def is_released(*words: str) -> bool:
+    """Whether the released program, or with --ports what was made of it for other machines, has its checksum, and is that of the sources."""
+    return subprocess.run(["sh", str(CLONE / "tools" / "released"), *words], stdout=subprocess.DEVNULL, check=False).returncode == 0
 
 
 def find_program(named: str | None = None) -> Program | None:
-    """The named program; or $MSP, or msp beside the package, in PATH or in the clone; or the port by Node; or None.
+    """The named program; or $MSP, or msp beside the package, in PATH or in the clone; or the port that Node runs; or None.
 
-    In a clone the released program of this machine comes first, if it is that of the sources.
+    What is released in a clone is taken where it has its checksum, and is that of the sources.
     """
     wanted = named or os.environ.get("MSP")
     if wanted:
@@ -101,10 +102,11 @@ def find_program(named: str | None = None) -> Program | None:
         for path in places:
             if path.is_file() and os.access(path, os.X_OK):
                 return Program((os.path.abspath(path),))
-    for port in (CLONE / "released" / "msp.mjs", PACKAGE / "data" / "released" / "msp.mjs"):
-        if port.is_file() and (shutil.which("node") or shutil.which("nodejs")):
-            return by_node(str(port))
-    return None
+    ours, released = PACKAGE / "data" / "released" / "msp.mjs", CLONE / "released" / "msp.mjs"
+    if not (shutil.which("node") or shutil.which("nodejs")):
+        return None
+    port = ours if ours.is_file() else released if released.is_file() and is_released(*PORTS) else None
+    return by_node(str(port)) if port else None
 
 
 def need_program(named: str | None = None) -> Program:
