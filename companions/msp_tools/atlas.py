@@ -269,7 +269,7 @@ class Page:
         self.data: Data = json.loads(found[1].replace("<\\/", "</"))
         self.names = all_names()
         self.chains = {kind: words.split(",") for kind, words in self.data["chains"].items()}
-        pairs: list[Row] = [(row, gap) for row, gap in self.data["pairs"]]
+        pairs: list[Row] = [(int(row), int(gap)) for row, gap in self.data["pairs"]]
         self.steps: Steps = [[pairs[int(it)] for it in words.split()] for words in self.data["steps"].split(",")]
 
     def report(self, name: str) -> str:
