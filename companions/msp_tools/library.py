@@ -53,19 +53,19 @@ class Instance(texts.Instance):
     remarks: list[str] = field(default_factory=list, compare=False, repr=False)
 
     @classmethod
-    def of(cls, given: texts.Instance) -> Instance:
+    def from_read(cls, given: texts.Instance) -> Instance:
         """An instance text that was read, as an instance of the library."""
         return cls(**{it.name: getattr(given, it.name) for it in fields(texts.Instance)})
 
     @classmethod
     def from_text(cls, text: str) -> Instance:
         """Reads an instance text (docs/formats.md). A Fault names the line; conditions of the class are the program's to refuse."""
-        return cls.of(texts.read_instance(text))
+        return cls.from_read(texts.read_instance(text))
 
     @classmethod
     def from_file(cls, path: str) -> Instance:
         """Reads the instance text of a file."""
-        return cls.of(texts.read_instance_at(path))
+        return cls.from_read(texts.read_instance_at(path))
 
     @classmethod
     def from_table(cls, kind: str, table: Table, words: ListWords | None = None) -> Instance:
@@ -218,7 +218,7 @@ def fields_in(report: str) -> dict[str, str]:
 
 def solve(instance: texts.Instance, program: Program | None = None) -> Schedule:
     """The best schedule of an instance. ProgramRefusal: 3 where it has a fault, 4 a limit, 5 no solver for its class."""
-    given = instance if isinstance(instance, Instance) else Instance.of(instance)
+    given = instance if isinstance(instance, Instance) else Instance.from_read(instance)
     return Schedule.from_text(given, (program or need_program()).report(["solve"], given.text(), (0,)).report)
 
 

@@ -19,9 +19,9 @@ from pathlib import Path
 from typing import Any
 
 from msp_tools.about import VERSION
-from msp_tools.classes import class_of
 from msp_tools.commands import NAMES
 from msp_tools.commands.frame import Parser, plain
+from msp_tools.naming import class_of
 
 COMPANIONS = Path(__file__).resolve().parent.parent
 # (the same thing has the same name everywhere, and what it takes too)
@@ -73,9 +73,9 @@ class Help(unittest.TestCase):
         for name in NAMES:
             options = getattr(command(name).parser(), "_option_string_actions")
             self.assertFalse({"--inst", "--list", "--name", "--msp", "--unit", "--begin", "--known"} & set(options), name)
-            for word in COMMON:
+            for word, metavar in COMMON.items():
                 if word in options:
-                    self.assertEqual(options[word].metavar, COMMON[word], f"{name} {word}")
+                    self.assertEqual(options[word].metavar, metavar, f"{name} {word}")
 
     def test_version(self) -> None:
         """The version is that of the program."""

@@ -41,7 +41,8 @@ class Instances(unittest.TestCase):
 
     def test_rows(self) -> None:
         """Rows with dates, exact numbers and lengths of time; times become whole by the scale."""
-        rows = [{"job": "Tür", "p": Fraction(5, 2), "d": datetime(2026, 3, 2, 15)}, {"job": "Rahmen", "p": timedelta(hours=3), "d": datetime(2026, 3, 3, 9)}]
+        rows = [{"job": "Tür", "p": Fraction(5, 2), "d": datetime(2026, 3, 2, 15)},
+                {"job": "Rahmen", "p": timedelta(hours=3), "d": datetime(2026, 3, 3, 9)}]
         words = ListWords(time_unit="1h", start="2026-03-02 06:00", shifts="Mon-Fri 06:00-14:00", scale=2)
         week = Instance.from_rows("1||Lmax", rows, words)
         # (15:00 is behind the shift of 8 hours; 9:00 is 3 hours into the next one; moments count half hours)
@@ -101,8 +102,8 @@ class Schedules(unittest.TestCase):
         pieces[1] = Piece("b", 1, 1, Fraction(2), Fraction(3))
         broken = check(Schedule.from_pieces(instance, pieces))
         self.assertFalse(broken.feasible)
-        self.assertEqual(broken.broken, "the piece of a on machine 1 from 0 to 3 and the piece of b on machine 1 from 2 to 3 overlap: one machine, two "
-                                        "pieces at once")
+        self.assertEqual(broken.broken, "the piece of a on machine 1 from 0 to 3 and the piece of b on machine 1 from 2 to 3 overlap: one machine, "
+                                        "two pieces at once")
 
     def test_a_job_without_a_piece(self) -> None:
         """Such a schedule has no cost."""
@@ -170,8 +171,8 @@ class Refusals(unittest.TestCase):
 
     def test_place(self) -> None:
         """Where a note stands: a line, with a path in front, a column behind, or a word."""
-        for text, place in (("line 3: x", "line 3"), ("a.txt: line 3: x: y", "a.txt: line 3"), ("line 2, column Dauer [h]: x", "line 2, column Dauer [h]"),
-                            ("--due: x", "--due"), ("row 4: x", "row 4"), ("cannot read x: y", "")):
+        for text, place in (("line 3: x", "line 3"), ("a.txt: line 3: x: y", "a.txt: line 3"),
+                            ("line 2, column Dauer [h]: x", "line 2, column Dauer [h]"), ("--due: x", "--due"), ("row 4: x", "row 4"), ("cannot read x: y", "")):
             found = PLACE.match(text)
             self.assertEqual(found[1] if found else "", place)
 

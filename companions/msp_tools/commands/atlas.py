@@ -120,7 +120,8 @@ def whole_number(text: str) -> int:
 def words(parser: Parser) -> None:
     """Adds the words."""
     parser.add_argument("--output", metavar="FILE", help="the page")
-    parser.add_argument("--labels", metavar="FILE", help="a CSV file of all classes beside the page: labels, entries that decide, references, solvers")
+    parser.add_argument("--labels", metavar="FILE",
+                        help="a CSV file of all classes beside the page: labels, entries that decide, references, solvers")
     add_results(parser)
     parser.add_argument("--literature", metavar="FILE", help="a bibliography; without it docs/results/literature.bib")
     parser.add_argument("--part", metavar="N", type=whole_number, help="has chains of N classes alone, spread evenly: a small page for a first look")

@@ -111,9 +111,9 @@ class Planner:
 
     def report(self, text: str) -> str:
         """The report of solve on an instance text."""
-        status, report, note = self.program.call(["solve"], text)
-        if status != 0:
-            raise Unplanned(f"{note}: {CURES[status]}" if status in CURES else f"{note} (status {status})")
+        ended, report, note = self.program.call(["solve"], text)
+        if ended != 0:
+            raise Unplanned(f"{note}: {CURES[ended]}" if ended in CURES else f"{note} (status {ended})")
         return report
 
     def plan(self, path: str) -> Planned:

@@ -136,7 +136,7 @@ def found_of(program: Program, kind: ClassName, results: str, given: Instance | 
     return found
 
 
-def answer(wanted: Wanted, tell: Tell) -> Answer:
+def answer(wanted: Wanted, _: Tell) -> Answer:
     """The classes that are meant, and what is known of them."""
     if wanted.instance and (wanted.name or wanted.environment or wanted.criterion):
         raise Misfit("--instance has its class: leave the others out")
@@ -235,6 +235,9 @@ def words(parser: Parser) -> None:
     add_program(parser)
 
 
-COMMAND = Command("choose", "[NAME] [OPTION ..]", SAYS,
-                  "choose 'Pm | r_j, prmp | \\sum w_j C_j'\nchoose --environment identical --criterion makespan\nchoose --instance instance.txt", Wanted, words,
-                  answer, show, status)
+EXAMPLE = r"""
+choose 'Pm | r_j, prmp | \sum w_j C_j'
+choose --environment identical --criterion makespan
+choose --instance instance.txt
+"""
+COMMAND = Command("choose", "[NAME] [OPTION ..]", SAYS, EXAMPLE, Wanted, words, answer, show, status)

@@ -111,13 +111,13 @@ def words(parser: Parser) -> None:
     parser.add_argument("folder", metavar="FOLDER", help="what was handed in")
     parser.add_argument("--best", metavar="COST", help="the least cost, in the units of the instance, where the class has no solver")
     parser.add_argument("--names", metavar="FILE",
-                        help="the file that from-csv --names wrote: jobs are named as in the list, and costs are in its units (with shifts, of working "
-                             "time)")
+                        help="the file that from-csv --names wrote: jobs are named as in the list, and costs are in its units (with shifts, of "
+                             "working time)")
     parser.add_argument("--strict", action="store_true", help="a text is read as `msp check` reads it: nothing is mended")
     parser.add_argument("--decimal", action="store_true",
                         help="fractions are written as decimals of six digits, which spreadsheets do not take for dates")
     add_program(parser)
 
 
-COMMAND = Command("grade", "INSTANCE FOLDER [OPTION ..]", SAYS, "grade sheet-7.txt hand-ins > grades.csv\ngrade sheets hand-ins --strict", Wanted, words,
-                  answer, show, status)
+EXAMPLE = "grade sheet-7.txt hand-ins > grades.csv\ngrade sheets hand-ins --strict"
+COMMAND = Command("grade", "INSTANCE FOLDER [OPTION ..]", SAYS, EXAMPLE, Wanted, words, answer, show, status)

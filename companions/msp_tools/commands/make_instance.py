@@ -263,6 +263,5 @@ def words(parser: Parser) -> None:
     add_program(parser)
 
 
-COMMAND = Command("make-instance", "CLASS JOBS SEED [OPTION ..]", SAYS,
-                  "make-instance '1||sumU' 8 7 --due 0.5 --against usual\nmake-instance 'F2||Cmax' 6 1 --sheets 30 --to sheets", Wanted, words, answer,
-                  show, status)
+EXAMPLE = "make-instance '1||sumU' 8 7 --due 0.5 --against usual\nmake-instance 'F2||Cmax' 6 1 --sheets 30 --to sheets"
+COMMAND = Command("make-instance", "CLASS JOBS SEED [OPTION ..]", SAYS, EXAMPLE, Wanted, words, answer, show, status)
