@@ -57,7 +57,7 @@
    */
   const ground = it => {
     const colour = it ? getComputedStyle(it).backgroundColor : 'rgb(255, 255, 255)';
-    return it && /, 0\)|transparent/.test(colour) ? ground(it.parentElement) : colour;
+    return it && /^rgba\(.*, 0\)$|transparent/.test(colour) ? ground(it.parentElement) : colour;
   };
   /** @param {Element} it */
   const contrast = it => {
