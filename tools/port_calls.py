@@ -149,5 +149,5 @@ def wide(jobs: int) -> Iterator[Call]:
     """An instance of each solver, on as many machines as there may be."""
     for name in solved():
         more = ["--machines", str(MOST_MACHINES)] if name.split("|")[0] in ("P", "Q", "R", "O", "F", "J") else []
-        words = [str(TOP / "companions" / "make-instance"), name, str(jobs), "1", str(NATIVE), *more]
+        words = [str(TOP / "companions" / "make-instance"), name, str(jobs), "1", "--program", str(NATIVE), *more]
         yield call_of("solve", subprocess.run(words, capture_output=True, check=True).stdout)
