@@ -172,7 +172,8 @@ class Refusals(unittest.TestCase):
     def test_place(self) -> None:
         """Where a note stands: a line, with a path in front, a column behind, or a word."""
         for text, place in (("line 3: x", "line 3"), ("a.txt: line 3: x: y", "a.txt: line 3"),
-                            ("line 2, column Dauer [h]: x", "line 2, column Dauer [h]"), ("--due: x", "--due"), ("row 4: x", "row 4"), ("cannot read x: y", "")):
+                            ("line 2, column Dauer [h]: x", "line 2, column Dauer [h]"),
+                            ("--due: x", "--due"), ("row 4: x", "row 4"), ("cannot read x: y", "")):
             found = PLACE.match(text)
             self.assertEqual(found[1] if found else "", place)
 
