@@ -45,7 +45,7 @@ def optimum(inst: Instance, text: bytes) -> Optional[Fraction]:
     if find_target(inst.cls):
         return solve_any(inst).solution.cost
     try:
-        return msp_search.least(msp_search.read(text.decode())[0], most_operations=12).cost
+        return msp_search.least(msp_search.read(text.decode())[0]).cost
     except msp_search.TooLarge:
         return None
 

@@ -1,6 +1,7 @@
 """Random calls of all commands, half of them with a small damage."""
+import re
 from random import Random
-from typing import NamedTuple, Optional
+from typing import NamedTuple
 
 from msp_reference.certificates import CERTIFIED
 from msp_reference.classes import Class
@@ -9,7 +10,7 @@ from msp_reference.dispatch import SOLVED, find_target
 from msp_reference.generate import names_for
 from msp_reference.instance_text import Front, read_front
 from msp_reference.names import name_of
-from msp_reference.schedule import Solution, solution
+from msp_reference.schedule import solution
 from msp_reference.schedule_text import schedule_lines
 
 from .drawing import Sizes, any_class, random_results, random_schedule, small_instance, text_of
@@ -18,6 +19,8 @@ COMMANDS = ("label", "frontier", "why", "solve", "check", "trial", "rows", "cert
 
 _PIECES = (b" ", b"\n", b"0", b"1", b"-", b"/", b"x", b"\xff", b"9" * 45, b"job", b"arc", b"end", b",", b'"', b"\r", b"j1", b"j2",
            b"piece j1 1 1 0 1\n", b"1000000001", b"easy", b"w=", b"|", b"pmtn", b"\n\n", b"2147483648")
+_NUMBERS = (-10 ** 24 - 1, -10 ** 9 - 1, -10 ** 9, -1, 0, 2, 31, 32, 33, 400, 401, 10 ** 6, 10 ** 6 + 1, 10 ** 9, 10 ** 9 + 1, 2 ** 30,
+            10 ** 12 + 1, 10 ** 13, 10 ** 13 + 1, 10 ** 15 + 1, 10 ** 24 + 1, 2 * 10 ** 26 + 1, 10 ** 38)
 _WORDS = (b"--at", b"", b"x", b"1||Cmax", b"P|prec|Cmax", b"0", b"401", b"-1", b"solve", b"\xff", b"1|p=1,p=p|Cmax")
 
 
@@ -35,11 +38,15 @@ def random_call(draw: Random, commands: tuple[str, ...] = COMMANDS) -> Call:
 
 
 def damaged(draw: Random, call: Call) -> Call:
-    """A call with a small damage of its input, or now and then of its words."""
+    """A call with a small damage of its input, often a number at or beyond a limit, or now and then of its words."""
     if draw.random() < 0.15 or not call.text:
         place = draw.randrange(len(call.words) + 1)
         words = draw.choice((_WORDS, call.words))
         return Call(call.words[:place] + (draw.choice(words),) + call.words[place + draw.randint(0, 1):], call.text)
+    numbers = list(re.finditer(rb"(?<=[ =])-?\d+", call.text))
+    if numbers and draw.random() < 0.4:
+        begin, end = draw.choice(numbers).span()
+        return Call(call.words, call.text[:begin] + b"%d" % draw.choice(_NUMBERS) + call.text[end:])
     place = draw.randrange(len(call.text) + 1)
     return Call(call.words, call.text[:place] + draw.choice(_PIECES) + call.text[place + draw.randint(0, 2):])
 
@@ -108,7 +115,7 @@ def schedule_behind(draw: Random, text: bytes) -> bytes:
 def some_schedule(draw: Random, front: Front) -> bytes:
     """The text of some feasible schedule, now and then with another cost."""
     inst = front.filed.instance
-    found: Optional[Solution] = solution(inst, random_schedule(draw, inst))
-    if found and draw.random() < 0.3:
+    found = solution(inst, random_schedule(draw, inst))
+    if draw.random() < 0.3:
         found = found._replace(cost=found.cost + draw.choice((-1, 1)))
-    return "".join(line + "\n" for line in schedule_lines(names_for(len(inst.jobs)), found)).encode() if found else b""
+    return "".join(line + "\n" for line in schedule_lines(names_for(len(inst.jobs)), found)).encode()

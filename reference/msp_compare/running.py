@@ -15,6 +15,7 @@ class Comparison(NamedTuple):
     words: str
     turns: int
     judge: Callable[[int], Optional[str]]
+    stops: bool = False                         # at the first difference
 
 
 _RUNNING: list[Comparison] = []                 # the comparison of this process, which the processes that it forks inherit
@@ -47,15 +48,18 @@ def run(comparison: Comparison, only: Optional[int], processes: int) -> int:
         print(found if found else "equal")
         return 1 if found else 0
     begun = time.monotonic()
+    done = 0
     chunk = max(1, min(50, comparison.turns // (8 * processes)))
     with multiprocessing.get_context("fork").Pool(processes) as pool:
         for done, (turn, found) in enumerate(pool.imap_unordered(_turn, range(comparison.turns), chunk), 1):
             if found:
                 failed[turn] = found
             _show(done, comparison.turns, len(failed), begun)
+            if failed and comparison.stops:
+                break
     for turn in sorted(failed)[:SHOWN]:
         print(f"reference/compare {comparison.words} --only {turn}\n{failed[turn]}\n")
     if len(failed) > SHOWN:
         print(f"and {len(failed) - SHOWN} more\n")
-    print(f"{comparison.turns - len(failed)} passed, {len(failed)} failed")
+    print(f"{done - len(failed)} passed, {len(failed)} failed")
     return 1 if failed else 0

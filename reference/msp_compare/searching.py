@@ -13,10 +13,10 @@ from .judging import shown
 from .program import Program
 
 _UNCUT = Sizes(jobs=5, time=4)
-_CUT = Sizes(jobs=3, time=3, date=4, speed=2)
-_SHOP = Sizes(jobs=4, time=3, date=4)
-_CUT_SHOP = Sizes(jobs=3, time=2, date=3, machines=2)
-_MOST_VECTORS = 1500            # of work that is left, on a grid
+_CUT = Sizes(jobs=4, time=4, date=5, speed=2)
+_SHOP = Sizes(jobs=5, time=4, date=5)
+_CUT_SHOP = Sizes(jobs=3, time=3, date=3, machines=2)
+_MOST_VECTORS = 5000            # of work that is left, on a grid
 
 
 def _instance_text(draw: Random, cls: Class) -> bytes:
