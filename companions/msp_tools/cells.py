@@ -118,8 +118,8 @@ class Cells:
         """The date that a text spells, with a weekday in front and a clock time behind it, or a clock time alone, which is one of the day
         of the start; None of another text. A Fault where there is no such date, or the weekday is another one."""
         text = " ".join(text.split())
-        if is_date(text):
-            return Date(moment_of(text, where), ":" in text)
+        if "+" in text and is_date(text):
+            return Date(moment_of(text, where), True)
         weekday, rest = weekday_of(text)
         rest, clock = clock_of(rest)
         if clock and not rest and weekday is None:

@@ -68,7 +68,9 @@ def left_out(header: Header, table: Table, used: set[str], kind: ClassName, told
     for it in header.columns:
         # (spreadsheets write columns without a name and a field at the right)
         below = [record.fields[it.place] for record in table.records if record.line > header.line and len(record.fields) > it.place]
-        if it.key not in used and (it.header or any(map(str.strip, below))):
+        filled = any(map(str.strip, below))
+        # (an order that the class does not know is refused)
+        if it.key not in used and (it.header or filled) and not (it.key == "after" and filled):
             why = reason(it.key, kind) if it.key else "--column names another one" if it.header else "it has no name"
             lines.append(f"column {it.header or it.place + 1} is left out: {why}")
     if lines and told.strict:

@@ -14,7 +14,7 @@ from .judging import Verdict, Words, judge
 from .program import Program
 from .schedules import Piece, Schedule, read_schedule, text_of
 from .texts import Instance, read_instance, read_instance_at
-from .units import Units
+from .units import Spoken, Units
 
 MOST_PAUSES = {False: 3, True: 100}  # (of a piece, in a table and in a file)
 
@@ -46,7 +46,7 @@ def need_jobs(instance: Instance | None, schedule: Schedule) -> None:
 
 def judged(pieces: list[Piece], instance: Instance, units: Units, program: Program) -> Verdict:
     """What `check` says of pieces, in the words of the list."""
-    return judge(program, instance.text(), text_of(pieces, 0), pieces, Words(instance, units, units.names.machines))
+    return judge(program, instance.text(), text_of(pieces, 0), pieces, Words(instance, Spoken(units), units.names.machines))
 
 
 def moved_early(schedule: Schedule, instance: Instance | None, units: Units, program: Callable[[], Program]) -> Schedule:

@@ -294,3 +294,17 @@ class Units:
         if found < 0:
             raise Fault(f"{where}: {text} is before the moment 0")
         return found / self.factor
+
+
+@dataclass(frozen=True)
+class Spoken:
+    """Units as `judging.Words` shows them: jobs by their names in the list, and lengths of time in words."""
+    units: Units
+
+    def job(self, name: str) -> str:
+        """A job's name."""
+        return self.units.job(name)
+
+    def length(self, value: Fraction) -> str:
+        """A length of time."""
+        return self.units.length_in_words(value)

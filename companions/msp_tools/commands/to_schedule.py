@@ -14,7 +14,7 @@ from ..readback import KEYS, PlanReader, schedule_text, settle_operations
 from ..schedules import Piece, cost_of, ends_of
 from ..spreadsheets import table_of
 from ..texts import Instance, read_instance_at
-from ..units import Units, UnitWords, words_of_call
+from ..units import Spoken, Units, UnitWords, words_of_call
 from .frame import Command, Parser, Tell, add_program
 from .unit_words import add_units
 
@@ -89,7 +89,7 @@ def answer(wanted: Wanted, tell: Tell) -> Answer:
     text = schedule_text(pieces, cost_to_state(pieces, instance, wanted.cost, tell))
     if not wanted.check:
         return Answer(text)
-    words_of_plan = Words(instance, units, units.names.machines)
+    words_of_plan = Words(instance, Spoken(units), units.names.machines)
     verdict = judge(need_program(wanted.program), instance.text(), text, sorted(pieces, key=lambda it: (it.start, it.machine)), words_of_plan)
     cost = None if verdict.cost is None else units.cost(verdict.cost, instance.kind.criterion)
     return Answer(text, True, verdict.feasible, cost, verdict.broken or None)
