@@ -1,6 +1,6 @@
 # Each piece as early as its machine, its job and what comes before it allow; the cost is that of check.
 printf 'msp 1\nclass P|pmtn,r|Cmax\nmachines 3\njob a p=1 r=100\njob b p=20 r=0\njob c p=15 r=0\njob d p=15 r=0\nend\n' > late.txt
-msp solve < late.txt > late.report
+printf 'schedule\ncost 101\nunit 1\npiece b 1 1 81 100\npiece d 1 2 81 85\npiece c 1 2 85 100\npiece d 1 3 90 101\npiece a 1 1 100 101\npiece b 1 2 100 101\nend\n' > late.report
 plan late.report --instance late.txt --csv
 plan late.report --instance late.txt --early
 plan late.report --instance late.txt --early --csv | { cat late.txt; to-schedule late.txt; } | msp check | grep '^feasible\|^cost'
