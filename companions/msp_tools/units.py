@@ -307,4 +307,5 @@ class Spoken:
 
     def length(self, value: Fraction) -> str:
         """A length of time."""
-        return self.units.length_in_words(value)
+        spoken = self.units.length_in_words(value)
+        return spoken[: len(spoken) - len(self.units.of_work)] if self.units.time_unit else spoken
