@@ -69,13 +69,28 @@ class Knowledge {
   /**
    * @param {string[]} names the names of labels
    * @param {Told} told
-   * @param {Record<Kind, string[]> | null} other the chains for which `=` stands
+   * @param {Knowledge | null} other whose chains are those for which `=` stands
    */
   constructor(names, told, other) {
     this.labels = Array.from(told.labels, it => names[Number(it)]);
     this.frontier = told.frontier;
-    this.chains = /** @type {Record<Kind, string[]>} */ ({});
-    for (const kind of KINDS) this.chains[kind] = unpacked(told.chains[kind], other ? other[kind] : []);
+    this.packed = told.chains;
+    this.other = other;
+    /** @type {Map<Kind, string[]>} */
+    this.words = new Map();
+  }
+
+  /**
+   * The packed chains of a kind, split when they are first asked for.
+   * @param {Kind} kind
+   * @returns {string[]}
+   */
+  wordsOf(kind) {
+    const known = this.words.get(kind);
+    if (known) return known;
+    const words = unpacked(this.packed[kind], this.other ? this.other.wordsOf(kind) : []);
+    this.words.set(kind, words);
+    return words;
   }
 
   /**
@@ -87,7 +102,7 @@ class Knowledge {
     /** @type {[Kind, Chain][]} */
     const found = [];
     for (const kind of KINDS) {
-      const chain = chainOf(this.chains[kind], kind, at);
+      const chain = chainOf(this.wordsOf(kind), kind, at);
       if (chain) found.push([kind, chain]);
     }
     return found;
@@ -108,34 +123,32 @@ export class Atlas {
   constructor(data) {
     this.data = data;
     this.all = new Knowledge(data.label_names, data, null);
-    this.published = data.published ? new Knowledge(data.label_names, data.published, this.all.chains) : null;
+    this.published = data.published ? new Knowledge(data.label_names, data.published, this.all) : null;
     /** @type {Map<number, number[]>} */
     this.problems = new Map();
     for (const those of data.problems) for (const at of those) this.problems.set(at, those);
-    /** @type {Step[][] | null} */
-    this.steps = null;
-    /** @type {Step[][] | null} */
-    this.back = null;
+    /** @type {string[]} */
+    this.words = [];
+    /** @type {Map<number, Step[]>} */
+    this.steps = new Map();
+    /** How far behind a class those stand to which rows lead, the farthest first. */
+    this.distances = Array.from(new Set(data.pairs.map(([, far]) => far))).sort((one, other) => other - one);
   }
 
   /**
-   * The rows that apply to a class, each with the class to which it leads: at least as hard.
+   * The rows that apply to a class, each with the class to which it leads: at least as hard. They are unpacked when they are first asked for:
+   * numbers of pairs of a row and the distance to the class to which it leads.
    * @param {number} at
    * @returns {Step[]}
    */
   above(at) {
-    if (!this.steps) this.steps = this.data.steps.split(',').map((words, from) => this.stepsIn(words, from));
-    return this.steps[at];
-  }
-
-  /**
-   * The steps of a class in the packed form: numbers of pairs of a row and the distance to the class to which it leads.
-   * @param {string} words
-   * @param {number} from
-   * @returns {Step[]}
-   */
-  stepsIn(words, from) {
-    return words ? words.split(' ').map(it => [this.data.pairs[Number(it)][0], from + this.data.pairs[Number(it)][1]]) : [];
+    const known = this.steps.get(at);
+    if (known) return known;
+    if (!this.words.length) this.words = this.data.steps.split(',');
+    /** @type {Step[]} */
+    const found = this.words[at] ? this.words[at].split(' ').map(it => this.data.pairs[Number(it)]).map(([row, far]) => [row, at + far]) : [];
+    this.steps.set(at, found);
+    return found;
   }
 
   /**
@@ -144,13 +157,12 @@ export class Atlas {
    * @returns {Step[]}
    */
   below(at) {
-    if (!this.back) {
-      /** @type {Step[][]} */
-      const back = NAMES.map(() => []);
-      NAMES.forEach((_, from) => this.above(from).forEach(([row, to]) => back[to].push([row, from])));
-      this.back = back;
+    /** @type {Step[]} */
+    const found = [];
+    for (const from of this.distances.map(far => at - far).filter(it => it >= 0 && it < NAMES.length)) {
+      for (const [row, to] of this.above(from)) if (to === at) found.push([row, from]);
     }
-    return this.back[at];
+    return found;
   }
 
   /**

@@ -45,19 +45,17 @@ export const MACHINES = [
  * @returns {string}
  */
 export function nameOf(parts) {
-  const items = [parts.cut, parts.order, parts.release, parts.times, parts.short].filter(Boolean);
-  return `${parts.environment}|${items.join(',')}|${parts.criterion}`;
+  let items = '';
+  for (const it of [parts.cut, parts.order, parts.release, parts.times, parts.short]) if (it) items += items ? `,${it}` : it;
+  return `${parts.environment}|${items}|${parts.criterion}`;
 }
 
 /** @returns {Parts[]} */
 function allParts() {
-  /** @type {Parts[]} */
-  let found = [{ environment: '', cut: '', order: '', release: '', times: '', short: '', criterion: '' }];
-  found = MACHINES.map(it => ({ ...found[0], ...it }));
-  for (const part of /** @type {Part[]} */ (['cut', 'order', 'release', 'times', 'criterion'])) {
-    found = found.flatMap(it => VALUES[part].map(word => ({ ...it, [part]: word })));
-  }
-  return found;
+  const rests = ITEMS.cut.flatMap(cut => ITEMS.order.flatMap(order => ITEMS.release.flatMap(release => ITEMS.times.flatMap(times =>
+    CRITERIA.map(criterion => ({ cut, order, release, times, criterion }))))));
+  return MACHINES.flatMap(({ environment, short }) => rests.map(({ cut, order, release, times, criterion }) => (
+    { environment, cut, order, release, times, short, criterion })));
 }
 
 /** The parts of each class by its rank, as `msp label` lists them. */
