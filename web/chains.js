@@ -29,33 +29,23 @@ function inPairs(numbers) {
 }
 
 /**
- * The chain of a class among the packed words of a kind, or null. A word is empty, `r` and a record, `!` and a whole chain, or a row and the
+ * The chain of a class by the packed words of a kind, or null. A word is empty, `r` and a record, `!` and a whole chain, or a row and the
  * class whose chain has the rest.
- * @param {string[]} words
+ * @param {(at: number) => string} wordOf
  * @param {Kind} kind
  * @param {number} at
  * @returns {Chain | null}
  */
-export function chainOf(words, kind, at) {
-  const word = words[at];
+export function chainOf(wordOf, kind, at) {
+  const word = wordOf(at);
   if (!word) return null;
   if (word[0] === 'r') return { record: Number(word.slice(1)), start: at, rows: [] };
   if (word[0] === '!') {
     const [record, start, ...rest] = word.slice(1).split(':').map(Number);
     return { record, start, rows: inPairs(rest) };
   }
-  const [row, other] = word.split(':').map(Number), chain = chainOf(words, kind, other);
+  const [row, other] = word.split(':').map(Number), chain = chainOf(wordOf, kind, other);
   if (!chain) return null;
   return leadsToEntry(kind) ? { record: chain.record, start: at, rows: [[row, other], ...chain.rows] }
     : { record: chain.record, start: chain.start, rows: [...chain.rows, [row, at]] };
-}
-
-/**
- * The packed words of a kind, where `=` stands for the word of another table.
- * @param {string} words
- * @param {string[]} other
- * @returns {string[]}
- */
-export function unpacked(words, other) {
-  return words.split(',').map((word, at) => word === '=' ? other[at] : word);
 }

@@ -1,6 +1,6 @@
 // What is known of each class: labels, rows to harder and easier classes, solvers, the frontier.
-import { chainOf, KINDS, unpacked } from './chains.js';
-import { CLASSES, NAMES, nameOf, rankOf } from './names.js';
+import { chainOf, KINDS } from './chains.js';
+import { nameOf, NAMES, partsOf, rankOf } from './names.js';
 
 /** @typedef {import('./chains.js').Step} Step */
 /** @typedef {import('./chains.js').Kind} Kind */
@@ -72,7 +72,7 @@ class Knowledge {
    * @param {Knowledge | null} other whose chains are those for which `=` stands
    */
   constructor(names, told, other) {
-    this.labels = Array.from(told.labels, it => names[Number(it)]);
+    this.labels = told.labels.split('').map(it => names[Number(it)]);
     this.frontier = told.frontier;
     this.packed = told.chains;
     this.other = other;
@@ -81,16 +81,15 @@ class Knowledge {
   }
 
   /**
-   * The packed chains of a kind, split when they are first asked for.
+   * The packed chain of a class, where `=` stands for that of the other results. The words of a kind are split when they are first asked for.
    * @param {Kind} kind
-   * @returns {string[]}
+   * @param {number} at
+   * @returns {string}
    */
-  wordsOf(kind) {
-    const known = this.words.get(kind);
-    if (known) return known;
-    const words = unpacked(this.packed[kind], this.other ? this.other.wordsOf(kind) : []);
-    this.words.set(kind, words);
-    return words;
+  wordOf(kind, at) {
+    let words = this.words.get(kind);
+    if (!words) this.words.set(kind, words = this.packed[kind].split(','));
+    return words[at] === '=' && this.other ? this.other.wordOf(kind, at) : words[at];
   }
 
   /**
@@ -102,7 +101,7 @@ class Knowledge {
     /** @type {[Kind, Chain][]} */
     const found = [];
     for (const kind of KINDS) {
-      const chain = chainOf(this.wordsOf(kind), kind, at);
+      const chain = chainOf(it => this.wordOf(kind, it), kind, at);
       if (chain) found.push([kind, chain]);
     }
     return found;
@@ -214,7 +213,7 @@ export function manyMachines(labels, parts, kind) {
  * @param {number} at
  */
 export function withAnySpeeds(labels, at) {
-  const parts = CLASSES[at];
+  const parts = partsOf(at);
   if (parts.environment[0] !== 'Q' || parts.times !== 'p=1') return -1;
   const other = rankOf(nameOf({ ...parts, times: 'p=p' }));
   return labels[other] === labels[at] ? -1 : other;

@@ -50,19 +50,36 @@ export function nameOf(parts) {
   return `${parts.environment}|${items}|${parts.criterion}`;
 }
 
-/** @returns {Parts[]} */
-function allParts() {
-  const rests = ITEMS.cut.flatMap(cut => ITEMS.order.flatMap(order => ITEMS.release.flatMap(release => ITEMS.times.flatMap(times =>
-    CRITERIA.map(criterion => ({ cut, order, release, times, criterion }))))));
-  return MACHINES.flatMap(({ environment, short }) => rests.map(({ cut, order, release, times, criterion }) => (
-    { environment, cut, order, release, times, short, criterion })));
+/** The items of a name without a bound on operations, and the criteria, in order of rank. */
+const RESTS = ITEMS.cut.flatMap(cut => ITEMS.order.flatMap(order => ITEMS.release.flatMap(release => ITEMS.times.flatMap(times =>
+  CRITERIA.map(criterion => ({ cut, order, release, times, criterion }))))));
+
+const REST_NAMES = RESTS.map(rest => nameOf({ ...rest, environment: '', short: '' }));
+/** The name of each class by its rank, as `msp label` lists them. */
+export const NAMES = MACHINES.flatMap(({ environment, short }) => short ? RESTS.map(rest => nameOf({ ...rest, environment, short }))
+  : REST_NAMES.map(rest => environment + rest));
+/** @type {Map<number, Parts>} */
+const KNOWN = new Map();
+
+/**
+ * The parts of the class of a rank.
+ * @param {number} at
+ * @returns {Parts}
+ */
+export function partsOf(at) {
+  const known = KNOWN.get(at);
+  if (known) return known;
+  const parts = { ...RESTS[at % RESTS.length], ...MACHINES[Math.floor(at / RESTS.length)] };
+  KNOWN.set(at, parts);
+  return parts;
 }
 
-/** The parts of each class by its rank, as `msp label` lists them. */
-export const CLASSES = allParts();
-/** The name of each class by its rank. */
-export const NAMES = CLASSES.map(nameOf);
-const RANKS = new Map(NAMES.map((name, at) => [name, at]));
+/**
+ * The place of each environment, by its name with a bound on operations, and of each rest of a name.
+ * @type {[Map<string, number>, Map<string, number>]}
+ */
+const PLACES = [new Map(MACHINES.map(({ environment, short }, at) => [environment + short, at])),
+  new Map(REST_NAMES.map((rest, at) => [rest, at]))];
 
 /**
  * The rank of a class by its canonical name, or -1 where there is none.
@@ -70,8 +87,10 @@ const RANKS = new Map(NAMES.map((name, at) => [name, at]));
  * @returns {number}
  */
 export function rankOf(name) {
-  const found = RANKS.get(name);
-  return found === undefined ? -1 : found;
+  const bar = name.indexOf('|'), short = /(?:,|\|)n<=2(?=\|)/.test(name) ? 'n<=2' : '', rest = name.slice(bar).replace(short, '').replace(',|', '|');
+  const machines = PLACES[0].get(name.slice(0, bar) + short), place = PLACES[1].get(rest);
+  const at = bar < 0 || machines === undefined || place === undefined ? -1 : machines * RESTS.length + place;
+  return NAMES[at] === name ? at : -1;
 }
 
 /**

@@ -1,5 +1,5 @@
 // Pictures of reductions: which classes stand where, and which rows lead from one to another.
-import { CLASSES, MACHINES, NAMES } from './names.js';
+import { MACHINES, NAMES, partsOf } from './names.js';
 import { ends } from './classes.js';
 
 /** @typedef {import('./classes.js').Atlas} Atlas */
@@ -66,7 +66,7 @@ export function around(atlas, chains, at) {
  */
 export function frontier(atlas, labels, machines) {
   const { environment, short } = MACHINES[machines];
-  const among = NAMES.map((_, at) => at).filter(at => CLASSES[at].environment === environment && CLASSES[at].short === short);
+  const among = NAMES.map((_, at) => at).filter(at => partsOf(at).environment === environment && partsOf(at).short === short);
   const open = ['open', 'pseudo'], easiest = ends(atlas, labels, among, open, false);
   const columns = [ends(atlas, labels, among, ['easy'], true), easiest,
     ends(atlas, labels, among, open, true).filter(at => !easiest.includes(at)), ends(atlas, labels, among, ['weak', 'hard', 'strong'], false)];

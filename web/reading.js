@@ -1,5 +1,5 @@
 // Texts as people write them: a name in three fields in the spellings of docs/notation.md, or words in any order.
-import { CLASSES, ENVIRONMENTS, ITEMS, NAMES, nameOf, rankOf } from './names.js';
+import { ENVIRONMENTS, ITEMS, nameOf, NAMES, partsOf, rankOf } from './names.js';
 
 /** @typedef {import("./names.js").Parts} Parts */
 /** @typedef {import("./names.js").Part} Part */
@@ -364,7 +364,7 @@ export function read(text) {
  */
 export function allowed(wanted) {
   const tests = /** @type {[Part, string[]][]} */ (Object.entries(wanted));
-  return NAMES.map((_, at) => at).filter(at => tests.every(([part, values]) => values.includes(CLASSES[at][part])));
+  return NAMES.map((_, at) => at).filter(at => tests.every(([part, values]) => values.includes(partsOf(at)[part])));
 }
 
 /**

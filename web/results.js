@@ -1,5 +1,5 @@
 // The entries of the results files: their references, how they are found by authors, and lists of classes as CSV, LaTeX and BibTeX.
-import { CLASSES, formula, NAMES } from './names.js';
+import { formula, NAMES, partsOf } from './names.js';
 
 /** @typedef {import('./classes.js').Atlas} Atlas */
 /** @typedef {import('./classes.js').Facts} Facts */
@@ -127,7 +127,7 @@ export function asLatex(atlas, published, those) {
   const told = published && atlas.published || atlas.all;
   const lines = those.map(at => {
     const keys = keysFor(atlas, published, at), solver = atlas.solver(at);
-    const fields = [formula(CLASSES[at]), told.labels[at], keys.length ? `\\cite{${keys.join(',')}}` : '', solver ? solver[0].replace(/_/g, '\\_')
+    const fields = [formula(partsOf(at)), told.labels[at], keys.length ? `\\cite{${keys.join(',')}}` : '', solver ? solver[0].replace(/_/g, '\\_')
       : ''];
     return `  ${fields.join(' & ')} \\\\`;
   });
@@ -135,14 +135,14 @@ export function asLatex(atlas, published, those) {
 }
 
 /**
- * The BibTeX entry for proofs of our own.
+ * The BibTeX entry for proofs of our own, as `cite --bibtex` prints it.
  * @param {Facts} facts
  * @returns {string}
  */
 export function ownBibtex(facts) {
-  const said = facts.citation || { version: '', title: 'msp', author: '', released: '' };
+  const said = facts.citation || { title: 'msp', author: '', released: '' };
   return [`@misc{${OWN_KEY},`, `  author = {{${said.author}}},`, `  title = {${said.title}},`, `  year = {${said.released.slice(0, 4)}},`,
-    `  note = {Version ${said.version}; proofs of the shipped results}`, '}'].join('\n');
+    '  note = {docs/results/proofs-of-results.md: proofs on paper, not refereed}', '}'].join('\n');
 }
 
 /**

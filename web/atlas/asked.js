@@ -1,7 +1,7 @@
 // The view of a text that asks for no single class: what was understood, what not, what is near, and all hits.
 import { manyMachines } from '../classes.js';
 import { element } from '../elements.js';
-import { CLASSES, nameOf, NAMES, rankOf } from '../names.js';
+import { nameOf, NAMES, partsOf, rankOf } from '../names.js';
 import { allowed, asked, near, read } from '../reading.js';
 import { entriesOf } from '../results.js';
 import { badge, classLink, told } from './parts.js';
@@ -47,17 +47,17 @@ export function notUnderstood(reading) {
  * @param {number} at a class of the name with any machines
  */
 function fixedPart(view, reading, fixed, at) {
-  const { labels } = told(view), parts = CLASSES[at], { kind, machines } = fixed, { verdict, by } = manyMachines(labels, parts, kind);
+  const { labels } = told(view), parts = partsOf(at), { kind, machines } = fixed, { verdict, by } = manyMachines(labels, parts, kind);
   const wide = rankOf(nameOf({ ...parts, environment: kind })), rest = NAMES[at].slice(NAMES[at].indexOf('|'));
   const named = (reading.wanted.environment || []).filter(it => it !== kind).map(environment => rankOf(nameOf({ ...parts, environment })));
-  const most = Math.max(...named.map(it => Number(CLASSES[it].environment.slice(1))));
+  const most = Math.max(...named.map(it => Number(partsOf(it).environment.slice(1))));
   const those = machines === null ? `Each number of machines above ${most}` : `${kind}${machines}${rest}`;
   const line = element('p', { class: 'verdict' }, `${those}: `, verdict === 'unknown' ? element('b', {}, 'unknown here') : badge(verdict), '. ');
   if (verdict === 'easy') line.append('The class that has the number of machines in the input is easy: ', classLink(view, by), '.');
   else if (by >= 0) line.append('A class on fewer machines is hard, and further machines can stand idle: ', classLink(view, by), '.');
   else line.append('This fixed number has no name in the notation, and no row leads to it. ', ...(machines === null ? [] : ['Its neighbours:']));
   const list = element('ul', { class: 'plain' }, ...named.map(it => element('li', {},
-    `${most > 1 ? CLASSES[it].environment.slice(1) : ''} machines: `, classLink(view, it))),
+    `${most > 1 ? partsOf(it).environment.slice(1) : ''} machines: `, classLink(view, it))),
     element('li', {}, 'the number of machines in the input: ', classLink(view, wide)));
   return element('div', { class: 'fixed' }, line, list);
 }
@@ -93,7 +93,7 @@ export function askedView(view, text) {
   }
   if (fixed && reading.whole) {
     const { kind } = fixed, seen = new Set();
-    for (const at of found.filter(it => CLASSES[it].environment[0] === kind)) {
+    for (const at of found.filter(it => partsOf(it).environment[0] === kind)) {
       const rest = NAMES[at].slice(NAMES[at].indexOf('|'));
       if (!seen.has(rest)) head.append(fixedPart(view, reading, fixed, at));
       seen.add(rest);

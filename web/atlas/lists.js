@@ -1,7 +1,7 @@
 // Lists of classes: by label, of the frontier, of a search, of the selection; each can be saved as CSV, as a table of LaTeX and as BibTeX.
 import { FRONTIER, MEANING } from '../classes.js';
 import { element } from '../elements.js';
-import { CLASSES, ENVIRONMENTS, MACHINES } from '../names.js';
+import { ENVIRONMENTS, MACHINES, partsOf } from '../names.js';
 import { frontier } from '../picture.js';
 import { asBibtex, asCsv, asLatex } from '../results.js';
 import { drawn } from './drawing.js';
@@ -116,7 +116,7 @@ export function labelView(view, place) {
   const { labels } = told(view), [wanted, among] = place.split(','), label = labels.includes(wanted) ? wanted : 'open';
   const those = filtered(view, labels.flatMap((it, at) => it === label ? [at] : []));
   /** @type {(environment: string) => number[]} */
-  const on = environment => environment === 'all' ? those : those.filter(at => CLASSES[at].environment === environment);
+  const on = environment => environment === 'all' ? those : those.filter(at => partsOf(at).environment === environment);
   const environments = ['all', ...ENVIRONMENTS].filter(it => it === 'all' ? those.length <= MOST : on(it).length);
   const here = environments.includes(among) ? among : environments[0], shown = view.atlas.data.label_names.filter(it => labels.includes(it));
   return [tabs(view, 'lists', shown.map(it => [it, [dot(it), it]]), label),

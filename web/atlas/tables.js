@@ -1,7 +1,7 @@
 // The parts of a class to pick, and the tables of all classes that differ in two of them.
 import { LETTER } from '../classes.js';
 import { element } from '../elements.js';
-import { changed, CLASSES, CRITERIA, ENVIRONMENTS, ITEMS, MACHINES, nameOf, NAMES, PARTS, rankOf, VALUES } from '../names.js';
+import { changed, CRITERIA, ENVIRONMENTS, ITEMS, MACHINES, nameOf, NAMES, PARTS, partsOf, rankOf, VALUES } from '../names.js';
 import { address, dot, linkTo, named, told } from './parts.js';
 
 /** @typedef {import('./parts.js').View} View */
@@ -39,7 +39,7 @@ function look(view, at) {
  * @param {number} at
  */
 export function picker(view, at) {
-  const parts = CLASSES[at], box = element('section', { 'aria-label': 'Pick the parts' }, element('h3', {}, 'Pick the parts'));
+  const parts = partsOf(at), box = element('section', { 'aria-label': 'Pick the parts' }, element('h3', {}, 'Pick the parts'));
   for (const part of PARTS) {
     if (part === 'short' && parts.environment[0] !== 'J') continue;
     const links = VALUES[part].map(word => {
@@ -80,7 +80,7 @@ function head(scope, text) { return element('th', { scope }, element('span', {},
  * @param {number} at
  */
 function machineTable(view, at) {
-  const parts = CLASSES[at];
+  const parts = partsOf(at);
   const rows = MACHINES.map(({ environment, short }) => element('tr', {}, head('row', `${environment}${short ? ` ${short}` : ''}`),
     ...CRITERIA.map(criterion => cell(view, rankOf(nameOf({ ...parts, environment, short, criterion })), at))));
   return element('table', {}, element('thead', {}, element('tr', {}, element('td', {}), ...CRITERIA.map(it => head('col', it)))), element('tbody',
@@ -94,7 +94,7 @@ function machineTable(view, at) {
  * @param {string} times
  */
 function itemTable(view, at, times) {
-  const parts = CLASSES[at], orders = ['none', 'ch', 'in', 'out', 'prec'];
+  const parts = partsOf(at), orders = ['none', 'ch', 'in', 'out', 'prec'];
   const rows = ITEMS.cut.flatMap(cut => ITEMS.release.map(release => element('tr', {}, head('row', [cut || 'uncut',
     release].filter(Boolean).join(', ')),
     ...ITEMS.order.map(order => cell(view, rankOf(nameOf({ ...parts, cut, release, times, order })), at)))));
@@ -108,7 +108,7 @@ function itemTable(view, at, times) {
  * @param {number} at
  */
 export function maps(view, at) {
-  const parts = CLASSES[at], items = [parts.cut, parts.order, parts.release, parts.times].filter(Boolean).join(',') || 'no items',
+  const parts = partsOf(at), items = [parts.cut, parts.order, parts.release, parts.times].filter(Boolean).join(',') || 'no items',
     counts = told(view).counts();
   const machines = `${parts.environment}${parts.short ? ` ${parts.short}` : ''}`;
   return element('section', { 'aria-label': 'Tables of classes' }, element('h3', {}, 'All machines and criteria, with ', named(items)),

@@ -4,9 +4,9 @@ import { existsSync, readFileSync } from 'node:fs';
 import test from 'node:test';
 import { leadsToEntry } from '../chains.js';
 import { Atlas, ends, manyMachines, withAnySpeeds } from '../classes.js';
-import { CLASSES, MACHINES, NAMES, nameOf, rankOf } from '../names.js';
+import { MACHINES, nameOf, NAMES, partsOf, rankOf } from '../names.js';
 import { around, frontier } from '../picture.js';
-import { asBibtex, asCsv, asLatex, decidedBy, entriesOf } from '../results.js';
+import { asBibtex, asCsv, asLatex, decidedBy, entriesOf, ownBibtex } from '../results.js';
 
 const page = readFileSync(new URL('../../released/atlas.html', import.meta.url), 'utf8');
 const found = page.match(/<script id="data" type="application\/json">(.*?)<\/script>/s);
@@ -59,7 +59,7 @@ const FIXED = [
 
 test('a fixed number of machines above those of the notation', () => {
   for (const [kind, rest, verdict, by] of FIXED) {
-    const said = manyMachines(labels, CLASSES[rankOf(`${kind}${rest}`)], kind);
+    const said = manyMachines(labels, partsOf(rankOf(`${kind}${rest}`)), kind);
     assert.deepEqual([said.verdict, said.by < 0 ? '' : NAMES[said.by]], [verdict, by], kind + rest);
   }
 });
@@ -77,7 +77,7 @@ test('published results alone: 51 entries less, 1,437 classes open', { skip: apa
 });
 
 test('the picture of a frontier: below or above an end stands each class with its label', () => {
-  const machines = MACHINES.findIndex(it => it.environment === 'P2'), among = NAMES.map((_, at) => at).filter(at => CLASSES[at].environment === 'P2');
+  const machines = MACHINES.findIndex(it => it.environment === 'P2'), among = NAMES.map((_, at) => at).filter(at => partsOf(at).environment === 'P2');
   const easy = ends(atlas, labels, among, ['easy'], true), hard = ends(atlas, labels, among, ['weak', 'hard', 'strong'], false);
   for (const at of among) {
     if (labels[at] === 'easy') assert.ok(easy.some(it => atlas.reached(at).has(it)), NAMES[at]);
@@ -117,10 +117,15 @@ test('lists as CSV, LaTeX and BibTeX', () => {
   for (const [, keys] of latex.matchAll(/\\cite\{([^}]*)\}/g)) for (const key of keys.split(',')) assert.ok(bibtex.includes(`{${key},`), key);
 });
 
+test('the entry for proofs of our own is that of cite', { skip: data.citation ? false : 'the released page has no citation' }, () => {
+  const cite = readFileSync(new URL('../../companions/msp_tools/commands/cite.py', import.meta.url), 'utf8');
+  assert.ok(cite.includes(`OUR_ENTRY = """${ownBibtex(data)}"""`), ownBibtex(data));
+});
+
 const listed = new URL('../../released/labels.csv', import.meta.url);
 
 test('the list of all labels is that of the page', { skip: existsSync(listed) ? false : 'released/labels.csv is not here' }, () => {
   assert.ok(asCsv(atlas, NAMES.map((_, at) => at)) === readFileSync(listed, 'utf8'), 'released/labels.csv differs from the page');
 });
 
-test('each class has parts that give its name', () => { NAMES.forEach((name, at) => assert.equal(nameOf(CLASSES[at]), name)); });
+test('each class has parts that give its name', () => { NAMES.forEach((name, at) => assert.equal(nameOf(partsOf(at)), name)); });
