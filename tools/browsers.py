@@ -85,6 +85,8 @@ def driven() -> Iterator[None]:
         yield
     except library("selenium.common.exceptions").WebDriverException as fault:
         raise Failed(f"chromium: {fault.msg}") from None
+    except (OSError, library("urllib3.exceptions").HTTPError) as fault:
+        raise Failed(f"chromium ended: {fault}") from None
 
 
 class Chromium:
@@ -141,6 +143,7 @@ class Chromium:
         """Writes what is seen."""
         file.write_bytes(self.driver.get_screenshot_as_png())
 
+    @driven()
     def close(self) -> None:
         """Ends the browser."""
         self.driver.quit()
@@ -182,11 +185,13 @@ class Channel:
         """The answer to a command; events are left alone."""
         self.number += 1
         command = json.dumps({"id": self.number, "method": method, "params": how})
-        self.stream.sendall(self.connection.send(self.kinds.TextMessage(command)))
-        while True:
+        try:
+            self.stream.sendall(self.connection.send(self.kinds.TextMessage(command)))
             answer = self.message()
-            if answer.get("id") == self.number:
-                break
+            while answer.get("id") != self.number:
+                answer = self.message()
+        except (OSError, library("wsproto.utilities").ProtocolError) as fault:
+            raise Failed(f"firefox ended: {method}: {fault}") from None
         if "error" in answer:
             raise Failed(f"{method}: {answer['error']}: {answer.get('message')}")
         return answer["result"]
