@@ -70,6 +70,8 @@
     .filter(it => contrast(it) < 4.5).map(it => `${it.className} ${(it.textContent || '').slice(0, 30)} ${contrast(it)}`);
   const small = () => Array.from(document.querySelectorAll('.cell, .pick, button'), it => it.getBoundingClientRect())
     .filter(it => it.width && (it.width < 24 || it.height < 24)).map(it => `${it.width} x ${it.height}`);
+  /** What lies below the screen is drawn, too, and so is measured. */
+  const whole = () => document.querySelectorAll('section').forEach(it => it.style.setProperty('content-visibility', 'visible'));
   /** @param {string} name */
   const file = name => {
     const button = document.querySelector(`[data-file="${name}"]`);
@@ -77,5 +79,5 @@
     const area = document.querySelector('textarea');
     return area ? area.value : '';
   };
-  Object.assign(window.trial, { poor, small, file });
+  Object.assign(window.trial, { poor, small, whole, file });
 })();
