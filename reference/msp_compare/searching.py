@@ -16,7 +16,7 @@ _UNCUT = Sizes(jobs=5, time=4)
 _CUT = Sizes(jobs=4, time=4, date=5, speed=2)
 _SHOP = Sizes(jobs=5, time=4, date=5)
 _CUT_SHOP = Sizes(jobs=3, time=3, date=3, machines=2)
-_MOST_VECTORS = 5000            # of work that is left, on a grid
+_MOST_VECTORS = 2500            # of work that is left, on a grid
 
 
 def _instance_text(draw: Random, cls: Class) -> bytes:
@@ -27,8 +27,11 @@ def _instance_text(draw: Random, cls: Class) -> bytes:
     while True:
         inst = small_instance(draw, cls, sizes)
         operations = sum(time > 0 for job in inst.jobs for _, time in job.needs)
-        if cls.env in ONE_OPERATION or operations <= msp_search.MOST_OPERATIONS:
-            return text_of(inst)
+        if cls.env not in ONE_OPERATION and operations > msp_search.MOST_OPERATIONS:
+            continue
+        text = text_of(inst)
+        if not cls.cut or grid_size(msp_search.read(text.decode())[0], 1) <= _MOST_VECTORS:
+            return text
 
 
 def _parts(problem: msp_search.Problem, unit: int) -> int:
