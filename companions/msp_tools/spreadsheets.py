@@ -85,7 +85,7 @@ def separator_of(text: str) -> str:
     for mark in "\t;,":
         often = [it.count(mark) for it in lines if mark in it]
         alike = max(map(often.count, often), default=0)
-        if (alike, len(often)) > most:
+        if often and (mark in lines[0] or 2 * len(often) > len(lines)) and (alike, len(often)) > most:
             best, most = mark, (alike, len(often))
     return best
 
