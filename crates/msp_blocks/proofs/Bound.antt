@@ -7,12 +7,12 @@ use Rattle.msp_class.proofs.IntegerRing.{≤ℤ_of_same, ≤ℤ_trans, ≤ℤ_an
 use Rattle.msp_instance.specs.declared.Instance.{Instance}
 use Rattle.msp_instance.specs.Instance.{job_at}
 use Rattle.msp_instance.specs.Conditions.{Inner}
-use Rattle.msp_schedule.specs.declared.Schedule.{Schedule}
-use Rattle.msp_schedule.specs.Blocks.{cost_at}
-use Rattle.msp_schedule.specs.Cost.{Best, end_of, job_cost, cost_of}
-use Rattle.msp_schedule.specs.Feasible.{Feasible}
-use Rattle.msp_schedule.proofs.bounds.Certified.{law_of_blocks}
-use Rattle.msp_schedule.proofs.costs.Charges.{job_cost-mono, charge_of, cost_of-least}
+use Rattle.msp_pieces.specs.declared.Schedule.{Schedule}
+use Rattle.msp_pieces.specs.Blocks.{cost_at}
+use Rattle.msp_pieces.specs.Cost.{Best, end_of, job_cost, cost_of}
+use Rattle.msp_pieces.specs.Feasible.{Feasible}
+use Rattle.msp_pieces.proofs.bounds.Certified.{law_of_blocks}
+use Rattle.msp_pieces.proofs.costs.Charges.{job_cost-mono, charge_of, cost_of-least}
 use Rattle.msp_blocks.specs.Blocks.{IsBestCost}
 use Rattle.msp_blocks.specs.Filling.{IsBound}
 

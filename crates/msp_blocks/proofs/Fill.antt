@@ -12,16 +12,16 @@ use Rattle.msp_instance.specs.declared.Arc.{Arc}
 use Rattle.msp_instance.specs.Paths.{HasStep, HasPath, one, more}
 use Rattle.msp_instance.proofs.ListingLemmas.{list_any-from_Contains, Contains-from_list_any}
 use Rattle.msp_instance.specs.declared.Instance.{Instance}
-use Rattle.msp_schedule.specs.declared.Piece.{Piece}
-use Rattle.msp_schedule.specs.Blocks.{cost_at, total_time, HasNoSuccessor, LeadsToNone, IsSound}
-use Rattle.msp_schedule.specs.Intervals.{IsApart, size_of, work_of}
-use Rattle.msp_schedule.proofs.judging.JobShares.{filter_none, filter_whole}
-use Rattle.msp_schedule.specs.Piece.{job_of, start, finish}
-use Rattle.msp_schedule.specs.BackToBack.{piece, time_at}
-use Rattle.msp_schedule.proofs.feasible.Series.{AllPairs-append}
+use Rattle.msp_pieces.specs.declared.Piece.{Piece}
+use Rattle.msp_pieces.specs.Blocks.{cost_at, total_time, HasNoSuccessor, LeadsToNone, IsSound}
+use Rattle.msp_pieces.specs.Intervals.{IsApart, size_of, work_of}
+use Rattle.msp_instance.proofs.ArcLemmas.{filter_none, filter_all}
+use Rattle.msp_pieces.specs.Piece.{job_of, start, finish}
+use Rattle.msp_pieces.specs.BackToBack.{piece, time_at}
+use Rattle.msp_pieces.proofs.feasible.Series.{AllPairs-append}
 use Rattle.msp_route.specs.LastJob.{EndsAt, CostsLess}
-use Rattle.msp_schedule.proofs.lists.Intervals.{piece_of}
-use Rattle.msp_schedule.proofs.lists.Parts.{All-front, AllPairs-front, AllPairs-back}
+use Rattle.msp_pieces.proofs.lists.Intervals.{piece_of}
+use Rattle.msp_pieces.proofs.lists.Parts.{All-front, AllPairs-front, AllPairs-back}
 use Rattle.msp_blocks.specs.Filling.{done_by, busy_until, Follow, gaps, IsPut, IsFilling, IsBound, CostAtMost}
 use Rattle.msp_blocks.proofs.Lists.{All-without, All-at, AllPairs-without, Contains-with, Contains-at, Contains-without, Contains-once}
 use Rattle.msp_blocks.proofs.Idle.{done-mono, done-tight, busy-mono, busy-append, busy-done, busy-without, Follow-append, Follow-heads, around, gaps-inside, gaps-made, gaps-apart}
@@ -39,7 +39,7 @@ work_of-none ps j h = ap (sum_by (size_of start finish)) (filter_none (λ q. eqb
     no m n = elim (cases_Bool (eqb m j)) [ inl e ↦ absurd (n (eqb-true m j e)) | inr e ↦ e ]
 
 work_of-own : (ps : List Piece) (j : ℕ) → All (λ p. p.job ≡ j) ps → work_of job_of start finish ps j ≡ sum_by (size_of start finish) ps
-work_of-own ps j h = ap (sum_by (size_of start finish)) (filter_whole (λ q. eqb (job_of q) j) ps (λ k d l. eq-eqb _ _ (h k d l)))
+work_of-own ps j h = ap (sum_by (size_of start finish)) (filter_all (λ q. eqb (job_of q) j) ps (λ k d l. eq-eqb _ _ (h k d l)))
 
 -- one more job is placed: jobs that are left before and now, pieces before and now, and the block with what the job costs at its end
 pub record IsOneMore (i : Instance) (head : ℕ → ℕ) (greatest : ℕ) (heads left now : List ℕ) (ps new : List Piece) (jobs : List ℕ) (cost : ℤ) : Type 0 where

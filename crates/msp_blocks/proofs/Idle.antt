@@ -5,11 +5,11 @@ use Rattle.std.proofs.lemmas.Bool.{cases_Bool, cases_lt, ltb-true, ltb-false}
 use Rattle.std.proofs.lemmas.List.Sums.{sum_by-cons, sum_by-append}
 use Rattle.std.proofs.lemmas.List.Elements.{All-nil, All-cons, All-head, All-tail, All-append, All-weaker}
 use Rattle.msp_class.proofs.Sums.{AllPairs-head, AllPairs-tail}
-use Rattle.msp_schedule.specs.declared.Piece.{Piece}
-use Rattle.msp_schedule.specs.Intervals.{IsApart, size_of}
-use Rattle.msp_schedule.specs.Piece.{start, finish}
-use Rattle.msp_schedule.specs.BackToBack.{piece}
-use Rattle.msp_schedule.proofs.feasible.Series.{AllPairs-append}
+use Rattle.msp_pieces.specs.declared.Piece.{Piece}
+use Rattle.msp_pieces.specs.Intervals.{IsApart, size_of}
+use Rattle.msp_pieces.specs.Piece.{start, finish}
+use Rattle.msp_pieces.specs.BackToBack.{piece}
+use Rattle.msp_pieces.proofs.feasible.Series.{AllPairs-append}
 use Rattle.msp_blocks.specs.Filling.{done_by, busy_until, Follow, gap, gaps}
 
 ltb-yes : {a b : ℕ} → a < b → ltb a b ≡ true

@@ -18,17 +18,17 @@ use Rattle.msp_class.proofs.Sums.{OnceBelow-from_permutation, OnceBelow-distinct
 use Rattle.msp_instance.specs.declared.Instance.{Instance}
 use Rattle.msp_instance.specs.Instance.{job_at, need_at, no_job, no_need}
 use Rattle.msp_instance.specs.Conditions.{HasSameTimes, Inner}
-use Rattle.msp_schedule.specs.declared.Piece.{Piece}
-use Rattle.msp_schedule.specs.declared.Schedule.{Schedule}
-use Rattle.msp_schedule.specs.Piece.{length_of, pieces_of, IsBefore, start, finish, IsTimed}
-use Rattle.msp_schedule.specs.Feasible.{Feasible, HasPlace, HasOperation, MayRun, FollowsRoute, GetsWork, IsWholeWork, total, whole_work, work_of as part_of}
-use Rattle.msp_schedule.specs.Cost.{Best, end_of}
-use Rattle.msp_schedule.specs.Within.{IsMoment, Within}
-use Rattle.msp_schedule.specs.Intervals.{size_of}
-use Rattle.msp_schedule.proofs.feasible.OneMachine.{apart_in_int, pieces_of-job, total_lengths}
-use Rattle.msp_schedule.specs.BackToBack.{time_at}
-use Rattle.msp_schedule.proofs.feasible.LastEnds.{last_end-least}
-use Rattle.msp_schedule.specs.Blocks.{cost_at}
+use Rattle.msp_pieces.specs.declared.Piece.{Piece}
+use Rattle.msp_pieces.specs.declared.Schedule.{Schedule}
+use Rattle.msp_pieces.specs.Piece.{length_of, pieces_of, IsBefore, start, finish, IsTimed}
+use Rattle.msp_pieces.specs.Feasible.{Feasible, HasPlace, HasOperation, MayRun, FollowsRoute, GetsWork, IsWholeWork, total, whole_work, work_of as part_of}
+use Rattle.msp_pieces.specs.Cost.{Best, end_of}
+use Rattle.msp_pieces.specs.Within.{IsMoment, Within}
+use Rattle.msp_pieces.specs.Intervals.{size_of}
+use Rattle.msp_pieces.proofs.feasible.OneMachine.{apart_in_int, pieces_of-job, total_lengths}
+use Rattle.msp_pieces.specs.BackToBack.{time_at}
+use Rattle.msp_pieces.proofs.feasible.LastEnds.{last_end-least}
+use Rattle.msp_pieces.specs.Blocks.{cost_at}
 use Rattle.msp_route.specs.declared.bounds.TheConstants.{GREATEST_ANSWER_MOMENT}
 use Rattle.msp_route.specs.Bounds.{IsAnswer, answer_unit}
 use Rattle.msp_blocks.specs.Blocks.{IsBestCost}

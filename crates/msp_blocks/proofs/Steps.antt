@@ -7,9 +7,9 @@ use Rattle.std.proofs.lemmas.List.{take-take, drop_all, length-drop, get_or-drop
 use Rattle.std.proofs.lemmas.List.Edits.{remove-append_left}
 use Rattle.std.proofs.lemmas.List.Sums.{sum_by-cons, sum_by-append, sum_by_more}
 use Rattle.msp_instance.specs.declared.Instance.{Instance}
-use Rattle.msp_schedule.specs.declared.Piece.{Piece}
-use Rattle.msp_schedule.specs.Blocks.{cost_at}
-use Rattle.msp_schedule.specs.BackToBack.{time_at}
+use Rattle.msp_pieces.specs.declared.Piece.{Piece}
+use Rattle.msp_pieces.specs.Blocks.{cost_at}
+use Rattle.msp_pieces.specs.BackToBack.{time_at}
 use Rattle.msp_heads.specs.Heads.{AreHeads}
 use Rattle.msp_blocks.specs.Filling.{done_by, gap, gaps, Follow, IsFirstBlock, IsFilling, IsBound, CostAtMost, greatest_end}
 use Rattle.msp_route.specs.LastJob.{EndsAt}

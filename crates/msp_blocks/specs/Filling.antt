@@ -2,11 +2,11 @@
 use Rattle.std.specs.Prelude.{◌≡◌, ◌≢◌, ℕ, ◌+◌, ◌*◌, ◌<◌, ◌≤◌, max, cond, ltb, List, [], ◌∷◌, ◌++◌, length, take, slice_index_or, ℤ, ◌≤ℤ◌, All, AllPairs, Contains, sum_by, ⊤}
 use Rattle.msp_instance.specs.declared.Instance.{Instance}
 use Rattle.msp_class.specs.declared.sizes.TheConstants.{MOST_JOBS, GREATEST}
-use Rattle.msp_schedule.specs.declared.Piece.{Piece}
-use Rattle.msp_schedule.specs.Blocks.{IsBlock, IsBlockValue, cost_at}
-use Rattle.msp_schedule.specs.Intervals.{IsApart, work_of}
-use Rattle.msp_schedule.specs.Piece.{job_of, start, finish, IsTimed}
-use Rattle.msp_schedule.specs.BackToBack.{piece, time_at}
+use Rattle.msp_pieces.specs.declared.Piece.{Piece}
+use Rattle.msp_pieces.specs.Blocks.{IsBlock, IsBlockValue, cost_at}
+use Rattle.msp_pieces.specs.Intervals.{IsApart, work_of}
+use Rattle.msp_pieces.specs.Piece.{job_of, start, finish, IsTimed}
+use Rattle.msp_pieces.specs.BackToBack.{piece, time_at}
 use Rattle.msp_heads.specs.Heads.{head_in}
 
 -- When jobs that begin at their heads at the earliest are done one after another on a machine that is free from a moment on.

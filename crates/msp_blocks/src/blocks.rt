@@ -4,8 +4,8 @@ ghost use Rattle.msp_class.specs.declared.class.Env.TheVariants.{One};
 ghost use Rattle.msp_class.specs.declared.class.Times.TheVariants.{Unit};
 ghost use Rattle.msp_class.specs.declared.class.Crit.TheVariants.{Fmax};
 ghost use Rattle.msp_instance.specs.Conditions.{Inner};
-ghost use Rattle.msp_schedule.specs.Blocks.{IsBlock, IsBlockValue};
-ghost use Rattle.msp_schedule.specs.Cost.{IsBest};
+ghost use Rattle.msp_pieces.specs.Blocks.{IsBlock, IsBlockValue};
+ghost use Rattle.msp_pieces.specs.Cost.{IsBest};
 ghost use Rattle.msp_route.specs.Bounds.{IsAnswer};
 ghost use Rattle.msp_blocks.specs.Blocks.{blocks_class, unit_blocks_class, IsBestCost};
 ghost use Rattle.msp_heads.specs.Heads.{AreHeads, greatest_head};
@@ -15,8 +15,8 @@ use crate::filling::{Bound, Filled, place_all};
 use msp_class::{Class, Crit, Env, List, NoMemory, Order, Times};
 use msp_heads::heads_of;
 use msp_instance::Instance;
+use msp_pieces::{Piece, Schedule, Solution};
 use msp_route::{Solver, jobs_by_key};
-use msp_schedule::{Piece, Schedule, Solution};
 use std::alloc::Global;
 
 /// The class that is solved with preemption: `1|pmtn,prec,r|fmax`.
@@ -102,7 +102,7 @@ fn schedule_by_blocks(alloc: Global, inst: &Instance) -> Result<BlockSolution, N
         bound,
     } = by_blocks(alloc, inst)?;
     let schedule = Schedule { unit: 1, pieces };
-    let cost = msp_schedule::cost(inst, &schedule);
+    let cost = msp_pieces::cost(inst, &schedule);
     let block = BindingBlock {
         head: List::from_vec(heads),
         jobs: bound.jobs,

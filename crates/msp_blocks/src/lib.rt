@@ -13,7 +13,7 @@
 //! must follow ends at the block's end or later, and costs there at least what the chosen one does. The block of greatest value is evidence
 //! of the cost (`binding`).
 //!
-//! It stands on `msp_schedule`, `msp_heads` and `msp_route`, whose `last_place` chooses the last job of a block as Lawler's rule does. The layers above
+//! It stands on `msp_pieces`, `msp_heads` and `msp_route`, whose `last_place` chooses the last job of a block as Lawler's rule does. The layers above
 //! use the clauses of `Solver`: the answers are best; and those of `binding`, and of `solve_with_block`, which gives it with a best
 //! schedule: a block whose value is the best cost, as evidence of it.
 #![tactic(auto)]

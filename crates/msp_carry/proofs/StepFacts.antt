@@ -2,8 +2,8 @@
 use Rattle.std.proofs.Common.{ℕ, Ok, Err, Result, IfOk}
 use Rattle.msp_class.specs.declared.NoMemory.{NoMemory}
 use Rattle.msp_instance.specs.declared.Instance.{Instance}
-use Rattle.msp_schedule.specs.declared.Solution.{Solution}
-use Rattle.msp_schedule.specs.Cost.{IsSolution, IsBest}
+use Rattle.msp_pieces.specs.declared.Solution.{Solution}
+use Rattle.msp_pieces.specs.Cost.{IsSolution, IsBest}
 use Rattle.msp_route.specs.Law.{IsBack}
 use Rattle.msp_route.specs.Rates.{rate_of}
 use Rattle.msp_route.specs.Bounds.{KeepsBounds}

@@ -1,8 +1,8 @@
 // Along chains of rows: down to the last instance, and back from a solution of it.
 ghost use Rattle.std.specs.Prelude.{◌≡◌, IfOk};
 ghost use Rattle.msp_instance.specs.Conditions.{Inner};
-ghost use Rattle.msp_schedule.specs.Cost.{IsSolution, IsBest};
-ghost use Rattle.msp_schedule.specs.Within.{Within};
+ghost use Rattle.msp_pieces.specs.Cost.{IsSolution, IsBest};
+ghost use Rattle.msp_pieces.specs.Within.{Within};
 ghost use Rattle.msp_table.specs.Rows.{carries};
 ghost use Rattle.msp_table.specs.Chains.{Leads};
 ghost use Rattle.msp_route.specs.Bounds.{IsSized, EndsBy};
@@ -13,8 +13,8 @@ ghost use Rattle.msp_carry.specs.Moments.{moment_over};
 use crate::rows::{back, down};
 use msp_class::{List, NoMemory};
 use msp_instance::Instance;
+use msp_pieces::Solution;
 use msp_route::{Solver, recast};
-use msp_schedule::Solution;
 use msp_table::Row;
 use std::alloc::Global;
 

@@ -1,7 +1,7 @@
 // The carrying rows by their numbers.
 ghost use Rattle.std.specs.Prelude.{◌≡◌, IfOk, IsTrue};
 ghost use Rattle.msp_instance.specs.Conditions.{Inner};
-ghost use Rattle.msp_schedule.specs.Cost.{IsSolution, IsBest};
+ghost use Rattle.msp_pieces.specs.Cost.{IsSolution, IsBest};
 ghost use Rattle.msp_table.specs.Rows.{carries};
 ghost use Rattle.msp_route.specs.Law.{Applies, IsLower, IsBack};
 ghost use Rattle.msp_route.specs.Rates.{rate_of};
@@ -17,11 +17,11 @@ use msp_machines::{
     Row30, Row31, Row32, Row33, Row34, Row35, Row36, Row37, Row38, Row39, Row40, Row41, Row42,
     Row43, Row44,
 };
+use msp_pieces::Solution;
 use msp_plain::{
     Row1, Row2, Row3, Row4, Row5, Row6, Row7, Row8, Row9, Row10, Row11, Row12, Row13, Row14, Row53,
     Row54,
 };
-use msp_schedule::Solution;
 use msp_table::Row;
 use msp_turn::{Row45, Row46, Row47, Row48, Row49, Row50, Row51, Row52};
 use std::alloc::Global;

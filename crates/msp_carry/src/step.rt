@@ -6,8 +6,8 @@ ghost use Rattle.msp_carry.specs.Steps.{ComesFrom, IsBroughtBack};
 
 use msp_class::NoMemory;
 use msp_instance::Instance;
+use msp_pieces::Solution;
 use msp_route::Reduction;
-use msp_schedule::Solution;
 use std::alloc::Global;
 
 /// The lower instance.

@@ -21,12 +21,12 @@ use Rattle.msp_instance.specs.Instance.{no_job, no_need, job_at, need_at}
 use Rattle.msp_instance.specs.Conditions.{LiesWithin, HasCurve, InClass, text_limits}
 use Rattle.msp_instance.specs.declared.path_bits.Paths.{Paths}
 use Rattle.msp_instance.specs.Paths.{HasPath, ShowsPaths, leads}
-use Rattle.msp_schedule.specs.declared.Frac.{Frac}
-use Rattle.msp_schedule.specs.Blocks.{IsSound, LeadsToNone, IsBlockValue, total_time, cost_at}
-use Rattle.msp_schedule.specs.Cost.{jump, jumps, job_cost}
-use Rattle.msp_schedule.specs.Within.{HasSmallCost}
-use Rattle.msp_schedule.proofs.costs.Jumps.{jumps_le}
-use Rattle.msp_schedule.proofs.costs.Small.{FitTogether, HasSmallCost-from, product_within}
+use Rattle.msp_pieces.specs.declared.Frac.{Frac}
+use Rattle.msp_pieces.specs.Blocks.{IsSound, LeadsToNone, IsBlockValue, total_time, cost_at}
+use Rattle.msp_pieces.specs.Cost.{jump, jumps, job_cost}
+use Rattle.msp_pieces.specs.Within.{HasSmallCost}
+use Rattle.msp_pieces.proofs.costs.Jumps.{jumps_le}
+use Rattle.msp_pieces.proofs.costs.Small.{FitTogether, HasSmallCost-from, product_within}
 use Rattle.msp_cert.specs.declared.Proof.TheVariants.{Block}
 use Rattle.msp_cert.specs.Certificates.{IsBlockOf, of_job}
 use Rattle.msp_cert.specs.Worth.{IsWorth, greatest_value, latest_end}

@@ -10,9 +10,9 @@ use Rattle.msp_instance.specs.declared.Need.{Need}
 use Rattle.msp_instance.specs.Instance.{job_at}
 use Rattle.msp_instance.specs.declared.Job.{Job}
 use Rattle.msp_instance.specs.declared.Instance.{Instance}
-use Rattle.msp_schedule.specs.declared.Frac.{Frac}
-use Rattle.msp_schedule.specs.Levels.{level_bound}
-use Rattle.msp_schedule.specs.Blocks.{IsBlockValue, LeadsToNone, cost_at, total_time}
+use Rattle.msp_pieces.specs.declared.Frac.{Frac}
+use Rattle.msp_pieces.specs.Levels.{level_bound}
+use Rattle.msp_pieces.specs.Blocks.{IsBlockValue, LeadsToNone, cost_at, total_time}
 use Rattle.msp_cert.specs.declared.Proof.{Proof}
 use Rattle.msp_cert.specs.declared.Proof.TheVariants.{Group, Machine, Line, Levels, Segments, Block, Prices}
 use Rattle.msp_cert.specs.Certificates.{speeds_of, IsSpeedOfFastest, IsGroup, AreSteps, of_job, HoldsFor, IsValue, IsShown}

@@ -13,7 +13,7 @@ use Rattle.msp_instance.specs.Conditions.{InClass, HasShape, HasSpeeds, text_lim
 use Rattle.std.proofs.lemmas.List.Sorted.{All-permutation, length_permutation}
 use Rattle.std.proofs.lemmas.List.FromFn.{get_or-map-range_with_len}
 use Rattle.msp_class.specs.declared.sizes.TheConstants.{MOST_MACHINES, MOST_OPERATIONS, GREATEST, GREATEST_SPEED}
-use Rattle.msp_schedule.specs.Speeds.{HaveSpeeds, speed_by, speed_of}
+use Rattle.msp_pieces.specs.Speeds.{HaveSpeeds, speed_by, speed_of}
 use Rattle.msp_cert.specs.Certificates.{speeds_of}
 use Rattle.msp_cert.proofs.Soundness.{speeds_many, speed_some}
 use Rattle.msp_cert.specs.Small.{HasSmallNeeds}

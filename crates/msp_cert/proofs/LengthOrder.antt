@@ -9,7 +9,7 @@ use Rattle.std.specs.List.Sorted.{IsSortedBy}
 use Rattle.std.proofs.lemmas.Cmp.{ranked, nat_cmp_total, on_total, then_total, back_total}
 use Rattle.std.proofs.lemmas.List.Sorted.{sorted_far, ranks_by}
 use Rattle.msp_class.proofs.Sums.{OnceBelow-range, OnceBelow-distinct}
-use Rattle.msp_schedule.proofs.lists.Permuted.{AllPairs-permutation}
+use Rattle.msp_pieces.proofs.lists.Permuted.{AllPairs-permutation}
 
 -- two different jobs, of which the second does not stand first
 stands_first : (t u j k : ℕ) (x y : Ordering) → MatchOrdering x (t < u) (t ≡ u) (u < t)

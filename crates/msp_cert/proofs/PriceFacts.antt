@@ -16,11 +16,11 @@ use Rattle.msp_instance.specs.declared.Instance.{Instance}
 use Rattle.msp_instance.specs.Instance.{no_job, job_at}
 use Rattle.msp_instance.specs.Conditions.{LiesWithin, HasShape, InClass}
 use Rattle.msp_instance.proofs.PathBitLemmas.{row_inside}
-use Rattle.msp_schedule.specs.declared.Frac.{Frac}
-use Rattle.msp_schedule.specs.Feasible.{total}
-use Rattle.msp_schedule.specs.Prices.{prices_on_machine, all_prices}
-use Rattle.msp_schedule.proofs.feasible.OneMachine.{total-below}
-use Rattle.msp_schedule.proofs.bounds.PriceBounds.{total_over_range}
+use Rattle.msp_pieces.specs.declared.Frac.{Frac}
+use Rattle.msp_pieces.specs.Feasible.{total}
+use Rattle.msp_pieces.specs.Prices.{prices_on_machine, all_prices}
+use Rattle.msp_pieces.proofs.feasible.OneMachine.{total-below}
+use Rattle.msp_pieces.proofs.bounds.PriceBounds.{total_over_range}
 use Rattle.msp_cert.specs.declared.limits.TheConstants.{GREATEST_PRICE}
 use Rattle.msp_cert.specs.declared.Proof.TheVariants.{Prices}
 use Rattle.msp_cert.specs.Worth.{IsWorth}

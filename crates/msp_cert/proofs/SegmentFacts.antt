@@ -10,7 +10,7 @@ use Rattle.msp_class.proofs.Sums.{sum_by-contains}
 use Rattle.msp_instance.specs.declared.Instance.{Instance}
 use Rattle.msp_instance.specs.declared.path_bits.Paths.{Paths}
 use Rattle.msp_instance.specs.Paths.{ShowsPaths}
-use Rattle.msp_schedule.specs.Segments.{LeadTo, AreSegments}
+use Rattle.msp_pieces.specs.Segments.{LeadTo, AreSegments}
 use Rattle.msp_cert.specs.declared.limits.TheConstants.{MOST_ENTRIES}
 use Rattle.msp_cert.specs.Small.{ShowLeads}
 

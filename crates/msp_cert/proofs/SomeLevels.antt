@@ -8,8 +8,8 @@ use Rattle.msp_instance.specs.declared.Arc.{Arc}
 use Rattle.msp_instance.specs.declared.Instance.{Instance}
 use Rattle.msp_instance.specs.Conditions.{InClass, IsSequence, GoesForward}
 use Rattle.msp_instance.specs.Paths.{HasStep}
-use Rattle.msp_schedule.specs.Levels.{LeadsOut, IsLevel}
-use Rattle.msp_schedule.proofs.lists.ForwardOrders.{each_at, leads_to}
+use Rattle.msp_pieces.specs.Levels.{LeadsOut, IsLevel}
+use Rattle.msp_pieces.proofs.lists.ForwardOrders.{each_at, leads_to}
 use Rattle.msp_cert.specs.Search.{AreAllLevels}
 use Rattle.msp_class.proofs.Cases.{same_or_not}
 

@@ -17,19 +17,19 @@ use Rattle.msp_class.proofs.IntegerRing.{zero-le-pos, pos-le, ≤ℤ_trans, ≤�
 use Rattle.msp_instance.specs.declared.Instance.{Instance}
 use Rattle.msp_instance.specs.Instance.{no_job, no_need, job_at, need_at, common_time}
 use Rattle.msp_instance.specs.Conditions.{InClass, HasSameTimes, HasSpeeds, text_limits}
-use Rattle.msp_schedule.specs.declared.Schedule.{Schedule}
-use Rattle.msp_schedule.specs.Feasible.{Feasible}
-use Rattle.msp_schedule.specs.Cost.{end_of, cost_of}
-use Rattle.msp_schedule.specs.Laws.{time_together, jobs_together}
-use Rattle.msp_schedule.specs.Speeds.{HaveSpeeds, speed_by, speed_of, speed_above}
-use Rattle.msp_schedule.specs.Blocks.{total_time}
-use Rattle.msp_schedule.proofs.costs.Makespan.{ends_by_cost, cost_natural}
-use Rattle.msp_schedule.proofs.bounds.SpeedBound.{law_of_speeds}
-use Rattle.msp_schedule.proofs.bounds.Loads.{law_of_machines, law_of_lines}
-use Rattle.msp_schedule.proofs.bounds.LevelBound.{law_of_levels}
-use Rattle.msp_schedule.proofs.bounds.SegmentBound.{law_of_segments}
-use Rattle.msp_schedule.proofs.bounds.Certified.{law_of_blocks, list_total}
-use Rattle.msp_schedule.proofs.bounds.PriceBounds.{law_of_prices}
+use Rattle.msp_pieces.specs.declared.Schedule.{Schedule}
+use Rattle.msp_pieces.specs.Feasible.{Feasible}
+use Rattle.msp_pieces.specs.Cost.{end_of, cost_of}
+use Rattle.msp_pieces.specs.Laws.{time_together, jobs_together}
+use Rattle.msp_pieces.specs.Speeds.{HaveSpeeds, speed_by, speed_of, speed_above}
+use Rattle.msp_pieces.specs.Blocks.{total_time}
+use Rattle.msp_pieces.proofs.costs.Makespan.{ends_by_cost, cost_natural}
+use Rattle.msp_pieces.proofs.bounds.SpeedBound.{law_of_speeds}
+use Rattle.msp_pieces.proofs.bounds.Loads.{law_of_machines, law_of_lines}
+use Rattle.msp_pieces.proofs.bounds.LevelBound.{law_of_levels}
+use Rattle.msp_pieces.proofs.bounds.SegmentBound.{law_of_segments}
+use Rattle.msp_pieces.proofs.bounds.Certified.{law_of_blocks, list_total}
+use Rattle.msp_pieces.proofs.bounds.PriceBounds.{law_of_prices}
 use Rattle.msp_cert.specs.declared.Proof.{Proof}
 use Rattle.msp_cert.specs.declared.Proof.TheVariants.{Group, Machine, Line, Levels, Segments, Block, Prices}
 use Rattle.msp_cert.specs.Certificates.{speeds_of, IsSpeedOfFastest, IsGroup, of_job, row_price, column_price, HoldsFor, IsValue, LawOfCertificates}

@@ -10,11 +10,11 @@ use Rattle.msp_class.specs.Sums.{total_below}
 use Rattle.msp_class.proofs.Sums.{sum_by-agree, sum_by-add, sum_by-constant, sum_by-contains, sum_by-some, sum_by-mono, sum_by-take_more, cond-le, total_below-range}
 use Rattle.msp_instance.specs.declared.Instance.{Instance}
 use Rattle.msp_instance.specs.Conditions.{InClass, IsSequence, GoesForward}
-use Rattle.msp_schedule.specs.declared.Frac.{Frac}
-use Rattle.msp_schedule.specs.Levels.{LeadsOut, AreLevels, jobs_from}
-use Rattle.msp_schedule.proofs.bounds.LevelBound.{StepsDown-levels}
-use Rattle.msp_schedule.proofs.lists.ForwardOrders.{each_at, leads_to}
-use Rattle.msp_schedule.proofs.lists.Places.{sum_by-places}
+use Rattle.msp_pieces.specs.declared.Frac.{Frac}
+use Rattle.msp_pieces.specs.Levels.{LeadsOut, AreLevels, jobs_from}
+use Rattle.msp_pieces.proofs.bounds.LevelBound.{StepsDown-levels}
+use Rattle.msp_pieces.proofs.lists.ForwardOrders.{each_at, leads_to}
+use Rattle.msp_pieces.proofs.lists.Places.{sum_by-places}
 use Rattle.msp_cert.specs.declared.Proof.TheVariants.{Levels}
 use Rattle.msp_cert.specs.Certificates.{HasUnitJobs, of_job}
 use Rattle.msp_cert.specs.Search.{AreAllLevels}

@@ -10,8 +10,8 @@ use Rattle.msp_instance.specs.declared.Arc.{Arc}
 use Rattle.msp_instance.specs.declared.Instance.{Instance}
 use Rattle.msp_instance.specs.Conditions.{IsSequence, GoesForward}
 use Rattle.msp_instance.specs.Paths.{HasStep}
-use Rattle.msp_schedule.specs.Levels.{LeadsOut, IsLevel}
-use Rattle.msp_schedule.proofs.lists.ForwardOrders.{each_at}
+use Rattle.msp_pieces.specs.Levels.{LeadsOut, IsLevel}
+use Rattle.msp_pieces.proofs.lists.ForwardOrders.{each_at}
 use Rattle.msp_cert.specs.Certificates.{of_job}
 use Rattle.msp_cert.specs.Heights.{AreHeights, AreBalanced}
 use Rattle.msp_cert.specs.Search.{AreAllLevels}

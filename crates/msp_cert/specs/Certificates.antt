@@ -8,16 +8,16 @@ use Rattle.msp_class.specs.declared.environments.EnvKind.TheVariants.{Identical,
 use Rattle.msp_class.specs.Env.{kind_of, is_shop}
 use Rattle.msp_instance.specs.declared.Instance.{Instance}
 use Rattle.msp_instance.specs.Conditions.{InClass, LiesWithin}
-use Rattle.msp_schedule.specs.declared.Frac.{Frac}
-use Rattle.msp_schedule.specs.declared.Schedule.{Schedule}
-use Rattle.msp_schedule.specs.Feasible.{Feasible}
-use Rattle.msp_schedule.specs.Cost.{cost_of}
-use Rattle.msp_schedule.specs.Speeds.{HaveSpeeds, speed_of}
-use Rattle.msp_schedule.specs.Levels.{StepsDown, level_bound}
-use Rattle.msp_schedule.specs.Loads.{machine_load, job_length}
-use Rattle.msp_schedule.specs.Segments.{AreSegments, segments_bound}
-use Rattle.msp_schedule.specs.Blocks.{IsBlock, IsBlockValue, total_time}
-use Rattle.msp_schedule.specs.Prices.{ArePrices, all_prices}
+use Rattle.msp_pieces.specs.declared.Frac.{Frac}
+use Rattle.msp_pieces.specs.declared.Schedule.{Schedule}
+use Rattle.msp_pieces.specs.Feasible.{Feasible}
+use Rattle.msp_pieces.specs.Cost.{cost_of}
+use Rattle.msp_pieces.specs.Speeds.{HaveSpeeds, speed_of}
+use Rattle.msp_pieces.specs.Levels.{StepsDown, level_bound}
+use Rattle.msp_pieces.specs.Loads.{machine_load, job_length}
+use Rattle.msp_pieces.specs.Segments.{AreSegments, segments_bound}
+use Rattle.msp_pieces.specs.Blocks.{IsBlock, IsBlockValue, total_time}
+use Rattle.msp_pieces.specs.Prices.{ArePrices, all_prices}
 use Rattle.msp_cert.specs.declared.limits.TheConstants.{MOST_ENTRIES, GREATEST_HEAD, GREATEST_PRICE}
 use Rattle.msp_cert.specs.declared.Proof.{Proof}
 use Rattle.msp_cert.specs.declared.Proof.TheVariants.{Group, Machine, Line, Levels, Segments, Block, Prices}

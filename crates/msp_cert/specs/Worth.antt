@@ -2,7 +2,7 @@
 use Rattle.std.specs.Prelude.{◌≡◌, ℕ, Option, Some, None, ◌+◌, ◌*◌, ◌^◌, ℤ, pos}
 use Rattle.msp_class.specs.declared.sizes.TheConstants.{GREATEST}
 use Rattle.msp_instance.specs.declared.Instance.{Instance}
-use Rattle.msp_schedule.specs.declared.Frac.{Frac}
+use Rattle.msp_pieces.specs.declared.Frac.{Frac}
 use Rattle.msp_cert.specs.declared.limits.TheConstants.{MOST_ENTRIES, GREATEST_HEAD}
 use Rattle.msp_cert.specs.declared.Proof.{Proof}
 use Rattle.msp_cert.specs.Certificates.{HoldsFor, IsValue}

@@ -3,8 +3,8 @@ ghost use Rattle.std.specs.Prelude.{◌≡◌, ◌↔◌, ◌<◌, ◌≤◌, �
 ghost use Rattle.msp_class.specs.declared.class.Crit.TheVariants.{Fmax};
 ghost use Rattle.msp_instance.specs.Conditions.{InClass, LiesWithin};
 ghost use Rattle.msp_instance.specs.Instance.{need_at, job_at};
-ghost use Rattle.msp_schedule.specs.Blocks.{IsSound, cost_at};
-ghost use Rattle.msp_schedule.specs.Fraction.{IsComparable};
+ghost use Rattle.msp_pieces.specs.Blocks.{IsSound, cost_at};
+ghost use Rattle.msp_pieces.specs.Fraction.{IsComparable};
 ghost use Rattle.msp_cert.specs.declared.Proof.TheVariants.{Block};
 ghost use Rattle.msp_cert.specs.declared.limits.TheConstants.{GREATEST_HEAD, MOST_ENTRIES};
 ghost use Rattle.msp_cert.specs.Certificates.{IsBlockOf, of_job};
@@ -15,7 +15,7 @@ use crate::group::{are_apart, are_jobs, total_time};
 use crate::worth::whole;
 use msp_class::{Crit, Env, NoMemory};
 use msp_instance::{Arc, Instance, Paths, first_time};
-use msp_schedule::{Frac, job_cost_at};
+use msp_pieces::{Frac, job_cost_at};
 use std::alloc::Global;
 
 /// The head of a job.

@@ -3,9 +3,9 @@ ghost use Rattle.std.specs.Prelude.{◌≡◌, ◌≢◌, ◌↔◌, ◌*◌, �
 ghost use Rattle.std.specs.List.Sorted.{IsNonDecreasing};
 ghost use Rattle.msp_class.specs.declared.sizes.TheConstants.{MOST_JOBS, MOST_MACHINES, GREATEST, GREATEST_SPEED};
 ghost use Rattle.msp_instance.specs.Conditions.{InClass};
-ghost use Rattle.msp_schedule.specs.Fraction.{IsComparable};
-ghost use Rattle.msp_schedule.specs.Speeds.{HaveSpeeds, speed_of};
-ghost use Rattle.msp_schedule.specs.Blocks.{total_time};
+ghost use Rattle.msp_pieces.specs.Fraction.{IsComparable};
+ghost use Rattle.msp_pieces.specs.Speeds.{HaveSpeeds, speed_of};
+ghost use Rattle.msp_pieces.specs.Blocks.{total_time};
 ghost use Rattle.msp_cert.specs.declared.limits.TheConstants.{MOST_ENTRIES};
 ghost use Rattle.msp_cert.specs.Small.{HasSmallNeeds};
 ghost use Rattle.msp_cert.specs.Certificates.{IsGroup, speeds_of};
@@ -16,7 +16,7 @@ ghost use Rattle.msp_cert.specs.declared.Proof.TheVariants.{Group};
 use crate::worth::over;
 use msp_class::{Crit, EnvKind, NoMemory, env_kind};
 use msp_instance::{Instance, Job, MOST_JOBS};
-use msp_schedule::Frac;
+use msp_pieces::Frac;
 use std::alloc::Global;
 
 /// Whether each is a job.

@@ -1,7 +1,7 @@
 // When a certificate is accepted.
 ghost use Rattle.std.specs.Prelude.{◌↔◌, IsTrue, IfOk, IfSome};
 ghost use Rattle.msp_instance.specs.Conditions.{InClass};
-ghost use Rattle.msp_schedule.specs.Fraction.{IsComparable};
+ghost use Rattle.msp_pieces.specs.Fraction.{IsComparable};
 ghost use Rattle.msp_cert.specs.Certificates.{IsAccepted, IsShown, KeepsLimits};
 ghost use Rattle.msp_cert.specs.Worth.{IsWorth};
 
@@ -15,7 +15,7 @@ use crate::worth::shows;
 use crate::{Certificate, Proof};
 use msp_class::NoMemory;
 use msp_instance::Instance;
-use msp_schedule::Frac;
+use msp_pieces::Frac;
 use std::alloc::Global;
 
 /// What a proof is worth.

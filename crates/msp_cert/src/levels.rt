@@ -3,8 +3,8 @@ ghost use Rattle.std.specs.Prelude.{◌≡◌, ◌↔◌, ◌+◌, ◌-◌, ◌/
 ghost use Rattle.std.specs.List.{range_with_len};
 ghost use Rattle.msp_class.specs.declared.sizes.TheConstants.{MOST_JOBS};
 ghost use Rattle.msp_instance.specs.Conditions.{InClass};
-ghost use Rattle.msp_schedule.specs.Fraction.{IsComparable};
-ghost use Rattle.msp_schedule.specs.Levels.{StepsDown, level_bound};
+ghost use Rattle.msp_pieces.specs.Fraction.{IsComparable};
+ghost use Rattle.msp_pieces.specs.Levels.{StepsDown, level_bound};
 ghost use Rattle.msp_cert.specs.declared.Proof.TheVariants.{Levels};
 ghost use Rattle.msp_cert.specs.Small.{Supports, StepsFrom};
 ghost use Rattle.msp_cert.specs.Certificates.{HasUnitJobs, AreSteps, of_job};
@@ -13,7 +13,7 @@ ghost use Rattle.msp_cert.specs.Worth.{IsWorth};
 use crate::worth::over;
 use msp_class::{Crit, EnvKind, Times, env_kind};
 use msp_instance::{Arc, Instance};
-use msp_schedule::Frac;
+use msp_pieces::Frac;
 
 /// Whether the makespan of jobs of one unit of time is asked for, which run on identical machines and may not be cut.
 pub(crate) fn has_unit_jobs(inst: &Instance) -> bool

@@ -1,13 +1,13 @@
 //! Certificates of lower bounds: what shows that no feasible schedule costs less, without a solver.
 //!
-//! It stands on `msp_schedule` alone. The layers above use the definitions `HoldsFor`, `IsValue` and `IsAccepted`, which say when the
+//! It stands on `msp_pieces` alone. The layers above use the definitions `HoldsFor`, `IsValue` and `IsAccepted`, which say when the
 //! evidence of a proof holds for an instance, what its value is, and when a certificate is accepted; `accept`, which decides this exactly;
 //! `find`, which gives the first of some groups, machines, jobs and levels whose value is just a cost (`IsFound`); and
 //! `law_of_certificates`: where a certificate is accepted, no feasible schedule over any unit costs less than its bound.
 #![tactic(auto)]
 
 use msp_class::{Class, List};
-use msp_schedule::{Frac, Solution};
+use msp_pieces::{Frac, Solution};
 
 mod block;
 mod group;

@@ -8,7 +8,7 @@ ghost use Rattle.msp_cert.specs.Search.{AreLongestFirst};
 use crate::block::time_of;
 use msp_class::NoMemory;
 use msp_instance::Instance;
-use msp_schedule::all_jobs;
+use msp_pieces::all_jobs;
 use std::alloc::Global;
 use std::cmp::Ordering;
 

@@ -2,8 +2,8 @@
 ghost use Rattle.std.specs.Prelude.{◌≡◌, ◌↔◌, ◌+◌, ◌*◌, ◌≤◌, pos, ◌≤ℤ◌, length, All, IsTrue, IfSome};
 ghost use Rattle.msp_class.specs.declared.sizes.TheConstants.{MOST_JOBS, MOST_OPERATIONS, GREATEST};
 ghost use Rattle.msp_instance.specs.Conditions.{InClass, LiesWithin};
-ghost use Rattle.msp_schedule.specs.Feasible.{total};
-ghost use Rattle.msp_schedule.specs.Fraction.{IsComparable};
+ghost use Rattle.msp_pieces.specs.Feasible.{total};
+ghost use Rattle.msp_pieces.specs.Fraction.{IsComparable};
 ghost use Rattle.msp_cert.specs.declared.Proof.TheVariants.{Prices};
 ghost use Rattle.msp_cert.specs.declared.limits.TheConstants.{GREATEST_PRICE, MOST_ENTRIES};
 ghost use Rattle.msp_cert.specs.Certificates.{IsPriced};
@@ -13,7 +13,7 @@ ghost use Rattle.msp_cert.specs.Worth.{IsWorth};
 use crate::worth::whole;
 use msp_class::{Crit, EnvKind, env_kind};
 use msp_instance::{Instance, Need};
-use msp_schedule::Frac;
+use msp_pieces::Frac;
 
 /// Whether no price is above 0.
 fn are_low(prices: &[i128]) -> bool

@@ -3,8 +3,8 @@ ghost use Rattle.std.specs.Prelude.{◌≡◌, ℕ, ◌+◌, ◌<◌, ◌≤◌,
 ghost use Rattle.msp_class.specs.declared.sizes.TheConstants.{MOST_JOBS};
 ghost use Rattle.msp_instance.specs.declared.Instance.{Instance};
 ghost use Rattle.msp_instance.specs.Conditions.{InClass};
-ghost use Rattle.msp_schedule.specs.declared.Frac.{Frac};
-ghost use Rattle.msp_schedule.specs.Fraction.{IsComparable};
+ghost use Rattle.msp_pieces.specs.declared.Frac.{Frac};
+ghost use Rattle.msp_pieces.specs.Fraction.{IsComparable};
 ghost use Rattle.msp_cert.specs.declared.Proof.{Proof};
 ghost use Rattle.msp_cert.specs.declared.Proof.TheVariants.{Group, Machine, Line, Levels};
 ghost use Rattle.msp_cert.specs.Certificates.{HasUnitJobs, speeds_of};
@@ -22,7 +22,7 @@ use crate::true_levels::levels_of_all;
 use crate::worth::{equals, over};
 use msp_class::{List, NoMemory};
 use msp_instance::{Instance, MOST_JOBS};
-use msp_schedule::Frac;
+use msp_pieces::Frac;
 use std::alloc::Global;
 
 /// The place of the first group of the longest jobs that has the value, from 0 for the longest job alone.

@@ -4,8 +4,8 @@ ghost use Rattle.std.specs.List.{AllAdjacentBelow, flat_map};
 ghost use Rattle.msp_class.specs.declared.sizes.TheConstants.{MOST_JOBS, MOST_MACHINES};
 ghost use Rattle.msp_instance.specs.Conditions.{InClass};
 ghost use Rattle.msp_instance.specs.Paths.{leads};
-ghost use Rattle.msp_schedule.specs.Fraction.{IsComparable};
-ghost use Rattle.msp_schedule.specs.Segments.{AreSegments, segments_bound};
+ghost use Rattle.msp_pieces.specs.Fraction.{IsComparable};
+ghost use Rattle.msp_pieces.specs.Segments.{AreSegments, segments_bound};
 ghost use Rattle.msp_cert.specs.declared.Proof.TheVariants.{Segments};
 ghost use Rattle.msp_cert.specs.declared.limits.TheConstants.{MOST_ENTRIES};
 ghost use Rattle.msp_cert.specs.Small.{ShowLeads};
@@ -16,7 +16,7 @@ use crate::levels::has_unit_jobs;
 use crate::worth::over;
 use msp_class::{List, NoMemory};
 use msp_instance::{Instance, Paths};
-use msp_schedule::Frac;
+use msp_pieces::Frac;
 use std::alloc::Global;
 
 /// Whether none of the lists is empty.

@@ -1,7 +1,7 @@
 // Machines and jobs of shops.
 ghost use Rattle.std.specs.Prelude.{◌↔◌, IsTrue, IfSome};
 ghost use Rattle.msp_instance.specs.Conditions.{InClass};
-ghost use Rattle.msp_schedule.specs.Fraction.{IsComparable};
+ghost use Rattle.msp_pieces.specs.Fraction.{IsComparable};
 ghost use Rattle.msp_cert.specs.declared.Proof.TheVariants.{Machine, Line};
 ghost use Rattle.msp_cert.specs.Certificates.{IsShop, HoldsFor};
 ghost use Rattle.msp_cert.specs.Worth.{IsWorth};
@@ -10,7 +10,7 @@ use crate::loads::{load_on, time_of_all};
 use crate::worth::over;
 use msp_class::{Crit, is_shop};
 use msp_instance::Instance;
-use msp_schedule::Frac;
+use msp_pieces::Frac;
 
 /// Whether the makespan of a shop is asked for.
 pub(crate) fn is_shop_asked(inst: &Instance) -> bool

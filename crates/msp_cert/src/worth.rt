@@ -2,14 +2,14 @@
 ghost use Rattle.std.specs.Prelude.{◌≡◌, ◌↔◌, ◌≤◌, ◌<◌, pos, ◌*ℤ◌, ◌≤ℤ◌, IsTrue, IfSome};
 ghost use Rattle.msp_instance.specs.declared.Instance.{Instance};
 ghost use Rattle.msp_instance.specs.Conditions.{LiesWithin};
-ghost use Rattle.msp_schedule.specs.declared.limits.TheConstants.{GREATEST_COMPARED_DENOMINATOR};
-ghost use Rattle.msp_schedule.specs.Fraction.{IsComparable, IsSameFraction};
+ghost use Rattle.msp_pieces.specs.declared.limits.TheConstants.{GREATEST_COMPARED_DENOMINATOR};
+ghost use Rattle.msp_pieces.specs.Fraction.{IsComparable, IsSameFraction};
 ghost use Rattle.msp_cert.specs.declared.Proof.{Proof};
 ghost use Rattle.msp_cert.specs.Certificates.{IsShown};
 ghost use Rattle.msp_cert.specs.Search.{HasValue};
 ghost use Rattle.msp_cert.specs.Worth.{IsWorth, greatest_value};
 
-use msp_schedule::{Frac, compare};
+use msp_pieces::{Frac, compare};
 use std::cmp::Ordering;
 
 /// The number over the denominator.

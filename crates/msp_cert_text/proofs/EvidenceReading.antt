@@ -1,6 +1,6 @@
 -- The lines after the kind, and the certificate of a bound and a proof.
 use Rattle.std.proofs.Common.{ℕ, ◌*◌, List, [], length, Result, Ok, Err, ℤ, refl}
-use Rattle.msp_schedule.specs.declared.Frac.{Frac}
+use Rattle.msp_pieces.specs.declared.Frac.{Frac}
 use Rattle.msp_cert.specs.declared.Proof.{Proof}
 use Rattle.msp_cert.specs.declared.Proof.TheVariants as proof
 use Rattle.msp_grammar.specs.declared.lines.fault.FileFault.{FileFault}

@@ -1,6 +1,6 @@
 -- The faults of certificate texts, and that their reading comes to an end.
 use Rattle.std.proofs.Common.{◌≡◌, ◌⊎◌, inl, inr, ℕ, ◌+◌, List, [], ◌∷◌, length, Result, Ok, Err, ℤ, bytes_eq, codes, refl, ap, subst, sym}
-use Rattle.msp_schedule.specs.declared.Frac.{Frac}
+use Rattle.msp_pieces.specs.declared.Frac.{Frac}
 use Rattle.msp_cert.specs.declared.Proof.{Proof}
 use Rattle.msp_cert.specs.declared.Certificate.{Certificate}
 use Rattle.msp_grammar.specs.declared.lines.fault.FileFault.{FileFault}

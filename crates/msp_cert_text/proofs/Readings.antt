@@ -1,6 +1,6 @@
 -- Each certificate text is read in one way.
 use Rattle.std.proofs.Common.{◌≡◌, ℕ, List, [], length, Result, Ok, Err, ℤ, sym, ap, subst, ◌∙◌, codes}
-use Rattle.msp_schedule.specs.declared.Frac.{Frac}
+use Rattle.msp_pieces.specs.declared.Frac.{Frac}
 use Rattle.msp_cert.specs.declared.Proof.{Proof}
 use Rattle.msp_cert.specs.declared.Certificate.{Certificate}
 use Rattle.msp_grammar.specs.declared.lines.fault.FileFault.{FileFault}

@@ -6,7 +6,7 @@ use Rattle.std.proofs.lemmas.List.{nil_from_length}
 use Rattle.msp_job_name.specs.JobName.{IsJobName, AreDistinct}
 use Rattle.msp_job_name.proofs.NameLists.{same_bytes}
 use Rattle.msp_class.specs.declared.list.TheConstants.{PLACES}
-use Rattle.msp_schedule.specs.declared.Frac.{Frac}
+use Rattle.msp_pieces.specs.declared.Frac.{Frac}
 use Rattle.msp_cert.specs.declared.Proof.{Proof}
 use Rattle.msp_cert.specs.declared.Certificate.{Certificate}
 use Rattle.msp_grammar.specs.ScheduleText.{IsFractionText}

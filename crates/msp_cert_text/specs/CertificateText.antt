@@ -5,7 +5,7 @@ use Rattle.std.specs.Fmt.{signed_decimal}
 use Rattle.std.specs.List.{flat_map}
 use Rattle.std.specs.Ordering.{int_eq}
 use Rattle.msp_instance.specs.Conditions.{LiesWithin}
-use Rattle.msp_schedule.specs.declared.Frac.{Frac}
+use Rattle.msp_pieces.specs.declared.Frac.{Frac}
 use Rattle.msp_cert.specs.declared.Proof.{Proof}
 use Rattle.msp_cert.specs.declared.Proof.TheVariants as proof
 use Rattle.msp_cert.specs.declared.Certificate.{Certificate}

@@ -19,7 +19,7 @@ use msp_grammar::{
 };
 use msp_instance::Instance;
 use msp_job_name::Names;
-use msp_schedule::Frac;
+use msp_pieces::Frac;
 use std::alloc::Global;
 
 /// The kind of a word, of the last three.

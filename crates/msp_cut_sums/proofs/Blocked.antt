@@ -7,9 +7,9 @@ use Rattle.msp_class.proofs.Quotients.{rest_small}
 use Rattle.msp_class.proofs.Sums.{total_below-same}
 use Rattle.msp_instance.specs.declared.Instance.{Instance}
 use Rattle.msp_instance.specs.Instance.{common_time}
-use Rattle.msp_schedule.specs.Feasible.{HasOperation, MayRun}
-use Rattle.msp_schedule.specs.BackToBack.{time_at}
-use Rattle.msp_schedule.proofs.bounds.LastEnds.{law_of_last_ends}
+use Rattle.msp_pieces.specs.Feasible.{HasOperation, MayRun}
+use Rattle.msp_pieces.specs.BackToBack.{time_at}
+use Rattle.msp_pieces.proofs.bounds.LastEnds.{law_of_last_ends}
 use Rattle.msp_cut_sums.specs.Sums.{at, in_blocks, weight_at, IsByFalling}
 use Rattle.msp_cut_sums.specs.Pieces.{blocked}
 use Rattle.msp_cut_sums.proofs.Falling.{order_once, order_many, order_inside, order_falls, order_distinct}
@@ -17,7 +17,7 @@ use Rattle.msp_cut_sums.proofs.InBlocks.{weights_bound}
 use Rattle.msp_cut_sums.proofs.Instances.{IsWeightsInstance, weights_operations, weights_time, weights_span}
 use Rattle.msp_cut_sums.proofs.Placed.{ArePlaced, placed_is_feasible, placed_is_within, placed_is_answer, placed_ends}
 use Rattle.msp_cut_sums.proofs.Rests.{blocks_rise}
-use Rattle.msp_schedule.proofs.bounds.Room.{end_at}
+use Rattle.msp_pieces.proofs.bounds.Room.{end_at}
 use Rattle.msp_cut_sums.proofs.Room.{room_in_order}
 use Rattle.msp_cut_sums.proofs.Summed.{IsSumOf-weights, IsSumAnswer, answered}
 

@@ -12,9 +12,9 @@ use Rattle.msp_class.specs.Sums.{total_below}
 use Rattle.msp_class.proofs.FallingWeights.{abel}
 use Rattle.msp_class.proofs.Sums.{sum_by-mono, sum_by-same, sum_by-add, sum_by-constant, sum_by-none, sum_by-OnceBelow, OnceBelow, OnceBelow-range, OnceBelow-distinct}
 use Rattle.msp_class.proofs.Sums.{length-OnceBelow, total_below-same, total_below-add, total_below-scale, total_below-constant, total_below-none, total_below-split}
-use Rattle.msp_schedule.proofs.lists.Places.{sum_by-places}
-use Rattle.msp_schedule.proofs.changes.LineUp.{sorted_by-rises, sorted_by-OnceBelow}
-use Rattle.msp_schedule.specs.LineUp.{sorted_by}
+use Rattle.msp_pieces.proofs.lists.Places.{sum_by-places}
+use Rattle.msp_pieces.proofs.changes.LineUp.{sorted_by-rises, sorted_by-OnceBelow}
+use Rattle.msp_pieces.specs.LineUp.{sorted_by}
 use Rattle.msp_cut_sums.specs.Sums.{at, in_blocks}
 
 -- ---- sums in blocks

@@ -13,13 +13,13 @@ use Rattle.msp_class.proofs.Sums.{total_below-same, total_below-constant}
 use Rattle.msp_instance.specs.declared.Instance.{Instance}
 use Rattle.msp_instance.specs.Instance.{no_job, no_need, job_at, need_at, common_time}
 use Rattle.msp_instance.specs.Conditions.{Inner}
-use Rattle.msp_schedule.specs.Feasible.{HasOperation, whole_work}
-use Rattle.msp_schedule.specs.LastEnds.{AreOnMachines}
-use Rattle.msp_schedule.specs.Loads.{job_length}
-use Rattle.msp_schedule.specs.BackToBack.{time_at}
-use Rattle.msp_schedule.proofs.lists.Places.{sum_by-places}
-use Rattle.msp_schedule.proofs.feasible.Frames.{IsShaped-from_identical, rate_on}
-use Rattle.msp_schedule.proofs.feasible.OfClass.{IsOfClass, IsOfClass-from}
+use Rattle.msp_pieces.specs.Feasible.{HasOperation, whole_work}
+use Rattle.msp_pieces.specs.LastEnds.{AreOnMachines}
+use Rattle.msp_pieces.specs.Loads.{job_length}
+use Rattle.msp_pieces.specs.BackToBack.{time_at}
+use Rattle.msp_pieces.proofs.lists.Places.{sum_by-places}
+use Rattle.msp_pieces.proofs.feasible.Frames.{IsShaped-from_identical, rate_on}
+use Rattle.msp_pieces.proofs.feasible.OfClass.{IsOfClass, IsOfClass-from}
 use Rattle.msp_route.specs.Bounds.{answer_unit}
 use Rattle.msp_cut_sums.specs.Sums.{cut_sum_class, cut_weights_class, open_weights_class, cut_open_weights_class}
 use Rattle.msp_cut_sums.proofs.Placed.{HasOperations}

@@ -5,10 +5,10 @@ use Rattle.std.proofs.lemmas.Bool.{cases_lt}
 use Rattle.std.proofs.lemmas.List.{length-map, get_or-map}
 use Rattle.msp_class.proofs.Sums.{sum_by-map, OnceBelow, OnceBelow-distinct, length-OnceBelow}
 use Rattle.msp_instance.specs.declared.Instance.{Instance}
-use Rattle.msp_schedule.specs.declared.Schedule.{Schedule}
-use Rattle.msp_schedule.specs.Feasible.{Feasible}
-use Rattle.msp_schedule.specs.LastEnds.{HasRoomAround}
-use Rattle.msp_schedule.proofs.bounds.Room.{end_at, room_in_list}
+use Rattle.msp_pieces.specs.declared.Schedule.{Schedule}
+use Rattle.msp_pieces.specs.Feasible.{Feasible}
+use Rattle.msp_pieces.specs.LastEnds.{HasRoomAround}
+use Rattle.msp_pieces.proofs.bounds.Room.{end_at, room_in_list}
 use Rattle.msp_cut_sums.specs.Sums.{at}
 use Rattle.msp_cut_sums.proofs.InBlocks.{HaveRoom}
 

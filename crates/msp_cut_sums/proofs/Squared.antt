@@ -8,9 +8,9 @@ use Rattle.msp_class.proofs.Quotients.{block_and_rest, rest_small, same_block}
 use Rattle.msp_class.proofs.Sums.{total_below-same}
 use Rattle.msp_instance.specs.declared.Instance.{Instance}
 use Rattle.msp_instance.specs.Instance.{common_time, need_at}
-use Rattle.msp_schedule.specs.Feasible.{HasOperation, MayRun}
-use Rattle.msp_schedule.specs.Loads.{job_length}
-use Rattle.msp_schedule.proofs.bounds.LastEnds.{law_of_last_ends}
+use Rattle.msp_pieces.specs.Feasible.{HasOperation, MayRun}
+use Rattle.msp_pieces.specs.Loads.{job_length}
+use Rattle.msp_pieces.proofs.bounds.LastEnds.{law_of_last_ends}
 use Rattle.msp_cut_sums.specs.Sums.{at, in_blocks, weight_at, IsByFalling}
 use Rattle.msp_cut_sums.specs.Pieces.{slot, squared}
 use Rattle.msp_cut_sums.proofs.Falling.{order_once, order_many, order_inside, order_falls, order_distinct}
@@ -18,7 +18,7 @@ use Rattle.msp_cut_sums.proofs.InBlocks.{weights_bound}
 use Rattle.msp_cut_sums.proofs.Instances.{IsEvenShop, shop_is, shop_operations, shop_machines, shop_length}
 use Rattle.msp_cut_sums.proofs.Placed.{ArePlaced, placed_is_feasible, placed_is_within, placed_is_answer, placed_ends}
 use Rattle.msp_cut_sums.proofs.Rests.{rests_differ}
-use Rattle.msp_schedule.proofs.bounds.Room.{end_at}
+use Rattle.msp_pieces.proofs.bounds.Room.{end_at}
 use Rattle.msp_cut_sums.proofs.Room.{room_in_order}
 use Rattle.msp_cut_sums.proofs.Summed.{IsSumOf-weights, IsSumAnswer, answered}
 

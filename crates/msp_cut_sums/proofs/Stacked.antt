@@ -8,9 +8,9 @@ use Rattle.msp_class.specs.Sums.{total_below}
 use Rattle.msp_class.proofs.Quotients.{block_and_rest, rest_small}
 use Rattle.msp_class.proofs.Sums.{total_below-same, total_below-add, total_below-none, total_below-split}
 use Rattle.msp_instance.specs.declared.Instance.{Instance}
-use Rattle.msp_schedule.specs.Feasible.{HasOperation, MayRun}
-use Rattle.msp_schedule.specs.BackToBack.{time_at}
-use Rattle.msp_schedule.proofs.bounds.LastEnds.{law_of_last_ends}
+use Rattle.msp_pieces.specs.Feasible.{HasOperation, MayRun}
+use Rattle.msp_pieces.specs.BackToBack.{time_at}
+use Rattle.msp_pieces.proofs.bounds.LastEnds.{law_of_last_ends}
 use Rattle.msp_cut_sums.specs.Sums.{at, in_blocks, IsByFalling}
 use Rattle.msp_cut_sums.specs.Pieces.{AreEnds, stacked}
 use Rattle.msp_cut_sums.proofs.Falling.{order_once, order_many, order_inside, order_falls, order_distinct}
@@ -18,7 +18,7 @@ use Rattle.msp_cut_sums.proofs.InBlocks.{in_blocks-step, times_bound}
 use Rattle.msp_cut_sums.proofs.Instances.{IsSumInstance, sum_operations, sum_times}
 use Rattle.msp_cut_sums.proofs.Placed.{ArePlaced, placed_is_feasible, placed_is_within, placed_is_answer, placed_ends}
 use Rattle.msp_cut_sums.proofs.Rests.{blocks_rise}
-use Rattle.msp_schedule.proofs.bounds.Room.{end_at}
+use Rattle.msp_pieces.proofs.bounds.Room.{end_at}
 use Rattle.msp_cut_sums.proofs.Room.{room_in_order}
 use Rattle.msp_cut_sums.proofs.Summed.{IsSumOf-ones, IsSumAnswer, answered}
 

@@ -9,17 +9,17 @@ use Rattle.msp_class.proofs.IntegerRing.{natural, pos-le, le-pos, ≤ℤ_antisym
 use Rattle.msp_class.proofs.Sums.{sum_by-OnceBelow, OnceBelow, length-OnceBelow, total_below-mono, int_total_below-natural}
 use Rattle.msp_instance.specs.declared.Instance.{Instance}
 use Rattle.msp_instance.specs.Instance.{job_at}
-use Rattle.msp_schedule.specs.declared.Piece.{Piece}
-use Rattle.msp_schedule.specs.declared.Schedule.{Schedule}
-use Rattle.msp_schedule.specs.Feasible.{Feasible}
-use Rattle.msp_schedule.specs.Cost.{cost_of, end_of, job_cost, Best}
-use Rattle.msp_schedule.specs.Within.{Within}
-use Rattle.msp_schedule.proofs.lists.Places.{sum_by-places}
-use Rattle.msp_schedule.proofs.costs.Charges.{charge_of, cost_of-sum}
-use Rattle.msp_schedule.proofs.feasible.LastEnds.{last_end-natural}
+use Rattle.msp_pieces.specs.declared.Piece.{Piece}
+use Rattle.msp_pieces.specs.declared.Schedule.{Schedule}
+use Rattle.msp_pieces.specs.Feasible.{Feasible}
+use Rattle.msp_pieces.specs.Cost.{cost_of, end_of, job_cost, Best}
+use Rattle.msp_pieces.specs.Within.{Within}
+use Rattle.msp_pieces.proofs.lists.Places.{sum_by-places}
+use Rattle.msp_pieces.proofs.costs.Charges.{charge_of, cost_of-sum}
+use Rattle.msp_pieces.proofs.feasible.LastEnds.{last_end-natural}
 use Rattle.msp_route.specs.Bounds.{IsAnswer}
 use Rattle.msp_cut_sums.specs.Sums.{at, weight_at}
-use Rattle.msp_schedule.proofs.bounds.Room.{end_at}
+use Rattle.msp_pieces.proofs.bounds.Room.{end_at}
 
 -- the cost is the sum of all ends, each as often as the weight says
 pub record IsSumOf (i : Instance) (weight : ℕ → ℕ) : Type 0 where

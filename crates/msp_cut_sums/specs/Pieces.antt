@@ -4,8 +4,8 @@ use Rattle.std.specs.List.{range_with_len}
 use Rattle.msp_instance.specs.declared.Instance.{Instance}
 use Rattle.msp_class.specs.declared.sizes.TheConstants.{MOST_JOBS, GREATEST}
 use Rattle.msp_instance.specs.Instance.{common_time}
-use Rattle.msp_schedule.specs.declared.Piece.{Piece}
-use Rattle.msp_schedule.specs.BackToBack.{time_at}
+use Rattle.msp_pieces.specs.declared.Piece.{Piece}
+use Rattle.msp_pieces.specs.BackToBack.{time_at}
 use Rattle.msp_cut_sums.specs.Sums.{at, weight_at, IsByFalling}
 
 -- A piece of an operation on a machine.

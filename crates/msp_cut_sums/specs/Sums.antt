@@ -9,9 +9,9 @@ use Rattle.msp_class.specs.declared.class.Crit.TheVariants.{SumC, SumWC}
 use Rattle.msp_class.specs.Sums.{total_below}
 use Rattle.msp_instance.specs.declared.Instance.{Instance}
 use Rattle.msp_instance.specs.Instance.{job_at, common_time}
-use Rattle.msp_schedule.specs.declared.Frac.{Frac}
-use Rattle.msp_schedule.specs.Fraction.{IsOver}
-use Rattle.msp_schedule.specs.BackToBack.{time_at}
+use Rattle.msp_pieces.specs.declared.Frac.{Frac}
+use Rattle.msp_pieces.specs.Fraction.{IsOver}
+use Rattle.msp_pieces.specs.BackToBack.{time_at}
 
 -- Identical machines, preemption, any times, and the sum of completion times: `P|pmtn|sumC`.
 abbrev pub cut_sum_class : Class

@@ -3,7 +3,7 @@ ghost use Rattle.std.specs.Prelude.{◌≡◌, ◌<◌, ◌≤◌, length, IfOk}
 ghost use Rattle.msp_class.specs.declared.sizes.TheConstants.{MOST_JOBS, MOST_MACHINES, GREATEST_EQUAL_TIME};
 ghost use Rattle.msp_instance.specs.Instance.{common_time};
 ghost use Rattle.msp_instance.specs.Conditions.{Inner};
-ghost use Rattle.msp_schedule.specs.Cost.{IsBest};
+ghost use Rattle.msp_pieces.specs.Cost.{IsBest};
 ghost use Rattle.msp_route.specs.Bounds.{IsAnswer};
 ghost use Rattle.msp_cut_sums.specs.Sums.{cut_weights_class, IsWeightsCost};
 ghost use Rattle.msp_cut_sums.specs.Pieces.{blocked, IsBlocked};
@@ -12,8 +12,8 @@ use crate::orders::jobs_by_weight;
 use crate::parts::{Task, put_in_slot};
 use msp_class::{Class, Crit, Env, List, NoMemory, Order, Times};
 use msp_instance::{Instance, first_time};
+use msp_pieces::{Piece, Schedule, Solution};
 use msp_route::Solver;
-use msp_schedule::{Piece, Schedule, Solution};
 use std::alloc::Global;
 
 /// The class that the rule solves: `P|pmtn,p=p|sumwC`.
@@ -99,7 +99,7 @@ impl Solver for CutWeights {
     {
         let pieces = pieces_by_weight(alloc, inst)?;
         let schedule = Schedule { unit: 1, pieces };
-        let cost = msp_schedule::cost(inst, &schedule);
+        let cost = msp_pieces::cost(inst, &schedule);
         Ok(Solution { schedule, cost })
     }
 }

@@ -4,7 +4,7 @@ ghost use Rattle.msp_class.specs.declared.sizes.TheConstants.{MOST_JOBS, MOST_MA
 ghost use Rattle.msp_cut_sums.specs.Pieces.{part};
 
 use msp_class::{List, NoMemory};
-use msp_schedule::Piece;
+use msp_pieces::Piece;
 
 /// An operation of a job, and the machine on which it runs.
 #[derive(Clone, Copy)]

@@ -10,9 +10,9 @@ use Rattle.msp_class.specs.declared.class.Class.{Class}
 use Rattle.msp_class.specs.declared.ranks.TheConstants.{CLASSES}
 use Rattle.msp_class.proofs.IntegerRing.{*ℤ_assoc, *ℤ_comm, *ℤ_exchange, *ℤ-mono_nonneg, *ℤ-cancel_pos}
 use Rattle.msp_instance.specs.declared.Instance.{Instance}
-use Rattle.msp_schedule.specs.declared.Schedule.{Schedule}
-use Rattle.msp_schedule.specs.Feasible.{Feasible}
-use Rattle.msp_schedule.specs.Cost.{cost_of, Best}
+use Rattle.msp_pieces.specs.declared.Schedule.{Schedule}
+use Rattle.msp_pieces.specs.Feasible.{Feasible}
+use Rattle.msp_pieces.specs.Cost.{cost_of, Best}
 use Rattle.msp_table.specs.Rows.{carries}
 use Rattle.msp_table.specs.declared.row.Chain.{Chain}
 use Rattle.msp_table.specs.Chains.{Reaches, IsNearest}

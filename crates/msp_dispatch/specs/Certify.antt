@@ -4,9 +4,9 @@ use Rattle.msp_class.specs.declared.sizes.TheConstants.{MOST_JOBS, GREATEST_UNIT
 use Rattle.msp_class.specs.declared.class.Class.{Class}
 use Rattle.msp_instance.specs.declared.Instance.{Instance}
 use Rattle.msp_instance.specs.Conditions.{LiesWithin}
-use Rattle.msp_schedule.specs.declared.Frac.{Frac}
-use Rattle.msp_schedule.specs.Segments.{AreSegments, segments_bound}
-use Rattle.msp_schedule.specs.Blocks.{IsBlock, IsBlockValue}
+use Rattle.msp_pieces.specs.declared.Frac.{Frac}
+use Rattle.msp_pieces.specs.Segments.{AreSegments, segments_bound}
+use Rattle.msp_pieces.specs.Blocks.{IsBlock, IsBlockValue}
 use Rattle.msp_assign.specs.declared.assignment.Assignment.{Assignment}
 use Rattle.msp_route.specs.declared.answer.SolverName.TheVariants.{UniformCut}
 use Rattle.msp_blocks.specs.Blocks.{blocks_class, greatest_head, IsBestCost}

@@ -2,11 +2,11 @@
 use Rattle.std.specs.Prelude.{◌≡◌, ⊤, ℕ, List, [], ◌∷◌, Contains, Option, Some, None}
 use Rattle.msp_class.specs.declared.class.Class.{Class}
 use Rattle.msp_instance.specs.declared.Instance.{Instance}
-use Rattle.msp_schedule.specs.declared.Solution.{Solution}
-use Rattle.msp_schedule.specs.Cost.{IsBest}
-use Rattle.msp_schedule.specs.Fraction.{IsLowest}
-use Rattle.msp_schedule.specs.Settled.{IsSettled}
-use Rattle.msp_schedule.specs.Within.{Within}
+use Rattle.msp_pieces.specs.declared.Solution.{Solution}
+use Rattle.msp_pieces.specs.Cost.{IsBest}
+use Rattle.msp_pieces.specs.Fraction.{IsLowest}
+use Rattle.msp_pieces.specs.Settled.{IsSettled}
+use Rattle.msp_pieces.specs.Within.{Within}
 use Rattle.msp_table.specs.Rows.{carries}
 use Rattle.msp_table.specs.Chains.{Reaches, IsNearest}
 use Rattle.msp_closure.specs.Entries.{IsFirst}

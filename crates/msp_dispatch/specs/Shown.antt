@@ -2,8 +2,8 @@
 use Rattle.std.specs.Prelude.{⊤, ℕ, ◌^◌, ◌≤◌, List, Contains, pos}
 use Rattle.msp_class.specs.declared.class.Class.{Class}
 use Rattle.msp_instance.specs.declared.Instance.{Instance}
-use Rattle.msp_schedule.specs.declared.Frac.{Frac}
-use Rattle.msp_schedule.specs.Fraction.{IsOver}
+use Rattle.msp_pieces.specs.declared.Frac.{Frac}
+use Rattle.msp_pieces.specs.Fraction.{IsOver}
 use Rattle.msp_blocks.specs.Blocks.{blocks_class}
 use Rattle.msp_wrap.specs.Wrap.{wrap_class}
 use Rattle.msp_levels.specs.Levels.{levels_class}

@@ -1,8 +1,8 @@
 // Solutions in the form of a report, and certificates of their costs.
 ghost use Rattle.std.specs.Prelude.{Contains, IfOk};
 ghost use Rattle.msp_instance.specs.Conditions.{InClass};
-ghost use Rattle.msp_schedule.specs.Cost.{IsBest};
-ghost use Rattle.msp_schedule.specs.Fraction.{IsLowest, IsSameFraction};
+ghost use Rattle.msp_pieces.specs.Cost.{IsBest};
+ghost use Rattle.msp_pieces.specs.Fraction.{IsLowest, IsSameFraction};
 ghost use Rattle.msp_route.specs.Bounds.{IsAnswer};
 ghost use Rattle.msp_dispatch.specs.Dispatch.{IsReported};
 ghost use Rattle.msp_dispatch.specs.Certify.{IsCertified, searched_classes};
@@ -12,7 +12,7 @@ use crate::solve::settled;
 use msp_cert::{Certificate, Certified, Proof, find};
 use msp_class::NoMemory;
 use msp_instance::Instance;
-use msp_schedule::{Frac, Solution};
+use msp_pieces::{Frac, Solution};
 use std::alloc::Global;
 
 /// The solver's answer in the form in which it is reported.

@@ -1,10 +1,10 @@
 // Any instance solved along the nearest chain.
 ghost use Rattle.std.specs.Prelude.{◌≡◌, IfOk, IfErr};
 ghost use Rattle.msp_instance.specs.Conditions.{InClass, Inner};
-ghost use Rattle.msp_schedule.specs.Cost.{IsBest};
-ghost use Rattle.msp_schedule.specs.Fraction.{IsLowest};
-ghost use Rattle.msp_schedule.specs.Settled.{IsSettled};
-ghost use Rattle.msp_schedule.specs.Within.{Within};
+ghost use Rattle.msp_pieces.specs.Cost.{IsBest};
+ghost use Rattle.msp_pieces.specs.Fraction.{IsLowest};
+ghost use Rattle.msp_pieces.specs.Settled.{IsSettled};
+ghost use Rattle.msp_pieces.specs.Within.{Within};
 ghost use Rattle.msp_carry.specs.Carried.{carried};
 ghost use Rattle.msp_dispatch.specs.Dispatch.{IsReported, IsAnswered, IsFault};
 ghost use Rattle.msp_dispatch.specs.Pick.{IsRoute, IsLedTo, IsStopped};
@@ -23,9 +23,9 @@ use msp_instance::Instance;
 use msp_levels::{Levels, LevelsSum};
 use msp_lexical::Lexical;
 use msp_lines::{LinesCount, LinesLate};
+use msp_pieces::{Solution, cost, settle};
 use msp_places::{PlacesCount, PlacesLate, PlacesMost};
 use msp_route::{Answer, SolverName};
-use msp_schedule::{Solution, cost, settle};
 use msp_shops::{Jackson, JacksonCut, Johnson, Open2, OpenCut};
 use msp_single::{Lawler, Moore, Smith};
 use msp_srpt::{EqualHeads, Shortest};

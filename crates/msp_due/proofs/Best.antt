@@ -17,14 +17,14 @@ use Rattle.msp_instance.specs.Instance.{job_at, common_time}
 use Rattle.msp_instance.specs.Conditions.{Inner, leaving, inner_limits}
 use Rattle.msp_instance.specs.Paths.{HasStep, HasPath, one, more}
 use Rattle.msp_class.specs.Env.{kind_of}
-use Rattle.msp_schedule.specs.declared.Piece.{Piece}
-use Rattle.msp_schedule.specs.declared.Schedule.{Schedule}
-use Rattle.msp_schedule.specs.Feasible.{Feasible}
-use Rattle.msp_schedule.specs.Cost.{cost_of, end_of, job_cost, Best}
-use Rattle.msp_schedule.specs.Blocks.{cost_at}
-use Rattle.msp_schedule.proofs.changes.Moves.{Contains-map}
-use Rattle.msp_schedule.proofs.costs.Charges.{charge_of, cost_of-bound, job_cost-mono, job_cost-scale}
-use Rattle.msp_schedule.proofs.bounds.Certified.{ranked}
+use Rattle.msp_pieces.specs.declared.Piece.{Piece}
+use Rattle.msp_pieces.specs.declared.Schedule.{Schedule}
+use Rattle.msp_pieces.specs.Feasible.{Feasible}
+use Rattle.msp_pieces.specs.Cost.{cost_of, end_of, job_cost, Best}
+use Rattle.msp_pieces.specs.Blocks.{cost_at}
+use Rattle.msp_pieces.proofs.changes.Moves.{Contains-map}
+use Rattle.msp_pieces.proofs.costs.Charges.{charge_of, cost_of-bound, job_cost-mono, job_cost-scale}
+use Rattle.msp_pieces.proofs.bounds.Certified.{ranked}
 use Rattle.msp_route.specs.Bounds.{IsAnswer}
 use Rattle.msp_route.specs.Halving.{IsLeastBound}
 use Rattle.msp_slots.specs.Pieces.{piece_at}
@@ -40,7 +40,7 @@ use Rattle.msp_due.proofs.Facts.{HasOneTime, HasOneTime-from, tree_or_pair}
 use Rattle.msp_due.proofs.Counts.{both_is_true, how_many-some, covered, slots_hold}
 use Rattle.msp_due.proofs.Meeting.{IsRun, le_leb, leb_le, tree_step, pair_step, all_in_time}
 use Rattle.msp_due.proofs.LongPieces.{schedule, feasible, answer, cost_most, cost_least}
-use Rattle.msp_schedule.proofs.feasible.OneMachine.{both_true}
+use Rattle.msp_pieces.proofs.feasible.OneMachine.{both_true}
 
 -- ---- arcs and paths
 joined_paths : (arcs : List Arc) (j k l : ℕ) → HasPath arcs j k → HasPath arcs k l → HasPath arcs j l

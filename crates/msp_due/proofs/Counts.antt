@@ -5,7 +5,7 @@ use Rattle.std.proofs.lemmas.Bool.{cases_lt, eqb-true, eq-eqb, ne_eqb, lt-ltb, l
 use Rattle.std.proofs.lemmas.Bool.Decides.{nat_tests}
 use Rattle.msp_class.specs.Sums.{total_below}
 use Rattle.msp_class.proofs.Sums.{total_below-mono, total_below-same, total_below-add, total_below-exchange, total_below-only, total_below-none, total_below-term, total_below-constant}
-use Rattle.msp_schedule.proofs.feasible.OneMachine.{both_true}
+use Rattle.msp_pieces.proofs.feasible.OneMachine.{both_true}
 use Rattle.msp_slots.specs.Seating.{one_if, begin_at}
 use Rattle.msp_slots.proofs.Places.{one_passes, cases_eq}
 use Rattle.msp_due.specs.Steps.{how_many}

@@ -8,7 +8,7 @@ use Rattle.std.proofs.Math.Nat.{mul-le-mul_left}
 use Rattle.msp_class.proofs.IntegerRing.{pos-le, ≤ℤ_trans, ≤ℤ_total}
 use Rattle.msp_instance.specs.declared.Instance.{Instance}
 use Rattle.msp_instance.specs.Instance.{job_at, common_time}
-use Rattle.msp_schedule.proofs.costs.Charges.{job_cost-mono}
+use Rattle.msp_pieces.proofs.costs.Charges.{job_cost-mono}
 use Rattle.msp_due.specs.declared.due_slot.Between.{Between}
 use Rattle.msp_due.specs.Steps.{cost_in, IsDueSlot, AreDueSlots, IsBetween}
 

@@ -13,7 +13,7 @@ use Rattle.msp_instance.specs.declared.Instance.{Instance}
 use Rattle.msp_instance.specs.declared.Need.{Need}
 use Rattle.msp_instance.specs.Instance.{no_job, no_need, job_at, common_time}
 use Rattle.msp_instance.specs.Conditions.{Inner, IsAcyclic, MeetsConditions, HasRelease, HasSameTimes, HasShape, HasTimes, IsJobOf, inner_limits, least_time, greatest_time, leaving}
-use Rattle.msp_schedule.proofs.feasible.OfClass.{IsOfClass, IsOfClass-from}
+use Rattle.msp_pieces.proofs.feasible.OfClass.{IsOfClass, IsOfClass-from}
 use Rattle.msp_slots.specs.Places.{TakeCommonTime}
 use Rattle.msp_due.specs.Due.{tree_class, pair_class}
 

@@ -4,7 +4,7 @@ use Rattle.std.proofs.lemmas.List.{drop_all, append-nil, take_all}
 use Rattle.msp_instance.specs.declared.Instance.{Instance}
 use Rattle.msp_instance.specs.declared.path_bits.Paths.{Paths}
 use Rattle.msp_instance.specs.Paths.{leads}
-use Rattle.msp_schedule.specs.declared.Piece.{Piece}
+use Rattle.msp_pieces.specs.declared.Piece.{Piece}
 use Rattle.msp_slots.specs.ListSchedule.{IsListSchedule}
 use Rattle.msp_due.specs.Steps.{AreDueSlots, AreLowered, IsReady, IsListed}
 

@@ -15,18 +15,18 @@ use Rattle.msp_class.proofs.IntegerRing.{pos-le, pos-lt, int_max-right, zero-le-
 use Rattle.msp_class.proofs.Sums.{OnceBelow, OnceBelow-distinct, OnceBelow-contains, OnceBelow-from_permutation, Contains-from_filter}
 use Rattle.msp_instance.specs.declared.Instance.{Instance}
 use Rattle.msp_instance.specs.Instance.{no_need, job_at, need_at, common_time}
-use Rattle.msp_schedule.specs.declared.Piece.{Piece}
-use Rattle.msp_schedule.specs.declared.Schedule.{Schedule}
-use Rattle.msp_schedule.specs.Piece.{IsApart, IsBefore}
-use Rattle.msp_schedule.specs.Feasible.{Feasible, IsWholeWork}
-use Rattle.msp_schedule.specs.Cost.{end_of, cost_of, job_cost}
-use Rattle.msp_schedule.proofs.lists.OnceEach.{OnceBelow-one}
-use Rattle.msp_schedule.proofs.changes.Moves.{Contains-map}
-use Rattle.msp_schedule.proofs.costs.Charges.{charge_of, cost_of-bound, cost_of-least}
+use Rattle.msp_pieces.specs.declared.Piece.{Piece}
+use Rattle.msp_pieces.specs.declared.Schedule.{Schedule}
+use Rattle.msp_pieces.specs.Piece.{IsApart, IsBefore}
+use Rattle.msp_pieces.specs.Feasible.{Feasible, IsWholeWork}
+use Rattle.msp_pieces.specs.Cost.{end_of, cost_of, job_cost}
+use Rattle.msp_pieces.proofs.lists.OnceEach.{OnceBelow-one}
+use Rattle.msp_pieces.proofs.changes.Moves.{Contains-map}
+use Rattle.msp_pieces.proofs.costs.Charges.{charge_of, cost_of-bound, cost_of-least}
 use Rattle.msp_route.specs.declared.bounds.TheConstants.{GREATEST_ANSWER_MOMENT}
 use Rattle.msp_route.specs.Bounds.{IsAnswer, answer_unit}
 use Rattle.msp_route.proofs.OneEach.{IsUncut, AreOneEach, one_each_is_feasible, one_each_is_answer}
-use Rattle.msp_schedule.proofs.feasible.OneEach.{IsUncut-unrelated}
+use Rattle.msp_pieces.proofs.feasible.OneEach.{IsUncut-unrelated}
 use Rattle.msp_slots.specs.Pieces.{piece_at}
 use Rattle.msp_slots.specs.ListSchedule.{IsListSchedule}
 use Rattle.msp_slots.proofs.ListSchedules.{begins_soon}

@@ -17,9 +17,9 @@ use Rattle.msp_instance.specs.Conditions.{IsSequence, GoesForward}
 use Rattle.msp_instance.specs.Paths.{HasStep, HasPath, one, more}
 use Rattle.msp_instance.proofs.CycleLemmas.{OnceBelow-from_sequence}
 use Rattle.msp_class.proofs.Sums.{OnceBelow-distinct}
-use Rattle.msp_schedule.proofs.bounds.Certified.{place_in, place_in-is}
-use Rattle.msp_schedule.proofs.lists.ForwardOrders.{at_inside, each_at, set_elsewhere, leads_to}
-use Rattle.msp_schedule.proofs.lists.Places.{total_below-within}
+use Rattle.msp_pieces.proofs.bounds.Certified.{place_in, place_in-is}
+use Rattle.msp_pieces.proofs.lists.ForwardOrders.{at_inside, each_at, set_elsewhere, leads_to}
+use Rattle.msp_pieces.proofs.lists.Places.{total_below-within}
 use Rattle.msp_slots.specs.Seating.{one_if}
 use Rattle.msp_slots.proofs.Places.{cases_eq}
 use Rattle.msp_due.specs.Steps.{how_many, due_after, IsLowered, AreLowered, AreLoweredFrom}

@@ -4,7 +4,7 @@ use Rattle.std.specs.Prelude.{◌&&◌}
 use Rattle.std.proofs.lemmas.Bool.{cases_lt, eqb-true, eq-eqb, ne_eqb}
 use Rattle.std.proofs.lemmas.Bool.Decides.{nat_tests}
 use Rattle.std.proofs.Math.Nat.{mul-le-mul_left}
-use Rattle.msp_schedule.proofs.feasible.OneMachine.{both_true}
+use Rattle.msp_pieces.proofs.feasible.OneMachine.{both_true}
 use Rattle.msp_slots.specs.Seating.{begin_at}
 use Rattle.msp_due.specs.Steps.{how_many}
 use Rattle.msp_due.proofs.Counts.{both_is_true, how_many-mono, how_many-more, how_many-some, only_one, covered, slots_hold, slots_full}

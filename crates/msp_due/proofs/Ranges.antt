@@ -13,8 +13,8 @@ use Rattle.msp_instance.specs.declared.Arc.{Arc}
 use Rattle.msp_instance.specs.declared.Instance.{Instance}
 use Rattle.msp_instance.specs.Conditions.{LiesWithin, IsSequence, GoesForward}
 use Rattle.msp_instance.proofs.CycleLemmas.{OnceBelow-from_sequence}
-use Rattle.msp_schedule.specs.Within.{greatest_cost}
-use Rattle.msp_schedule.proofs.bounds.Certified.{place_in, place_in-is}
+use Rattle.msp_pieces.specs.Within.{greatest_cost}
+use Rattle.msp_pieces.proofs.bounds.Certified.{place_in, place_in-is}
 use Rattle.msp_route.specs.Halving.{IsRange}
 use Rattle.msp_slots.specs.Places.{ArePlaces}
 use Rattle.msp_slots.proofs.Places.{one_passes}

@@ -6,9 +6,9 @@ use Rattle.msp_class.specs.declared.class.Order.TheVariants.{Intree, Prec}
 use Rattle.msp_class.specs.declared.class.Times.TheVariants.{Equal}
 use Rattle.msp_class.specs.declared.class.Crit.TheVariants.{Fmax}
 use Rattle.msp_instance.specs.declared.Instance.{Instance}
-use Rattle.msp_schedule.specs.declared.Schedule.{Schedule}
-use Rattle.msp_schedule.specs.Feasible.{Feasible}
-use Rattle.msp_schedule.specs.Cost.{cost_of}
+use Rattle.msp_pieces.specs.declared.Schedule.{Schedule}
+use Rattle.msp_pieces.specs.Feasible.{Feasible}
+use Rattle.msp_pieces.specs.Cost.{cost_of}
 
 -- Unrelated machines on which all jobs take one time, an intree, neither preemption nor release dates, and the greatest cost:
 -- `R|intree,p=p|fmax`.

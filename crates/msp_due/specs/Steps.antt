@@ -7,8 +7,8 @@ use Rattle.msp_instance.specs.declared.path_bits.Paths.{Paths}
 use Rattle.msp_instance.specs.Instance.{common_time}
 use Rattle.msp_instance.specs.Conditions.{Inner, IsSequence, GoesForward}
 use Rattle.msp_instance.specs.Paths.{HasPath, ShowsPaths}
-use Rattle.msp_schedule.specs.declared.Piece.{Piece}
-use Rattle.msp_schedule.specs.Blocks.{cost_at}
+use Rattle.msp_pieces.specs.declared.Piece.{Piece}
+use Rattle.msp_pieces.specs.Blocks.{cost_at}
 use Rattle.msp_slots.specs.Seating.{one_if}
 use Rattle.msp_slots.specs.Places.{ArePlaces}
 use Rattle.msp_slots.specs.ListSchedule.{IsListSchedule}

@@ -2,13 +2,13 @@
 ghost use Rattle.std.specs.Prelude.{◌≡◌, ◌+◌, ◌-◌, ◌<◌, ◌≤◌, ◌⊎◌, ◌↔◌, length, ◌≤ℤ◌, IfOk, IsTrue, if◌then◌else◌};
 ghost use Rattle.msp_class.specs.declared.sizes.TheConstants.{MOST_JOBS};
 ghost use Rattle.msp_instance.specs.Conditions.{Inner, LiesWithin};
-ghost use Rattle.msp_schedule.specs.Within.{greatest_cost};
+ghost use Rattle.msp_pieces.specs.Within.{greatest_cost};
 ghost use Rattle.msp_due.specs.Due.{tree_class, pair_class};
 ghost use Rattle.msp_due.specs.Steps.{cost_in, IsDueSlot, AreDueSlots, IsBetween};
 
 use msp_class::NoMemory;
 use msp_instance::{Instance, common_time};
-use msp_schedule::job_cost_at;
+use msp_pieces::job_cost_at;
 use std::alloc::Global;
 
 /// What the job costs that ends when so many slots are over.

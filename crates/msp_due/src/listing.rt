@@ -8,8 +8,8 @@ use crate::due_slot::due_slots;
 use crate::lowering::lower_all;
 use msp_class::{List, NoMemory};
 use msp_instance::{Instance, OrderFault, Paths, forward};
+use msp_pieces::Piece;
 use msp_route::jobs_by_key;
-use msp_schedule::Piece;
 use msp_slots::pieces_in_order;
 use std::alloc::Global;
 

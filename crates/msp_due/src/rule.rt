@@ -2,7 +2,7 @@
 ghost use Rattle.std.specs.Prelude.{◌≡◌, ◌≤◌, ◌⊎◌, length, map, pos, ◌≤ℤ◌, All, IfOk};
 ghost use Rattle.msp_class.specs.declared.sizes.TheConstants.{GREATEST_EQUAL_TIME};
 ghost use Rattle.msp_instance.specs.Conditions.{Inner};
-ghost use Rattle.msp_schedule.specs.Cost.{IsBest};
+ghost use Rattle.msp_pieces.specs.Cost.{IsBest};
 ghost use Rattle.msp_route.specs.Bounds.{IsAnswer};
 ghost use Rattle.msp_due.specs.Due.{tree_class, pair_class};
 ghost use Rattle.msp_due.specs.Steps.{IsInSlots, long_piece};
@@ -11,8 +11,8 @@ use crate::listing::{listed, shared_of};
 use crate::search::least_bound;
 use msp_class::{Class, Crit, Env, List, NoMemory, Order, Times};
 use msp_instance::{Instance, common_time};
+use msp_pieces::{Frac, Piece, Schedule, Solution};
 use msp_route::Solver;
-use msp_schedule::{Frac, Piece, Schedule, Solution};
 use std::alloc::Global;
 
 /// The class that the rule solves on trees: `R|intree,p=p|fmax`.

@@ -2,7 +2,7 @@
 ghost use Rattle.std.specs.Prelude.{◌≡◌, ◌*◌, ◌<◌, ◌≤◌, ◌↔◌, ◌⊎◌, length, pos, ◌≤ℤ◌, All, IfOk, IsTrue};
 ghost use Rattle.msp_class.specs.declared.sizes.TheConstants.{MOST_JOBS};
 ghost use Rattle.msp_instance.specs.Conditions.{Inner, LiesWithin};
-ghost use Rattle.msp_schedule.specs.Within.{greatest_cost};
+ghost use Rattle.msp_pieces.specs.Within.{greatest_cost};
 ghost use Rattle.msp_route.specs.Halving.{IsLeastBound, IsRange};
 ghost use Rattle.msp_due.specs.Due.{tree_class, pair_class, CanMeet};
 ghost use Rattle.msp_due.specs.Steps.{cost_in, IsReady, IsGreatestCost, CanPlace};

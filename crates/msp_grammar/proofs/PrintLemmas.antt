@@ -11,8 +11,8 @@ use Rattle.std.proofs.lemmas.List.Concat.{flat_map-append}
 use Rattle.msp_grammar.specs.InstanceText.{line_text, job_text, jobs_text}
 use Rattle.msp_class.specs.declared.class.Class.{Class}
 use Rattle.msp_instance.specs.declared.Job.{Job}
-use Rattle.msp_schedule.specs.declared.Frac.{Frac}
-use Rattle.msp_schedule.specs.declared.Schedule.{Schedule}
+use Rattle.msp_pieces.specs.declared.Frac.{Frac}
+use Rattle.msp_pieces.specs.declared.Schedule.{Schedule}
 use Rattle.msp_grammar.specs.ScheduleText.{fraction_text, IsFractionText, alone, over, schedule_text, IsStated, IsScheduleText}
 use Rattle.msp_grammar.specs.Printing.{spaced}
 

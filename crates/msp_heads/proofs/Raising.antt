@@ -11,8 +11,8 @@ use Rattle.msp_instance.specs.declared.Arc.{Arc}
 use Rattle.msp_instance.specs.declared.Instance.{Instance}
 use Rattle.msp_instance.specs.Instance.{job_at}
 use Rattle.msp_instance.specs.Conditions.{IsSequence, GoesForward}
-use Rattle.msp_schedule.specs.BackToBack.{time_at}
-use Rattle.msp_schedule.proofs.lists.ForwardOrders.{at_inside, each_at, set_elsewhere, comes_from}
+use Rattle.msp_pieces.specs.BackToBack.{time_at}
+use Rattle.msp_pieces.proofs.lists.ForwardOrders.{at_inside, each_at, set_elsewhere, comes_from}
 use Rattle.msp_heads.specs.Heads.{IsRaised, AreHeads}
 use Rattle.msp_route.proofs.OneInstances.{IsOneInstance, is_short, is_early}
 

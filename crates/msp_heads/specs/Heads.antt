@@ -4,7 +4,7 @@ use Rattle.msp_instance.specs.declared.Arc.{Arc}
 use Rattle.msp_instance.specs.declared.Instance.{Instance}
 use Rattle.msp_class.specs.declared.sizes.TheConstants.{MOST_JOBS, GREATEST}
 use Rattle.msp_instance.specs.Instance.{job_at, need_at}
-use Rattle.msp_schedule.specs.Blocks.{IsSound}
+use Rattle.msp_pieces.specs.Blocks.{IsSound}
 
 -- The head of a job, by the heads of the jobs from which one of the arcs leads to it: the greatest of its release date and of what these
 -- take from their heads on.

@@ -5,7 +5,7 @@ ghost use Rattle.msp_class.specs.declared.class.Env.TheVariants.{One};
 ghost use Rattle.msp_class.specs.declared.sizes.TheConstants.{MOST_JOBS, GREATEST};
 ghost use Rattle.msp_instance.specs.Instance.{job_at};
 ghost use Rattle.msp_instance.specs.Conditions.{Inner, IsSequence, GoesForward};
-ghost use Rattle.msp_schedule.specs.BackToBack.{time_at};
+ghost use Rattle.msp_pieces.specs.BackToBack.{time_at};
 ghost use Rattle.msp_heads.specs.Heads.{head_in, IsRaised, AreHeads};
 
 use msp_class::NoMemory;

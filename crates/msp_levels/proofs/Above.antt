@@ -5,7 +5,7 @@ use Rattle.std.proofs.lemmas.Bool.{eqb-true, eq-eqb, false_from_ne_true, true≢
 use Rattle.std.proofs.lemmas.List.Elements.{All-contains}
 use Rattle.std.proofs.lemmas.List.Folds.{Any-from_list_any, list_any_at}
 use Rattle.msp_instance.specs.declared.Arc.{Arc}
-use Rattle.msp_schedule.proofs.feasible.OneMachine.{both_true}
+use Rattle.msp_pieces.proofs.feasible.OneMachine.{both_true}
 use Rattle.msp_levels.specs.Sums.{has_above}
 
 module _ (arcs : List Arc) where

@@ -3,8 +3,8 @@ use Rattle.std.proofs.Common.{◌≡◌, ℕ, ◌<◌, length, arith}
 use Rattle.msp_instance.specs.declared.Instance.{Instance}
 use Rattle.msp_instance.specs.Instance.{no_need, no_job, need_at}
 use Rattle.msp_instance.specs.Conditions.{Inner}
-use Rattle.msp_schedule.proofs.feasible.OfClass.{IsOfClass, IsOfClass-from}
-use Rattle.msp_schedule.specs.Levels.{AreLevels}
+use Rattle.msp_pieces.proofs.feasible.OfClass.{IsOfClass, IsOfClass-from}
+use Rattle.msp_pieces.specs.Levels.{AreLevels}
 use Rattle.msp_levels.specs.Levels.{levels_class}
 use Rattle.msp_levels.proofs.Progress.{IsForest}
 

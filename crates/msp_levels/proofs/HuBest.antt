@@ -11,19 +11,19 @@ use Rattle.msp_class.proofs.Sums.{OnceBelow-range}
 use Rattle.msp_instance.specs.declared.Instance.{Instance}
 use Rattle.msp_instance.specs.Instance.{no_job, job_at}
 use Rattle.msp_instance.specs.Conditions.{Inner}
-use Rattle.msp_schedule.specs.declared.Piece.{Piece}
-use Rattle.msp_schedule.specs.declared.Schedule.{Schedule}
-use Rattle.msp_schedule.specs.declared.Frac.{Frac}
-use Rattle.msp_schedule.specs.Fraction.{IsOver}
-use Rattle.msp_schedule.specs.Feasible.{Feasible}
-use Rattle.msp_schedule.specs.Cost.{cost_of, end_of, job_cost, Best}
-use Rattle.msp_schedule.specs.Settled.{IsSettled}
-use Rattle.msp_schedule.specs.Within.{Within}
-use Rattle.msp_schedule.proofs.lists.Intervals.{greatest_below, greatest_below-bound, greatest_below-reached}
-use Rattle.msp_schedule.proofs.costs.Charges.{charge_of, cost_of-bound, cost_of-least}
+use Rattle.msp_pieces.specs.declared.Piece.{Piece}
+use Rattle.msp_pieces.specs.declared.Schedule.{Schedule}
+use Rattle.msp_pieces.specs.declared.Frac.{Frac}
+use Rattle.msp_pieces.specs.Fraction.{IsOver}
+use Rattle.msp_pieces.specs.Feasible.{Feasible}
+use Rattle.msp_pieces.specs.Cost.{cost_of, end_of, job_cost, Best}
+use Rattle.msp_pieces.specs.Settled.{IsSettled}
+use Rattle.msp_pieces.specs.Within.{Within}
+use Rattle.msp_pieces.proofs.lists.Intervals.{greatest_below, greatest_below-bound, greatest_below-reached}
+use Rattle.msp_pieces.proofs.costs.Charges.{charge_of, cost_of-bound, cost_of-least}
 use Rattle.msp_route.specs.Bounds.{IsAnswer, answer_unit}
 use Rattle.msp_route.proofs.OneEach.{one_each_is_answer}
-use Rattle.msp_schedule.specs.Levels.{AreLevels, jobs_from, level_bound}
+use Rattle.msp_pieces.specs.Levels.{AreLevels, jobs_from, level_bound}
 use Rattle.msp_slots.specs.ListSchedule.{IsListSchedule}
 use Rattle.msp_slots.proofs.UnitPieces.{HasUnitJobs, AreUnitPieces, one_each, uncut, unit_pieces_are_feasible, unit_pieces_are_within, unit_piece_ends}
 use Rattle.msp_slots.proofs.ListSchedules.{unit_pieces, list_schedule_is_settled}
@@ -31,7 +31,7 @@ use Rattle.msp_levels.specs.Levels.{levels_class, IsGreatestBound, IsLevelCost}
 use Rattle.msp_levels.specs.Steps.{level_from, Fits}
 use Rattle.msp_levels.proofs.Progress.{ends_soon}
 use Rattle.msp_levels.proofs.Facts.{IsUnitForest, IsUnitForest-from, IsForest-from, ones}
-use Rattle.msp_schedule.proofs.bounds.LevelBound.{StepsDown-levels, law_of_levels}
+use Rattle.msp_pieces.proofs.bounds.LevelBound.{StepsDown-levels, law_of_levels}
 
 -- the quotient rounded up is enough
 enough : (n m : ℕ) → 1 ≤ m → n ≤ m * ((n + (m - 1)) / m)

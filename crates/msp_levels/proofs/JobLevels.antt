@@ -8,8 +8,8 @@ use Rattle.msp_instance.specs.declared.Arc.{Arc}
 use Rattle.msp_instance.specs.declared.Instance.{Instance}
 use Rattle.msp_instance.specs.Conditions.{IsSequence, GoesForward}
 use Rattle.msp_instance.specs.Paths.{HasStep}
-use Rattle.msp_schedule.specs.Levels.{LeadsOut, IsLevel, AreLevels}
-use Rattle.msp_schedule.proofs.lists.ForwardOrders.{at_inside, each_at, set_elsewhere, leads_to}
+use Rattle.msp_pieces.specs.Levels.{LeadsOut, IsLevel, AreLevels}
+use Rattle.msp_pieces.proofs.lists.ForwardOrders.{at_inside, each_at, set_elsewhere, leads_to}
 use Rattle.msp_levels.specs.Steps.{IsOver}
 
 abbrev none : List ℕ

@@ -14,9 +14,9 @@ use Rattle.msp_class.proofs.Sums.{Contains-filter, Contains-from_filter, OnceBel
 use Rattle.msp_instance.specs.declared.Arc.{Arc}
 use Rattle.msp_instance.specs.declared.Instance.{Instance}
 use Rattle.msp_instance.specs.Conditions.{leaving}
-use Rattle.msp_schedule.proofs.feasible.OneMachine.{both_true}
-use Rattle.msp_schedule.proofs.changes.Moves.{AllPairs-map}
-use Rattle.msp_schedule.specs.Levels.{LeadsOut, IsLevel, AreLevels}
+use Rattle.msp_pieces.proofs.feasible.OneMachine.{both_true}
+use Rattle.msp_pieces.proofs.changes.Moves.{AllPairs-map}
+use Rattle.msp_pieces.specs.Levels.{LeadsOut, IsLevel, AreLevels}
 use Rattle.msp_slots.specs.ListSchedule.{RunsAhead, WaitsForJob, RunsInOrder}
 use Rattle.msp_slots.proofs.Progress.{stands-in}
 use Rattle.msp_levels.specs.Steps.{Fits}

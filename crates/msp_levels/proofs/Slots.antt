@@ -11,7 +11,7 @@ use Rattle.msp_class.proofs.Sums.{Contains-filter, OnceBelow-range, OnceBelow-di
 use Rattle.msp_instance.specs.declared.Arc.{Arc}
 use Rattle.msp_instance.specs.declared.Instance.{Instance}
 use Rattle.msp_instance.specs.Conditions.{entering}
-use Rattle.msp_schedule.specs.Levels.{LeadsOut, AreLevels}
+use Rattle.msp_pieces.specs.Levels.{LeadsOut, AreLevels}
 use Rattle.msp_slots.specs.ListSchedule.{RunsAhead, WaitsForJob, RunsInOrder}
 use Rattle.msp_slots.specs.Seating.{one_if, begin_at}
 use Rattle.msp_slots.proofs.Progress.{stands-in}

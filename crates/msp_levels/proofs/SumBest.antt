@@ -11,16 +11,16 @@ use Rattle.msp_class.proofs.Sums.{total_below-mono, int_total_below-mono, int_to
 use Rattle.msp_instance.specs.declared.Instance.{Instance}
 use Rattle.msp_instance.specs.Instance.{no_job, no_need, job_at, need_at, common_time}
 use Rattle.msp_instance.specs.Conditions.{Inner, inner_limits}
-use Rattle.msp_schedule.specs.declared.Piece.{Piece}
-use Rattle.msp_schedule.specs.declared.Schedule.{Schedule}
-use Rattle.msp_schedule.specs.declared.Frac.{Frac}
-use Rattle.msp_schedule.specs.Fraction.{IsOver}
-use Rattle.msp_schedule.specs.Feasible.{Feasible}
-use Rattle.msp_schedule.specs.Cost.{cost_of, end_of, job_cost, Best}
-use Rattle.msp_schedule.specs.Within.{Within}
-use Rattle.msp_schedule.specs.Levels.{AreLevels}
-use Rattle.msp_schedule.proofs.costs.Charges.{charge_of, cost_of-sum}
-use Rattle.msp_schedule.proofs.feasible.OfClass.{IsOfClass, IsOfClass-from}
+use Rattle.msp_pieces.specs.declared.Piece.{Piece}
+use Rattle.msp_pieces.specs.declared.Schedule.{Schedule}
+use Rattle.msp_pieces.specs.declared.Frac.{Frac}
+use Rattle.msp_pieces.specs.Fraction.{IsOver}
+use Rattle.msp_pieces.specs.Feasible.{Feasible}
+use Rattle.msp_pieces.specs.Cost.{cost_of, end_of, job_cost, Best}
+use Rattle.msp_pieces.specs.Within.{Within}
+use Rattle.msp_pieces.specs.Levels.{AreLevels}
+use Rattle.msp_pieces.proofs.costs.Charges.{charge_of, cost_of-sum}
+use Rattle.msp_pieces.proofs.feasible.OfClass.{IsOfClass, IsOfClass-from}
 use Rattle.msp_route.specs.Bounds.{IsAnswer, answer_unit}
 use Rattle.msp_route.proofs.OneEach.{one_each_is_answer}
 use Rattle.msp_slots.specs.ListSchedule.{IsListSchedule}

@@ -6,9 +6,9 @@ use Rattle.msp_class.specs.declared.class.Order.TheVariants.{Intree}
 use Rattle.msp_class.specs.declared.class.Times.TheVariants.{Unit as UnitTimes}
 use Rattle.msp_class.specs.declared.class.Crit.TheVariants.{Cmax}
 use Rattle.msp_instance.specs.declared.Instance.{Instance}
-use Rattle.msp_schedule.specs.declared.Frac.{Frac}
-use Rattle.msp_schedule.specs.Fraction.{IsOver}
-use Rattle.msp_schedule.specs.Levels.{AreLevels, level_bound}
+use Rattle.msp_pieces.specs.declared.Frac.{Frac}
+use Rattle.msp_pieces.specs.Fraction.{IsOver}
+use Rattle.msp_pieces.specs.Levels.{AreLevels, level_bound}
 
 -- Identical machines, an intree, neither preemption nor release dates, unit times, and the greatest completion time: `P|intree,p=1|Cmax`.
 abbrev pub levels_class : Class

@@ -3,7 +3,7 @@ ghost use Rattle.std.specs.Prelude.{◌≡◌, ℕ, ◌<◌, ◌≤◌, slice_in
 ghost use Rattle.std.specs.List.{range_with_len};
 ghost use Rattle.msp_class.specs.declared.sizes.TheConstants.{MOST_JOBS};
 ghost use Rattle.msp_instance.specs.Conditions.{Inner, IsSequence, GoesForward};
-ghost use Rattle.msp_schedule.specs.Levels.{AreLevels};
+ghost use Rattle.msp_pieces.specs.Levels.{AreLevels};
 ghost use Rattle.msp_levels.specs.Steps.{IsOver};
 
 use msp_class::NoMemory;

@@ -8,14 +8,14 @@
 //! more jobs of level at least t are left than the machines run in the slots from x to the bound less t.
 //!
 //! Best (`proofs/HuBest.antt`): a job of level t is followed by t others, so the jobs of level at least t are done t slots before the end
-//! of any schedule; the machines run no more by then (`law_of_levels` of `msp_schedule`).
+//! of any schedule; the machines run no more by then (`law_of_levels` of `msp_pieces`).
 //!
 //! Sums (`proofs/Ended.antt`, `Slots.antt`, `SumBest.antt`): by the moment t no more jobs can have ended than, for any k up to t, those with
 //! fewer than k above them and m for each slot from k on (`law_of_places` of `msp_slots`). On an outtree as many end: where a slot has room,
 //! all jobs with no more above them than slots before it have begun. Else one of the line above such a job runs in that slot, and the line
 //! paused before for want of a machine. The m jobs that ran then have as long a way down, so each has a job below it in the slot: no room.
 //!
-//! It stands on `msp_schedule`, whose law of levels bounds every feasible schedule from below, on `msp_slots`, by which the jobs run in the
+//! It stands on `msp_pieces`, whose law of levels bounds every feasible schedule from below, on `msp_slots`, by which the jobs run in the
 //! order of their levels, and on `msp_route`. The layers above use the clauses of `Solver`, and what the answers cost: the greatest bound of
 //! a level, and the sum over the moments of the jobs that cannot have ended by then.
 #![tactic(auto)]

@@ -1,17 +1,17 @@
 // Hu's rule.
 ghost use Rattle.std.specs.Prelude.{◌≡◌, IfOk};
 ghost use Rattle.msp_instance.specs.Conditions.{Inner};
-ghost use Rattle.msp_schedule.specs.Cost.{IsBest};
-ghost use Rattle.msp_schedule.specs.Fraction.{IsLowest};
-ghost use Rattle.msp_schedule.specs.Settled.{IsSettled};
+ghost use Rattle.msp_pieces.specs.Cost.{IsBest};
+ghost use Rattle.msp_pieces.specs.Fraction.{IsLowest};
+ghost use Rattle.msp_pieces.specs.Settled.{IsSettled};
 ghost use Rattle.msp_route.specs.Bounds.{IsAnswer};
 ghost use Rattle.msp_levels.specs.Levels.{levels_class, IsLevelCost};
 
 use crate::level::{jobs_by_level, levels_of};
 use msp_class::{Class, Crit, Env, NoMemory, Order, Times};
 use msp_instance::Instance;
+use msp_pieces::{Schedule, Solution};
 use msp_route::Solver;
-use msp_schedule::{Schedule, Solution};
 use msp_slots::pieces_in_order;
 use std::alloc::Global;
 
@@ -41,7 +41,7 @@ fn schedule_by_levels(alloc: Global, inst: &Instance) -> Result<Solution, NoMemo
     let order = jobs_by_level(alloc, inst.jobs.len(), &levels)?;
     let pieces = pieces_in_order(alloc, inst, order)?;
     let schedule = Schedule { unit: 1, pieces };
-    let cost = msp_schedule::cost(inst, &schedule);
+    let cost = msp_pieces::cost(inst, &schedule);
     Ok(Solution { schedule, cost })
 }
 

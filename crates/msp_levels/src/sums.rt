@@ -1,15 +1,15 @@
 // Sums of completion times by the same levels, on outtrees.
 ghost use Rattle.std.specs.Prelude.{◌≡◌, IfOk};
 ghost use Rattle.msp_instance.specs.Conditions.{Inner};
-ghost use Rattle.msp_schedule.specs.Cost.{IsBest};
+ghost use Rattle.msp_pieces.specs.Cost.{IsBest};
 ghost use Rattle.msp_route.specs.Bounds.{IsAnswer};
 ghost use Rattle.msp_levels.specs.Sums.{levels_sum_class, IsLeastSum, EndsMost};
 
 use crate::level::{jobs_by_level, levels_of};
 use msp_class::{Class, Crit, Env, NoMemory, Order, Times};
 use msp_instance::Instance;
+use msp_pieces::{Schedule, Solution};
 use msp_route::Solver;
-use msp_schedule::{Schedule, Solution};
 use msp_slots::pieces_in_order;
 use std::alloc::Global;
 
@@ -51,7 +51,7 @@ impl Solver for LevelsSum {
         let order = jobs_by_level(alloc, inst.jobs.len(), &levels)?;
         let pieces = pieces_in_order(alloc, inst, order)?;
         let schedule = Schedule { unit: 1, pieces };
-        let cost = msp_schedule::cost(inst, &schedule);
+        let cost = msp_pieces::cost(inst, &schedule);
         Ok(Solution { schedule, cost })
     }
 }

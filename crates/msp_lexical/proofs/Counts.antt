@@ -15,10 +15,10 @@ use Rattle.msp_instance.specs.declared.Instance.{Instance}
 use Rattle.msp_instance.specs.Conditions.{IsAcyclic, leaving}
 use Rattle.msp_instance.specs.Paths.{HasStep}
 use Rattle.msp_instance.proofs.ListingLemmas.{list_any-from_Contains, Contains-from_list_any}
-use Rattle.msp_schedule.specs.Blocks.{HasNoSuccessor}
-use Rattle.msp_schedule.proofs.bounds.Certified.{ranked}
-use Rattle.msp_schedule.proofs.lists.Intervals.{greatest_by-contains, greatest_by-reached}
-use Rattle.msp_schedule.proofs.lists.Permuted.{AllPairs-permutation}
+use Rattle.msp_pieces.specs.Blocks.{HasNoSuccessor}
+use Rattle.msp_pieces.proofs.bounds.Certified.{ranked}
+use Rattle.msp_pieces.proofs.lists.Intervals.{greatest_by-contains, greatest_by-reached}
+use Rattle.msp_pieces.proofs.lists.Permuted.{AllPairs-permutation}
 use Rattle.msp_lexical.specs.Steps.{HasSuccessor}
 use Rattle.msp_lexical.specs.Counts.{arcs_between, arcs_into, last_into, AreLinks}
 

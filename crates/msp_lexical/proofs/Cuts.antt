@@ -10,8 +10,8 @@ use Rattle.std.proofs.lemmas.List.Sums.{sum_by_push}
 use Rattle.msp_class.proofs.Lists.{flat_map_push}
 use Rattle.msp_instance.specs.declared.Instance.{Instance}
 use Rattle.msp_instance.specs.Paths.{HasPath}
-use Rattle.msp_schedule.proofs.feasible.Series.{AllPairs-append}
-use Rattle.msp_schedule.specs.Segments.{LeadTo, AreSegments, segments_bound}
+use Rattle.msp_pieces.proofs.feasible.Series.{AllPairs-append}
+use Rattle.msp_pieces.specs.Segments.{LeadTo, AreSegments, segments_bound}
 use Rattle.msp_lexical.specs.Slots.{AreSlots, IsEnd, IsInner, AreTops, AreCut, first_in, second_in, pairs, segment}
 use Rattle.msp_lexical.proofs.TwoRows.{greatest, each_leads}
 

@@ -13,9 +13,9 @@ use Rattle.msp_class.proofs.Sums.{AllPairs-head, AllPairs-tail, OnceBelow-range,
 use Rattle.msp_instance.specs.declared.Instance.{Instance}
 use Rattle.msp_instance.specs.Conditions.{IsAcyclic}
 use Rattle.msp_instance.specs.Paths.{HasStep, HasPath, one, more}
-use Rattle.msp_schedule.specs.Blocks.{HasNoSuccessor}
-use Rattle.msp_schedule.proofs.feasible.Series.{AllPairs-append}
-use Rattle.msp_schedule.proofs.lists.Permuted.{AllPairs-permutation}
+use Rattle.msp_pieces.specs.Blocks.{HasNoSuccessor}
+use Rattle.msp_pieces.proofs.feasible.Series.{AllPairs-append}
+use Rattle.msp_pieces.proofs.lists.Permuted.{AllPairs-permutation}
 use Rattle.msp_lexical.specs.Steps.{HasSuccessor, Outranks, AreLabels, IsLabelling}
 use Rattle.msp_lexical.specs.Counts.{arcs_into}
 use Rattle.msp_lexical.proofs.Counts.{free_from_none, successor_from_some}

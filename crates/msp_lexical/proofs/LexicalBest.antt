@@ -9,18 +9,18 @@ use Rattle.msp_class.proofs.IntegerRing.{pos-le, ≤ℤ_trans, ≤ℤ_antisym, o
 use Rattle.msp_instance.specs.declared.Instance.{Instance}
 use Rattle.msp_instance.specs.Instance.{no_need, no_job, job_at, need_at}
 use Rattle.msp_instance.specs.Conditions.{Inner, inner_limits}
-use Rattle.msp_schedule.specs.declared.Piece.{Piece}
-use Rattle.msp_schedule.specs.declared.Schedule.{Schedule}
-use Rattle.msp_schedule.specs.declared.Frac.{Frac}
-use Rattle.msp_schedule.specs.Feasible.{Feasible}
-use Rattle.msp_schedule.specs.Fraction.{IsOver}
-use Rattle.msp_schedule.specs.Cost.{cost_of, end_of, job_cost, Best}
-use Rattle.msp_schedule.specs.Within.{Within}
-use Rattle.msp_schedule.specs.Settled.{IsSettled}
-use Rattle.msp_schedule.specs.Segments.{AreSegments, segments_bound}
-use Rattle.msp_schedule.proofs.feasible.OfClass.{IsOfClass, IsOfClass-from}
-use Rattle.msp_schedule.proofs.costs.Charges.{charge_of, cost_of-bound, cost_of-least}
-use Rattle.msp_schedule.proofs.bounds.SegmentBound.{law_of_segments}
+use Rattle.msp_pieces.specs.declared.Piece.{Piece}
+use Rattle.msp_pieces.specs.declared.Schedule.{Schedule}
+use Rattle.msp_pieces.specs.declared.Frac.{Frac}
+use Rattle.msp_pieces.specs.Feasible.{Feasible}
+use Rattle.msp_pieces.specs.Fraction.{IsOver}
+use Rattle.msp_pieces.specs.Cost.{cost_of, end_of, job_cost, Best}
+use Rattle.msp_pieces.specs.Within.{Within}
+use Rattle.msp_pieces.specs.Settled.{IsSettled}
+use Rattle.msp_pieces.specs.Segments.{AreSegments, segments_bound}
+use Rattle.msp_pieces.proofs.feasible.OfClass.{IsOfClass, IsOfClass-from}
+use Rattle.msp_pieces.proofs.costs.Charges.{charge_of, cost_of-bound, cost_of-least}
+use Rattle.msp_pieces.proofs.bounds.SegmentBound.{law_of_segments}
 use Rattle.msp_route.specs.Bounds.{IsAnswer, answer_unit}
 use Rattle.msp_route.proofs.OneEach.{one_each_is_answer}
 use Rattle.msp_slots.proofs.Progress.{IsOrdered-from}

@@ -5,7 +5,7 @@ use Rattle.std.proofs.lemmas.Bool.{cases_eq}
 use Rattle.std.proofs.lemmas.List.{length-set, length-take, get_or-set_same, get_or-set_other, get_or_default, get_or-take, take_more, take_all, length-replicate, get_or-replicate}
 use Rattle.std.proofs.lemmas.List.Elements.{All-more, Contains-append_left, Contains-push}
 use Rattle.msp_class.specs.declared.sizes.TheConstants.{MOST_JOBS}
-use Rattle.msp_schedule.specs.declared.Piece.{Piece}
+use Rattle.msp_pieces.specs.declared.Piece.{Piece}
 use Rattle.msp_lexical.specs.Slots.{place_of, IsSeated, IsSeating}
 
 pub IsSeating-none : (n : ℕ) → IsSeating n [] (replicate (2 * MOST_JOBS) n)

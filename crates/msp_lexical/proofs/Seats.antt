@@ -9,8 +9,8 @@ use Rattle.std.proofs.lemmas.List.Elements.{All-contains}
 use Rattle.msp_instance.specs.declared.Arc.{Arc}
 use Rattle.msp_instance.specs.declared.Instance.{Instance}
 use Rattle.msp_instance.specs.Paths.{HasStep, HasPath, one, more}
-use Rattle.msp_schedule.proofs.feasible.OneMachine.{both_true}
-use Rattle.msp_schedule.proofs.lists.Intervals.{greatest_below, greatest_below-bound, greatest_below-reached}
+use Rattle.msp_pieces.proofs.feasible.OneMachine.{both_true}
+use Rattle.msp_pieces.proofs.lists.Intervals.{greatest_below, greatest_below-bound, greatest_below-reached}
 use Rattle.msp_slots.specs.ListSchedule.{StandsBefore, RunsInOrder}
 use Rattle.msp_slots.proofs.Progress.{IsOrdered}
 use Rattle.msp_slots.proofs.ListSchedules.{no_moment_idle}

@@ -8,8 +8,8 @@ use Rattle.msp_class.specs.declared.sizes.TheConstants.{MOST_JOBS}
 use Rattle.msp_class.proofs.Sums.{OnceBelow, OnceBelow-from_permutation, OnceBelow-contains, OnceBelow-distinct, length-OnceBelow}
 use Rattle.msp_instance.specs.declared.Instance.{Instance}
 use Rattle.msp_instance.specs.Conditions.{Inner}
-use Rattle.msp_schedule.specs.declared.Piece.{Piece}
-use Rattle.msp_schedule.proofs.changes.Moves.{Contains-map}
+use Rattle.msp_pieces.specs.declared.Piece.{Piece}
+use Rattle.msp_pieces.proofs.changes.Moves.{Contains-map}
 use Rattle.msp_slots.specs.Pieces.{piece_at}
 use Rattle.msp_slots.proofs.ListSchedules.{begins_soon}
 use Rattle.msp_lexical.specs.Lexical.{lexical_class, IsLeastCost}

@@ -6,11 +6,11 @@ use Rattle.msp_class.specs.declared.class.Order.TheVariants.{Prec}
 use Rattle.msp_class.specs.declared.class.Times.TheVariants.{Unit as UnitTimes}
 use Rattle.msp_class.specs.declared.class.Crit.TheVariants.{Cmax}
 use Rattle.msp_instance.specs.declared.Instance.{Instance}
-use Rattle.msp_schedule.specs.declared.Schedule.{Schedule}
-use Rattle.msp_schedule.specs.declared.Frac.{Frac}
-use Rattle.msp_schedule.specs.Fraction.{IsOver}
-use Rattle.msp_schedule.specs.Cost.{cost_of, Best}
-use Rattle.msp_schedule.specs.Segments.{AreSegments, segments_bound}
+use Rattle.msp_pieces.specs.declared.Schedule.{Schedule}
+use Rattle.msp_pieces.specs.declared.Frac.{Frac}
+use Rattle.msp_pieces.specs.Fraction.{IsOver}
+use Rattle.msp_pieces.specs.Cost.{cost_of, Best}
+use Rattle.msp_pieces.specs.Segments.{AreSegments, segments_bound}
 
 -- Two identical machines, any precedence, neither preemption nor release dates, unit times, and the greatest completion time:
 -- `P2|prec,p=1|Cmax`.

@@ -8,7 +8,7 @@ ghost use Rattle.msp_lexical.specs.Steps.{AreLabels, HasLabels};
 use crate::links::{leaving_counts, links_of, release};
 use msp_class::NoMemory;
 use msp_instance::{Instance, MOST_JOBS, Paths};
-use msp_schedule::all_jobs;
+use msp_pieces::all_jobs;
 use std::alloc::Global;
 
 /// The place of the first job left from which no arc leads to another, by how many lead to one from each job.

@@ -10,10 +10,10 @@
 //! (`proofs/TwoRows.antt`).
 //!
 //! Best (`proofs/LexicalBest.antt`): so any schedule runs the segments one after another, each in at least half as many slots as it has
-//! jobs, rounded up (`law_of_segments` of `msp_schedule`); and that is the number of slots of the rule. The segments are evidence of the
+//! jobs, rounded up (`law_of_segments` of `msp_pieces`); and that is the number of slots of the rule. The segments are evidence of the
 //! cost.
 //!
-//! It stands on `msp_schedule`, whose law of segments bounds every feasible schedule from below, on `msp_slots`, by which jobs run in the
+//! It stands on `msp_pieces`, whose law of segments bounds every feasible schedule from below, on `msp_slots`, by which jobs run in the
 //! order of a list, and on `msp_route`. The layers above use the clauses of `Solver`, and `segments`: lists of jobs that show that no
 //! schedule is shorter; `solve_with_segments` gives both by one labelling.
 #![tactic(auto)]

@@ -3,9 +3,9 @@ ghost use Rattle.std.specs.Prelude.{◌≡◌, ◌-◌, ◌<◌, ◌≤◌, ℕ,
 ghost use Rattle.std.specs.List.{range_with_len};
 ghost use Rattle.msp_class.specs.declared.sizes.TheConstants.{MOST_JOBS};
 ghost use Rattle.msp_instance.specs.Conditions.{Inner};
-ghost use Rattle.msp_schedule.specs.Cost.{IsBest};
-ghost use Rattle.msp_schedule.specs.Fraction.{IsLowest};
-ghost use Rattle.msp_schedule.specs.Settled.{IsSettled};
+ghost use Rattle.msp_pieces.specs.Cost.{IsBest};
+ghost use Rattle.msp_pieces.specs.Fraction.{IsLowest};
+ghost use Rattle.msp_pieces.specs.Settled.{IsSettled};
 ghost use Rattle.msp_route.specs.Bounds.{IsAnswer};
 ghost use Rattle.msp_lexical.specs.Lexical.{lexical_class, IsSegmentCost};
 ghost use Rattle.msp_lexical.specs.Steps.{HasLabels, IsByLabel, AreRanks};
@@ -13,8 +13,8 @@ ghost use Rattle.msp_lexical.specs.Steps.{HasLabels, IsByLabel, AreRanks};
 use crate::label::labels_of;
 use msp_class::{Class, Crit, Env, List, NoMemory, Order, Times};
 use msp_instance::{Instance, MOST_JOBS};
+use msp_pieces::{Piece, Schedule, Solution};
 use msp_route::{Solver, jobs_by_key};
-use msp_schedule::{Piece, Schedule, Solution};
 use msp_slots::pieces_in_order;
 use std::alloc::Global;
 
@@ -79,7 +79,7 @@ pub fn solution_of(inst: &Instance, labels: &[u32; MOST_JOBS], pieces: List<Piec
     ensures lowest { IsLowest result.cost }
 {
     let schedule = Schedule { unit: 1, pieces };
-    let cost = msp_schedule::cost(inst, &schedule);
+    let cost = msp_pieces::cost(inst, &schedule);
     Solution { schedule, cost }
 }
 

@@ -2,9 +2,9 @@
 ghost use Rattle.std.specs.Prelude.{◌≡◌, ◌≢◌, ◌+◌, ◌-◌, ◌*◌, ◌<◌, ◌≤◌, ℕ, length, nat_abs, slice_index, slice_index_or, All, AllPairs, IfOk};
 ghost use Rattle.msp_class.specs.declared.sizes.TheConstants.{MOST_JOBS};
 ghost use Rattle.msp_instance.specs.Conditions.{Inner};
-ghost use Rattle.msp_schedule.specs.declared.Piece.{Piece as PieceValue};
-ghost use Rattle.msp_schedule.specs.Segments.{AreSegments, segments_bound};
-ghost use Rattle.msp_schedule.specs.Cost.{IsBest};
+ghost use Rattle.msp_pieces.specs.declared.Piece.{Piece as PieceValue};
+ghost use Rattle.msp_pieces.specs.Segments.{AreSegments, segments_bound};
+ghost use Rattle.msp_pieces.specs.Cost.{IsBest};
 ghost use Rattle.msp_route.specs.Bounds.{IsAnswer};
 ghost use Rattle.msp_lexical.specs.Lexical.{lexical_class, IsLeastCost};
 ghost use Rattle.msp_lexical.specs.Steps.{HasLabels, IsByLabel};
@@ -14,7 +14,7 @@ use crate::label::labels_of;
 use crate::rule::{pieces_by_label, solution_of};
 use msp_class::{List, NoMemory};
 use msp_instance::{Instance, MOST_JOBS};
-use msp_schedule::{Piece, Solution};
+use msp_pieces::{Piece, Solution};
 use std::alloc::Global;
 
 /// Two for each moment: the one of the first machine, and that of the second.

@@ -11,14 +11,13 @@ use Rattle.msp_class.proofs.IntegerRing.{natural, pos-le, le-pos, ≤ℤ_trans, 
 use Rattle.msp_class.proofs.Sums.{AllPairs-contains, Contains-from_filter, total_below-none}
 use Rattle.msp_instance.specs.declared.Instance.{Instance}
 use Rattle.msp_instance.specs.Instance.{job_at, need_at}
-use Rattle.msp_schedule.specs.declared.Piece.{Piece}
-use Rattle.msp_schedule.specs.declared.Schedule.{Schedule}
-use Rattle.msp_schedule.specs.Piece.{pieces_of, IsBefore, IsApart as AreApart, start, finish, IsTimed}
-use Rattle.msp_schedule.specs.Breaks.{no_piece}
-use Rattle.msp_schedule.specs.Feasible.{Feasible, HasPlace, MayRun, FollowsRoute, IsWholeWork, total, work_of, whole_work}
-use Rattle.msp_schedule.specs.Cost.{end_of}
-use Rattle.msp_schedule.proofs.feasible.OneMachine.{IsTimed-from_span, apart_in_nat, both_true}
-use Rattle.msp_schedule.proofs.feasible.LastEnds.{last_end-contains}
+use Rattle.msp_pieces.specs.declared.Piece.{Piece}
+use Rattle.msp_pieces.specs.declared.Schedule.{Schedule}
+use Rattle.msp_pieces.specs.Piece.{pieces_of, IsBefore, IsApart as AreApart, start, finish, IsTimed, no_piece}
+use Rattle.msp_pieces.specs.Feasible.{Feasible, HasPlace, MayRun, FollowsRoute, IsWholeWork, total, work_of, whole_work}
+use Rattle.msp_pieces.specs.Cost.{end_of}
+use Rattle.msp_pieces.proofs.feasible.OneMachine.{IsTimed-from_span, apart_in_nat, both_true}
+use Rattle.msp_pieces.proofs.feasible.LastEnds.{last_end-contains}
 use Rattle.msp_slots.specs.Seating.{one_if, begin_at, IsSeated}
 use Rattle.msp_slots.proofs.Begins.{head_at}
 use Rattle.msp_lines.proofs.Turns.{floor_from, floors_differ, floor_to}

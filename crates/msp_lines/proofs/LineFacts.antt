@@ -16,12 +16,12 @@ use Rattle.msp_instance.specs.declared.Job.{Job}
 use Rattle.msp_instance.specs.declared.Instance.{Instance}
 use Rattle.msp_instance.specs.Instance.{no_need, no_job, job_at, need_at}
 use Rattle.msp_instance.specs.Conditions.{Limits, LiesWithin, HasDue, HasWeight, Inner, inner_limits}
-use Rattle.msp_schedule.specs.declared.Piece.{Piece}
-use Rattle.msp_schedule.specs.Cost.{job_cost}
-use Rattle.msp_schedule.specs.Within.{IsMoment, HasSmallCost}
-use Rattle.msp_schedule.proofs.costs.Small.{small_costs}
-use Rattle.msp_schedule.specs.Feasible.{HasOperation}
-use Rattle.msp_schedule.proofs.feasible.OfClass.{IsOfClass, IsOfClass-from}
+use Rattle.msp_pieces.specs.declared.Piece.{Piece}
+use Rattle.msp_pieces.specs.Cost.{job_cost}
+use Rattle.msp_pieces.specs.Within.{IsMoment, HasSmallCost}
+use Rattle.msp_pieces.proofs.costs.Small.{small_costs}
+use Rattle.msp_pieces.specs.Feasible.{HasOperation}
+use Rattle.msp_pieces.proofs.feasible.OfClass.{IsOfClass, IsOfClass-from}
 use Rattle.msp_assign.specs.Prices.{greatest_cost, HasCosts, IsAssigned, IsLeast}
 use Rattle.msp_slots.specs.declared.earliest.Slot.{Slot}
 use Rattle.msp_slots.specs.Earliest.{start_in, AreSlots}

@@ -18,17 +18,16 @@ use Rattle.msp_class.proofs.Sums.{OnceBelow, OnceBelow-from_distinct}
 use Rattle.msp_instance.specs.declared.Arc.{Arc}
 use Rattle.msp_instance.specs.declared.Instance.{Instance}
 use Rattle.msp_instance.specs.Instance.{job_at, need_at}
-use Rattle.msp_schedule.specs.declared.Piece.{Piece}
-use Rattle.msp_schedule.specs.declared.Schedule.{Schedule}
-use Rattle.msp_schedule.specs.Piece.{pieces_of, IsBefore, IsApart}
-use Rattle.msp_schedule.specs.Breaks.{no_piece}
-use Rattle.msp_schedule.specs.Cost.{end_of}
-use Rattle.msp_schedule.specs.Feasible.{Feasible, HasPlace, MayRun, FollowsRoute, GetsWork, IsWholeWork, total, work_of, whole_work}
-use Rattle.msp_schedule.specs.Within.{IsMoment, Within}
-use Rattle.msp_schedule.proofs.lists.OnceEach.{OnceBelow-one}
-use Rattle.msp_schedule.proofs.feasible.OneMachine.{filter-same}
-use Rattle.msp_schedule.proofs.feasible.LastEnds.{last_end-least}
-use Rattle.msp_schedule.proofs.feasible.Frames.{of_one}
+use Rattle.msp_pieces.specs.declared.Piece.{Piece}
+use Rattle.msp_pieces.specs.declared.Schedule.{Schedule}
+use Rattle.msp_pieces.specs.Piece.{pieces_of, IsBefore, IsApart, no_piece}
+use Rattle.msp_pieces.specs.Cost.{end_of}
+use Rattle.msp_pieces.specs.Feasible.{Feasible, HasPlace, MayRun, FollowsRoute, GetsWork, IsWholeWork, total, work_of, whole_work}
+use Rattle.msp_pieces.specs.Within.{IsMoment, Within}
+use Rattle.msp_pieces.proofs.lists.OnceEach.{OnceBelow-one}
+use Rattle.msp_pieces.proofs.feasible.OneMachine.{filter-same}
+use Rattle.msp_pieces.proofs.feasible.LastEnds.{last_end-least}
+use Rattle.msp_pieces.proofs.feasible.Frames.{of_one}
 use Rattle.msp_route.specs.declared.bounds.TheConstants.{GREATEST_ANSWER_MOMENT}
 use Rattle.msp_route.specs.Bounds.{IsAnswer, answer_unit}
 use Rattle.msp_slots.proofs.Begins.{head_at}

@@ -1,12 +1,12 @@
 // What jobs cost in the slots of a flow shop.
 ghost use Rattle.std.specs.Prelude.{◌<◌, pos, length, All};
 ghost use Rattle.msp_class.specs.declared.list.TheConstants.{PLACES};
-ghost use Rattle.msp_schedule.specs.Within.{HasSmallCost};
+ghost use Rattle.msp_pieces.specs.Within.{HasSmallCost};
 ghost use Rattle.msp_lines.specs.Costs.{line_cost};
 
 use msp_assign::Costs;
 use msp_instance::Instance;
-use msp_schedule::job_cost_at;
+use msp_pieces::job_cost_at;
 use msp_slots::Slot;
 
 /// More than any schedule costs: what a job costs in a slot that begins before its release date.

@@ -3,7 +3,7 @@
 ghost use Rattle.std.specs.Prelude.{◌≡◌, ◌<◌, ◌≤◌, ◌⊎◌, length, All, IfOk};
 ghost use Rattle.msp_class.specs.declared.sizes.TheConstants.{MOST_JOBS, MOST_MACHINES};
 ghost use Rattle.msp_instance.specs.Conditions.{Inner};
-ghost use Rattle.msp_schedule.specs.Cost.{IsBest};
+ghost use Rattle.msp_pieces.specs.Cost.{IsBest};
 ghost use Rattle.msp_route.specs.Bounds.{IsAnswer};
 ghost use Rattle.msp_lines.specs.Classes.{lines_late_class, lines_count_class};
 ghost use Rattle.msp_lines.specs.LineSteps.{line_class, line_part, lined, AreLeastLined};
@@ -13,8 +13,8 @@ use crate::line_costs::LineCosts;
 use msp_assign::Assignment;
 use msp_class::{Class, Crit, Env, List, NoMemory, Order, Times};
 use msp_instance::Instance;
+use msp_pieces::{Piece, Schedule, Solution};
 use msp_route::Solver;
-use msp_schedule::{Piece, Schedule, Solution};
 use msp_slots::{Slot, earliest_slots, sorted_releases};
 use std::alloc::Global;
 
@@ -99,7 +99,7 @@ fn schedule_in_lines(alloc: Global, inst: &Instance) -> Result<Solution, NoMemor
 {
     let pieces = least_pieces(alloc, inst)?;
     let schedule = Schedule { unit: 1, pieces };
-    let cost = msp_schedule::cost(inst, &schedule);
+    let cost = msp_pieces::cost(inst, &schedule);
     Ok(Solution { schedule, cost })
 }
 

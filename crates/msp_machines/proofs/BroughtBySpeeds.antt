@@ -10,12 +10,12 @@ use Rattle.msp_class.specs.Env.{kind_of}
 use Rattle.msp_class.proofs.IntegerRing.{pos-le, le-pos}
 use Rattle.msp_class.specs.declared.sizes.TheConstants.{GREATEST_MULTIPLE}
 use Rattle.msp_instance.specs.declared.Instance.{Instance}
-use Rattle.msp_schedule.specs.declared.limits.TheConstants.{GREATEST_CARRIED_UNIT}
-use Rattle.msp_schedule.specs.declared.Schedule.{Schedule}
-use Rattle.msp_schedule.specs.declared.Solution.{Solution}
-use Rattle.msp_schedule.specs.Feasible.{Feasible}
-use Rattle.msp_schedule.specs.Cost.{IsSolution}
-use Rattle.msp_schedule.specs.Within.{Within, IsUnit, IsMoment}
+use Rattle.msp_pieces.specs.declared.limits.TheConstants.{GREATEST_CARRIED_UNIT}
+use Rattle.msp_pieces.specs.declared.Schedule.{Schedule}
+use Rattle.msp_pieces.specs.declared.Solution.{Solution}
+use Rattle.msp_pieces.specs.Feasible.{Feasible}
+use Rattle.msp_pieces.specs.Cost.{IsSolution}
+use Rattle.msp_pieces.specs.Within.{Within, IsUnit, IsMoment}
 use Rattle.msp_table.specs.Rows.{keeps_size}
 use Rattle.msp_route.specs.declared.bounds.TheConstants.{GREATEST_BACK_MOMENT}
 use Rattle.msp_route.specs.Law.{IsBack, IsReordered}

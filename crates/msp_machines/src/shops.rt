@@ -11,8 +11,8 @@ ghost use Rattle.msp_machines.specs.laws.Routes.{renumbered_39, renumbered_40};
 
 use msp_class::{List, NoMemory};
 use msp_instance::{Instance, Job, Need};
+use msp_pieces::{Piece, Solution};
 use msp_route::{KeepsSchedules, Reduction, led};
-use msp_schedule::{Piece, Solution};
 use msp_table::Row;
 use std::alloc::Global;
 

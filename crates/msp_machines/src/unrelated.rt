@@ -4,10 +4,10 @@ ghost use Rattle.msp_class.specs.declared.sizes.TheConstants.{MOST_MACHINES, GRE
 ghost use Rattle.msp_instance.specs.Conditions.{HasSmallMultiple, LiesWithin, Inner};
 ghost use Rattle.msp_class.specs.declared.environments.EnvKind.TheVariants.{Uniform};
 ghost use Rattle.msp_class.specs.Env.{kind_of};
-ghost use Rattle.msp_schedule.specs.declared.limits.TheConstants.{GREATEST_CARRIED_UNIT};
-ghost use Rattle.msp_schedule.specs.Feasible.{Feasible};
-ghost use Rattle.msp_schedule.specs.Within.{Within};
-ghost use Rattle.msp_schedule.specs.Cost.{IsSolution};
+ghost use Rattle.msp_pieces.specs.declared.limits.TheConstants.{GREATEST_CARRIED_UNIT};
+ghost use Rattle.msp_pieces.specs.Feasible.{Feasible};
+ghost use Rattle.msp_pieces.specs.Within.{Within};
+ghost use Rattle.msp_pieces.specs.Cost.{IsSolution};
 ghost use Rattle.msp_route.specs.Law.{Applies};
 ghost use Rattle.msp_route.specs.laws.Stays.{carries_same};
 ghost use Rattle.msp_route.specs.Rates.{least_common_multiple, speed_rate};
@@ -18,8 +18,8 @@ ghost use Rattle.msp_machines.specs.laws.OnEach.{stay_23, stay_24};
 
 use msp_class::{List, NoMemory};
 use msp_instance::{Curve, Instance, Job, Need, Step, multiple_of_all};
+use msp_pieces::{Schedule, Solution, cost};
 use msp_route::{KeepsSchedules, Reduction, led};
-use msp_schedule::{Schedule, Solution, cost};
 use msp_table::Row;
 use std::alloc::Global;
 

@@ -9,13 +9,13 @@ use Rattle.msp_instance.specs.declared.Instance.{Instance}
 use Rattle.msp_instance.specs.Instance.{job_at}
 use Rattle.msp_instance.specs.Conditions.{Inner, inner_limits}
 use Rattle.msp_instance.specs.Multiples.{IsLeastOfAll}
-use Rattle.msp_schedule.specs.declared.Piece.{Piece}
-use Rattle.msp_schedule.specs.declared.Schedule.{Schedule}
-use Rattle.msp_schedule.specs.Feasible.{Feasible}
-use Rattle.msp_schedule.specs.Cost.{end_of, job_cost, cost_of, Best}
-use Rattle.msp_schedule.specs.Within.{Within}
-use Rattle.msp_schedule.proofs.costs.Charged.{sum_when, best_by_moments}
-use Rattle.msp_schedule.proofs.costs.Charges.{charge_of, cost_of-sum}
+use Rattle.msp_pieces.specs.declared.Piece.{Piece}
+use Rattle.msp_pieces.specs.declared.Schedule.{Schedule}
+use Rattle.msp_pieces.specs.Feasible.{Feasible}
+use Rattle.msp_pieces.specs.Cost.{end_of, job_cost, cost_of, Best}
+use Rattle.msp_pieces.specs.Within.{Within}
+use Rattle.msp_pieces.proofs.costs.Charged.{sum_when, best_by_moments}
+use Rattle.msp_pieces.proofs.costs.Charges.{charge_of, cost_of-sum}
 use Rattle.msp_route.specs.Bounds.{IsAnswer}
 use Rattle.msp_assign.specs.Prices.{column_of}
 use Rattle.msp_assign.proofs.Choices.{column-inside, column-once, choice_no_less}

@@ -15,10 +15,10 @@ use Rattle.msp_instance.specs.declared.Instance.{Instance}
 use Rattle.msp_instance.specs.Instance.{no_job, job_at}
 use Rattle.msp_instance.specs.Conditions.{LiesWithin, Inner, inner_limits}
 use Rattle.msp_instance.specs.Multiples.{IsLeastOfAll}
-use Rattle.msp_schedule.specs.declared.Piece.{Piece}
-use Rattle.msp_schedule.specs.Cost.{job_cost, tardiness, late}
-use Rattle.msp_schedule.specs.Within.{HasSmallCost}
-use Rattle.msp_schedule.proofs.costs.Small.{product_within, due_within, small_costs}
+use Rattle.msp_pieces.specs.declared.Piece.{Piece}
+use Rattle.msp_pieces.specs.Cost.{job_cost, tardiness, late}
+use Rattle.msp_pieces.specs.Within.{HasSmallCost}
+use Rattle.msp_pieces.proofs.costs.Small.{product_within, due_within, small_costs}
 use Rattle.msp_assign.specs.Prices.{HasCosts, IsAssigned, IsLeast, greatest_cost}
 use Rattle.msp_places.specs.declared.place.Place.{Place}
 use Rattle.msp_places.specs.Classes.{places_late_class, places_count_class}

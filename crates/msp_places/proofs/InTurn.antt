@@ -2,7 +2,7 @@
 use Rattle.std.proofs.Common.{◌≡◌, ℕ, ◌-◌, ◌<◌, ◌≤◌, List, length, get_or, take, swap}
 use Rattle.std.proofs.lemmas.List.Sorted.{All-permutation}
 use Rattle.msp_instance.specs.declared.Instance.{Instance}
-use Rattle.msp_schedule.proofs.lists.InTurn.{AreInTurn, put_next}
+use Rattle.msp_pieces.proofs.lists.InTurn.{AreInTurn, put_next}
 use Rattle.msp_places.specs.declared.place.Place.{Place}
 use Rattle.msp_places.specs.Places.{place_at}
 use Rattle.msp_places.specs.Most.{CostsLess, IsCheapest}

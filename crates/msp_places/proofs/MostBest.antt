@@ -14,15 +14,15 @@ use Rattle.msp_instance.specs.declared.Instance.{Instance}
 use Rattle.msp_instance.specs.Instance.{job_at}
 use Rattle.msp_instance.specs.Conditions.{Inner, inner_limits}
 use Rattle.msp_instance.specs.Multiples.{IsLeastOfAll}
-use Rattle.msp_schedule.specs.declared.Schedule.{Schedule}
-use Rattle.msp_schedule.specs.Feasible.{Feasible}
-use Rattle.msp_schedule.specs.Cost.{end_of, job_cost, cost_of, Best}
-use Rattle.msp_schedule.proofs.costs.Charges.{charge_of, cost_of-bound, cost_of-reached}
+use Rattle.msp_pieces.specs.declared.Schedule.{Schedule}
+use Rattle.msp_pieces.specs.Feasible.{Feasible}
+use Rattle.msp_pieces.specs.Cost.{end_of, job_cost, cost_of, Best}
+use Rattle.msp_pieces.proofs.costs.Charges.{charge_of, cost_of-bound, cost_of-reached}
 use Rattle.msp_places.specs.declared.place.Place.{Place}
 use Rattle.msp_places.specs.Places.{ComesFirst, AreEarliestPlaces, no_place, place_at, HaveOwnPlaces}
 use Rattle.msp_places.specs.Placed.{AreApart}
 use Rattle.msp_places.specs.Most.{cost_in, CostsLess, IsOrderByCost}
-use Rattle.msp_schedule.proofs.costs.Charged.{costs_no_less}
+use Rattle.msp_pieces.proofs.costs.Charged.{costs_no_less}
 use Rattle.msp_places.proofs.OwnPlaces.{law_of_earliest_places}
 use Rattle.msp_places.proofs.PlaceFacts.{IsPlacesInstance, takes_common_time}
 use Rattle.msp_places.proofs.PlacedJobs.{placed_schedule, placed_is_feasible, placed_end}

@@ -13,11 +13,11 @@ use Rattle.msp_instance.specs.declared.Job.{Job}
 use Rattle.msp_instance.specs.declared.Instance.{Instance}
 use Rattle.msp_instance.specs.Conditions.{Inner}
 use Rattle.msp_instance.specs.Multiples.{IsLeastOfAll}
-use Rattle.msp_schedule.specs.declared.Piece.{Piece}
-use Rattle.msp_schedule.specs.declared.Schedule.{Schedule}
-use Rattle.msp_schedule.specs.Cost.{Best}
-use Rattle.msp_schedule.specs.Within.{HasSmallCost, Within}
-use Rattle.msp_schedule.proofs.costs.Small.{small_costs}
+use Rattle.msp_pieces.specs.declared.Piece.{Piece}
+use Rattle.msp_pieces.specs.declared.Schedule.{Schedule}
+use Rattle.msp_pieces.specs.Cost.{Best}
+use Rattle.msp_pieces.specs.Within.{HasSmallCost, Within}
+use Rattle.msp_pieces.proofs.costs.Small.{small_costs}
 use Rattle.msp_route.specs.Bounds.{IsAnswer}
 use Rattle.msp_places.specs.declared.place.Place.{Place}
 use Rattle.msp_places.specs.declared.most.Candidate.{Candidate}
@@ -26,7 +26,7 @@ use Rattle.msp_places.specs.Places.{lengths_of, AreEarliestPlaces, place_at}
 use Rattle.msp_places.specs.Placed.{piece_in, placed}
 use Rattle.msp_places.specs.Most.{cost_in, CostsLess, IsCheapest, IsOrderByCost, ArePlacedByCost, IsByCost}
 use Rattle.msp_places.specs.Search.{Precedes, IsCandidate, IsBestOf}
-use Rattle.msp_schedule.proofs.lists.InTurn.{length_is}
+use Rattle.msp_pieces.proofs.lists.InTurn.{length_is}
 use Rattle.msp_places.proofs.PlaceFacts.{IsPlacesInstance-from, common_time_within, lengths_short}
 use Rattle.msp_places.proofs.PlacedJobs.{placed_is_within, placed_is_answer, ends_bounded}
 use Rattle.msp_places.proofs.MostBest.{job, own, most_is_best}

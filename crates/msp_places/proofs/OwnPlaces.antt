@@ -17,14 +17,14 @@ use Rattle.msp_instance.specs.declared.Instance.{Instance}
 use Rattle.msp_instance.specs.Instance.{no_need, no_job, job_at, need_at, common_time}
 use Rattle.msp_instance.specs.Conditions.{Limits, MeetsConditions, HasShape, HasTimes, HasSpeeds, least_time, greatest_time}
 use Rattle.msp_instance.specs.Multiples.{IsLeastOfAll}
-use Rattle.msp_schedule.specs.declared.Schedule.{Schedule}
-use Rattle.msp_schedule.specs.Piece.{start, finish, IsTimed}
-use Rattle.msp_schedule.specs.Intervals.{IsApart}
-use Rattle.msp_schedule.specs.Feasible.{Feasible, HasOperation, MayRun, IsWholeWork}
-use Rattle.msp_schedule.specs.Cost.{end_of}
-use Rattle.msp_schedule.proofs.lists.Positions.{total_below-strict, holds_up, ends_after}
-use Rattle.msp_schedule.proofs.feasible.OneMachine.{both_true}
-use Rattle.msp_schedule.proofs.feasible.SolePieces.{only_piece, IsOnly, is_only, only_timed, only_placed, only_apart, only_end}
+use Rattle.msp_pieces.specs.declared.Schedule.{Schedule}
+use Rattle.msp_pieces.specs.Piece.{start, finish, IsTimed}
+use Rattle.msp_pieces.specs.Intervals.{IsApart}
+use Rattle.msp_pieces.specs.Feasible.{Feasible, HasOperation, MayRun, IsWholeWork}
+use Rattle.msp_pieces.specs.Cost.{end_of}
+use Rattle.msp_pieces.proofs.lists.Positions.{total_below-strict, holds_up, ends_after}
+use Rattle.msp_pieces.proofs.feasible.OneMachine.{both_true}
+use Rattle.msp_pieces.proofs.feasible.SolePieces.{only_piece, IsOnly, is_only, only_timed, only_placed, only_apart, only_end}
 use Rattle.msp_places.specs.declared.place.Place.{Place}
 use Rattle.msp_places.specs.Places.{lengths_of, place_on, ComesFirst, AreEarliest, no_place, place_at, HaveOwnPlaces, TakeCommonTime, LawOfEarliestPlaces}
 use Rattle.msp_places.proofs.Ranks.{one_if, rank, rank_inside, rank_once, rank_early}

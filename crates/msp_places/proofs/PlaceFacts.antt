@@ -14,7 +14,7 @@ use Rattle.msp_instance.specs.declared.Instance.{Instance}
 use Rattle.msp_instance.specs.Instance.{no_need, no_job, job_at, common_time}
 use Rattle.msp_instance.specs.Conditions.{Inner, Limits, MeetsConditions, HasShape, HasTimes, HasSpeeds, least_time, greatest_time}
 use Rattle.msp_instance.specs.Multiples.{IsLeastOfAll}
-use Rattle.msp_schedule.proofs.feasible.OfClass.{IsOfClass, IsOfClass-from}
+use Rattle.msp_pieces.proofs.feasible.OfClass.{IsOfClass, IsOfClass-from}
 use Rattle.msp_places.specs.Classes.{places_most_class}
 use Rattle.msp_places.specs.Places.{lengths_of, TakeCommonTime}
 use Rattle.msp_places.proofs.OwnPlaces.{lengths-count, long-speed, long-some}

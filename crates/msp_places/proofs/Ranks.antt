@@ -4,7 +4,7 @@ use Rattle.std.proofs.Common.{◌≡◌, ℕ, ◌<◌, ◌≤◌, ◌⊎◌, inl
 use Rattle.std.proofs.lemmas.Bool.{cases_lt, eqb-true, eq-eqb, ltb-true, lt-ltb, leb-true, le-leb}
 use Rattle.msp_class.specs.Sums.{total_below}
 use Rattle.msp_class.proofs.Sums.{cond-yes, cond-no, cond-le, total_below-mono, total_below-term, total_below-bound, total_below-constant, total_below-exchange}
-use Rattle.msp_schedule.proofs.lists.Positions.{total_below-strict, count_at_most_one}
+use Rattle.msp_pieces.proofs.lists.Positions.{total_below-strict, count_at_most_one}
 
 abbrev pub one_if : Bool → ℕ
 one_if b = cond b 1 0

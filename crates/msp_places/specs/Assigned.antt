@@ -1,7 +1,7 @@
 -- Jobs that are assigned to the earliest places at least cost. No public contract cites this file.
 use Rattle.std.specs.Prelude.{◌≡◌, ℕ, ℤ, List, length}
 use Rattle.msp_instance.specs.declared.Instance.{Instance}
-use Rattle.msp_schedule.specs.declared.Piece.{Piece}
+use Rattle.msp_pieces.specs.declared.Piece.{Piece}
 use Rattle.msp_assign.specs.Prices.{IsAssigned, IsLeast, column_of}
 use Rattle.msp_places.specs.declared.place.Place.{Place}
 use Rattle.msp_places.specs.Places.{place_at, AreEarliestPlaces}

@@ -1,7 +1,7 @@
 -- The pieces of jobs in places.
 use Rattle.std.specs.Prelude.{◌≡◌, ℕ, ◌<◌, List, map, pos}
 use Rattle.std.specs.List.{range_with_len}
-use Rattle.msp_schedule.specs.declared.Piece.{Piece}
+use Rattle.msp_pieces.specs.declared.Piece.{Piece}
 use Rattle.msp_places.specs.declared.place.Place.{Place}
 use Rattle.msp_places.specs.Places.{place_at}
 

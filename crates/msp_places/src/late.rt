@@ -13,7 +13,7 @@ ghost use Rattle.std.specs.Prelude.{◌≡◌, ◌<◌, ◌≤◌, ◌⊎◌, le
 ghost use Rattle.msp_class.specs.declared.sizes.TheConstants.{MOST_JOBS, GREATEST_MULTIPLE};
 ghost use Rattle.msp_instance.specs.Conditions.{Inner};
 ghost use Rattle.msp_instance.specs.Multiples.{IsLeastOfAll};
-ghost use Rattle.msp_schedule.specs.Cost.{IsBest};
+ghost use Rattle.msp_pieces.specs.Cost.{IsBest};
 ghost use Rattle.msp_route.specs.Bounds.{IsAnswer};
 ghost use Rattle.msp_places.specs.Classes.{places_late_class, places_count_class};
 ghost use Rattle.msp_places.specs.Assigned.{in_columns, AreLeastAssigned};
@@ -25,8 +25,8 @@ use crate::place_costs::PlaceCosts;
 use msp_assign::Assignment;
 use msp_class::{Class, Crit, Env, List, NoMemory, Order, Times};
 use msp_instance::{Instance, multiple_of_all};
+use msp_pieces::{Piece, Schedule, Solution};
 use msp_route::Solver;
-use msp_schedule::{Piece, Schedule, Solution};
 use std::alloc::Global;
 
 /// The class of jobs of one time on uniform machines by weighted tardiness: `Q|p=p|sumwT`.
@@ -94,7 +94,7 @@ fn schedule_in_places(alloc: Global, inst: &Instance) -> Result<Solution, NoMemo
         unit: i128::from(unit),
         pieces,
     };
-    let cost = msp_schedule::cost(inst, &schedule);
+    let cost = msp_pieces::cost(inst, &schedule);
     Ok(Solution { schedule, cost })
 }
 

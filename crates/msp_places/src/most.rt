@@ -13,7 +13,7 @@ ghost use Rattle.std.specs.List.{range_with_len};
 ghost use Rattle.msp_class.specs.declared.sizes.TheConstants.{GREATEST_MULTIPLE};
 ghost use Rattle.msp_instance.specs.Conditions.{Inner};
 ghost use Rattle.msp_instance.specs.Multiples.{IsLeastOfAll};
-ghost use Rattle.msp_schedule.specs.Cost.{IsBest};
+ghost use Rattle.msp_pieces.specs.Cost.{IsBest};
 ghost use Rattle.msp_route.specs.Bounds.{IsAnswer};
 ghost use Rattle.msp_places.specs.Classes.{places_most_class};
 ghost use Rattle.msp_places.specs.Placed.{placed};
@@ -25,8 +25,8 @@ use crate::earliest::earliest_places;
 use crate::place::{Place, piece_in};
 use msp_class::{Class, Crit, Env, List, NoMemory, Order, Times};
 use msp_instance::{Instance, multiple_of_all};
+use msp_pieces::{Piece, Schedule, Solution, all_jobs, job_cost_at};
 use msp_route::Solver;
-use msp_schedule::{Piece, Schedule, Solution, all_jobs, job_cost_at};
 use std::alloc::Global;
 
 /// The class that the rule solves: `Q|p=p|fmax`.
@@ -190,7 +190,7 @@ fn schedule_by_cost(alloc: Global, inst: &Instance) -> Result<Solution, NoMemory
         unit: i128::from(unit),
         pieces,
     };
-    let cost = msp_schedule::cost(inst, &schedule);
+    let cost = msp_pieces::cost(inst, &schedule);
     Ok(Solution { schedule, cost })
 }
 

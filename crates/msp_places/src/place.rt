@@ -2,7 +2,7 @@
 ghost use Rattle.std.specs.Prelude.{◌≡◌};
 ghost use Rattle.msp_places.specs.Placed.{piece_in};
 
-use msp_schedule::Piece;
+use msp_pieces::Piece;
 
 /// A place on a machine: the job of the rank, from 1, of those that follow one another there, and when it begins and ends over a unit.
 #[derive(Clone, Copy)]

@@ -2,13 +2,13 @@
 ghost use Rattle.std.specs.Prelude.{◌<◌, ◌≤◌, pos, length, All};
 ghost use Rattle.msp_class.specs.declared.list.TheConstants.{PLACES};
 ghost use Rattle.msp_class.specs.declared.sizes.TheConstants.{GREATEST_MULTIPLE};
-ghost use Rattle.msp_schedule.specs.Within.{HasSmallCost};
+ghost use Rattle.msp_pieces.specs.Within.{HasSmallCost};
 ghost use Rattle.msp_places.specs.Assigned.{place_cost};
 
 use crate::place::Place;
 use msp_assign::Costs;
 use msp_instance::Instance;
-use msp_schedule::job_cost_at;
+use msp_pieces::job_cost_at;
 
 /// What the jobs of an instance cost in places, over the unit.
 #[derive(Drop)]

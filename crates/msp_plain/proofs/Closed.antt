@@ -2,9 +2,9 @@
 use Rattle.std.proofs.Common.{◌≡◌, ℕ, cond, List, [], ◌∷◌, map, IsPermutation, ℤ, pos, nat_abs, ◌*ℤ◌, refl, sym, ap, ap₂, subst}
 use Rattle.std.proofs.lemmas.List.Sorted.{IsPermutation-map, list_any-IsPermutation}
 use Rattle.msp_class.proofs.Sums.{total_below-same}
-use Rattle.msp_schedule.specs.declared.Piece.{Piece}
-use Rattle.msp_schedule.specs.Piece.{start, finish}
-use Rattle.msp_schedule.specs.Busy.{runs, busy, busy_moment}
+use Rattle.msp_pieces.specs.declared.Piece.{Piece}
+use Rattle.msp_pieces.specs.Piece.{start, finish}
+use Rattle.msp_pieces.specs.Busy.{runs, busy, busy_moment}
 use Rattle.msp_plain.specs.Equal.{moved, closed}
 
 map-agree : {X Y : Type 0} (f g : X → Y) → ((x : X) → f x ≡ g x) → (xs : List X) → map f xs ≡ map g xs

@@ -10,21 +10,21 @@ use Rattle.msp_class.proofs.IntegerRing.{≤ℤ_refl, ≤ℤ_trans}
 use Rattle.msp_instance.specs.declared.Instance.{Instance}
 use Rattle.msp_instance.specs.Instance.{common_time}
 use Rattle.msp_instance.specs.Conditions.{Inner}
-use Rattle.msp_schedule.specs.declared.Piece.{Piece}
-use Rattle.msp_schedule.specs.declared.Frac.{Frac}
-use Rattle.msp_schedule.specs.declared.Schedule.{Schedule}
+use Rattle.msp_pieces.specs.declared.Piece.{Piece}
+use Rattle.msp_pieces.specs.declared.Frac.{Frac}
+use Rattle.msp_pieces.specs.declared.Schedule.{Schedule}
 use Rattle.msp_class.specs.declared.sizes.TheConstants.{MOST_PIECES, GREATEST_UNIT}
-use Rattle.msp_schedule.specs.Feasible.{Feasible}
-use Rattle.msp_schedule.specs.Fraction.{IsOver}
-use Rattle.msp_schedule.specs.Cost.{cost_of, IsSolution}
-use Rattle.msp_schedule.specs.Within.{IsMoment, Within}
+use Rattle.msp_pieces.specs.Feasible.{Feasible}
+use Rattle.msp_pieces.specs.Fraction.{IsOver}
+use Rattle.msp_pieces.specs.Cost.{cost_of, IsSolution}
+use Rattle.msp_pieces.specs.Within.{IsMoment, Within}
 use Rattle.msp_route.specs.Law.{Applies, IsBack, IsReordered}
 use Rattle.msp_route.specs.Bounds.{EndsBy, IsBounded, KeepsBounds, greatest_unit}
 use Rattle.msp_route.specs.declared.bounds.TheConstants.{GREATEST_CLOSED_UP}
 use Rattle.msp_plain.specs.Equal.{moved, led_to_unit, closed, closed_up}
 use Rattle.msp_route.specs.Rates.{by_common_time}
 use Rattle.msp_plain.specs.laws.EqualTimes.{led_is, leads_54, reordered_54, early_54}
-use Rattle.msp_schedule.specs.Busy.{busy_moment}
+use Rattle.msp_pieces.specs.Busy.{busy_moment}
 
 -- no kind has a greater unit than the greatest
 most_unit : (k : EnvKind) → greatest_unit k ≤ℤ GREATEST_UNIT

@@ -10,11 +10,11 @@ use Rattle.msp_class.specs.declared.sizes.TheConstants.{GREATEST_UNIT}
 use Rattle.msp_class.proofs.IntegerRing.{natural_some}
 use Rattle.msp_instance.specs.Conditions.{LiesWithin}
 use Rattle.msp_instance.specs.declared.Job.{Job}
-use Rattle.msp_schedule.specs.declared.Piece.{Piece}
+use Rattle.msp_pieces.specs.declared.Piece.{Piece}
 use Rattle.msp_plain.specs.Threshold.{IsInTime}
 use Rattle.msp_plain.specs.Threshold.{greatest_threshold}
-use Rattle.msp_schedule.specs.Within.{IsUnit}
-use Rattle.msp_schedule.proofs.costs.Small.{product_within}
+use Rattle.msp_pieces.specs.Within.{IsUnit}
+use Rattle.msp_pieces.proofs.costs.Small.{product_within}
 use Rattle.msp_route.specs.Sizes.{greatest_row_date}
 
 both_within : (d b : ℤ) → LiesWithin greatest_row_date d → LiesWithin greatest_threshold b → LiesWithin (10 ^ 19) (d +ℤ b)

@@ -5,14 +5,14 @@ use Rattle.std.proofs.lemmas.Int.{ints, clamps}
 use Rattle.std.proofs.lemmas.List.{length-map, get_or-map}
 use native.Mathlib.Nat.{mul-le-mul_left}
 use Rattle.msp_class.proofs.IntegerRing.{pos-le, ≤ℤ_trans}
-use Rattle.msp_schedule.specs.declared.Piece.{Piece}
-use Rattle.msp_schedule.specs.Settled.{IsReportedFirst}
-use Rattle.msp_schedule.proofs.feasible.Frames.{Lasts}
-use Rattle.msp_schedule.specs.Piece.{start, finish}
-use Rattle.msp_schedule.proofs.feasible.OneMachine.{IsTimed-from_span}
-use Rattle.msp_schedule.proofs.changes.SettledSchedules.{Halfway, Halfway-start, Halfway-step, Halfway-all}
-use Rattle.msp_schedule.specs.Busy.{busy_moment}
-use Rattle.msp_schedule.proofs.changes.Busy.{busy-mono, IsSwept, IsSwept-none, IsSwept-next, IsSweepStep}
+use Rattle.msp_pieces.specs.declared.Piece.{Piece}
+use Rattle.msp_pieces.specs.Settled.{IsReportedFirst}
+use Rattle.msp_pieces.proofs.feasible.Frames.{Lasts}
+use Rattle.msp_pieces.specs.Piece.{start, finish}
+use Rattle.msp_pieces.proofs.feasible.OneMachine.{IsTimed-from_span}
+use Rattle.msp_pieces.proofs.changes.SettledSchedules.{Halfway, Halfway-start, Halfway-step, Halfway-all}
+use Rattle.msp_pieces.specs.Busy.{busy_moment}
+use Rattle.msp_pieces.proofs.changes.Busy.{busy-mono, IsSwept, IsSwept-none, IsSwept-next, IsSweepStep}
 use Rattle.msp_route.specs.declared.bounds.TheConstants.{GREATEST_CLOSED_UP}
 use Rattle.msp_plain.specs.Equal.{moved, closed}
 

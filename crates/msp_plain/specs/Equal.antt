@@ -3,9 +3,9 @@ use Rattle.std.specs.Prelude.{ℕ, List, ℤ, pos, ◌*ℤ◌, map}
 use Rattle.msp_instance.specs.declared.Need.{Need}
 use Rattle.msp_instance.specs.declared.Job.{Job}
 use Rattle.msp_instance.specs.declared.Instance.{Instance}
-use Rattle.msp_schedule.specs.declared.Piece.{Piece}
-use Rattle.msp_schedule.specs.declared.Schedule.{Schedule}
-use Rattle.msp_schedule.specs.Busy.{busy_moment}
+use Rattle.msp_pieces.specs.declared.Piece.{Piece}
+use Rattle.msp_pieces.specs.declared.Schedule.{Schedule}
+use Rattle.msp_pieces.specs.Busy.{busy_moment}
 use Rattle.msp_route.specs.Changes.{led}
 
 -- The need with the time 1, and the job whose needs all have it.

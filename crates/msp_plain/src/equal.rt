@@ -5,15 +5,15 @@ ghost use Rattle.msp_instance.specs.Instance.{common_time};
 ghost use Rattle.msp_route.specs.Bounds.{EndsBy};
 ghost use Rattle.msp_route.specs.Law.{IsReordered};
 ghost use Rattle.msp_route.specs.declared.bounds.TheConstants.{GREATEST_CLOSED_UP};
-ghost use Rattle.msp_schedule.specs.Settled.{IsReportedFirst};
+ghost use Rattle.msp_pieces.specs.Settled.{IsReportedFirst};
 ghost use Rattle.msp_plain.specs.Equal.{unit_need, unit_job, led_to_unit, over_time, moved, closed, closed_up};
 ghost use Rattle.msp_route.specs.Rates.{rate_of};
 ghost use Rattle.msp_plain.specs.laws.EqualTimes.{lower_54, positive_54, forth_54, back_54};
 
 use msp_class::{List, NoMemory};
 use msp_instance::{Instance, Job, Need, common_time};
+use msp_pieces::{Piece, Schedule, Solution, cost, sort_pieces};
 use msp_route::{Reduction, led};
-use msp_schedule::{Piece, Schedule, Solution, cost, sort_pieces};
 use msp_table::Row;
 use std::alloc::Global;
 

@@ -3,16 +3,16 @@ ghost use Rattle.std.specs.Prelude.{◌≡◌, ◌↔◌, ◌<◌, length, IfOk,
 ghost use Rattle.msp_class.specs.declared.class.Crit.TheVariants.{Lmax};
 ghost use Rattle.msp_class.specs.Env.{kind_of};
 ghost use Rattle.msp_instance.specs.Conditions.{Inner, LiesWithin, inner_limits};
-ghost use Rattle.msp_schedule.specs.Feasible.{Feasible};
-ghost use Rattle.msp_schedule.specs.Within.{Within, IsUnit};
+ghost use Rattle.msp_pieces.specs.Feasible.{Feasible};
+ghost use Rattle.msp_pieces.specs.Within.{Within, IsUnit};
 ghost use Rattle.msp_plain.specs.Changes.{raised, shift_of};
 ghost use Rattle.msp_plain.specs.Threshold.{IsThresholdSum, IsInTime, Meets, ThresholdLaw, greatest_threshold};
 ghost use Rattle.msp_route.specs.Sizes.{greatest_row_date};
 
 use msp_class::{Class, Crit, List, NoMemory};
 use msp_instance::{Instance, Job};
+use msp_pieces::{Piece, Schedule};
 use msp_route::recast;
-use msp_schedule::{Piece, Schedule};
 use std::alloc::Global;
 
 fn raise(job: &mut Job, bound: i64)

@@ -1,8 +1,8 @@
 -- The report of `accept`.
 use Rattle.std.proofs.Common.{◌≡◌, ℕ, Bool, List, [], ◌++◌, ap, ◌∙◌}
 use Rattle.msp_instance.specs.declared.Instance.{Instance}
-use Rattle.msp_schedule.specs.declared.Frac.{Frac}
-use Rattle.msp_schedule.specs.Fraction.{IsSameFraction, IsLowest}
+use Rattle.msp_pieces.specs.declared.Frac.{Frac}
+use Rattle.msp_pieces.specs.Fraction.{IsSameFraction, IsLowest}
 use Rattle.msp_cert.specs.declared.Certificate.{Certificate}
 use Rattle.msp_cert_text.specs.CertificateText.{kind_of, kind_word}
 use Rattle.msp_report.specs.CertifyText.{accept_lines, IsAcceptText}

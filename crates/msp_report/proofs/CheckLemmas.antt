@@ -7,10 +7,10 @@ use Rattle.msp_class.proofs.IntegerRing.{natural_some, *ℤ_assoc, *ℤ_comm, *�
 use Rattle.msp_instance.specs.declared.Instance.{Instance}
 use Rattle.msp_instance.specs.Conditions.{InClass}
 use Rattle.msp_instance.proofs.Limits.{Inner-from_class}
-use Rattle.msp_schedule.specs.declared.Frac.{Frac}
-use Rattle.msp_schedule.specs.declared.Schedule.{Schedule}
-use Rattle.msp_schedule.specs.Fraction.{IsOver, IsSameFraction, IsLowest}
-use Rattle.msp_schedule.specs.Within.{Within}
+use Rattle.msp_pieces.specs.declared.Frac.{Frac}
+use Rattle.msp_pieces.specs.declared.Schedule.{Schedule}
+use Rattle.msp_pieces.specs.Fraction.{IsOver, IsSameFraction, IsLowest}
+use Rattle.msp_pieces.specs.Within.{Within}
 use Rattle.msp_class.specs.declared.NoMemory.{NoMemory}
 use Rattle.msp_schedule.specs.declared.breaks.Break.{Break}
 use Rattle.msp_grammar.specs.ScheduleText.{IsStated, line_feed, fraction_text}

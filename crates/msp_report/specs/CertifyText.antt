@@ -1,8 +1,8 @@
 -- The reports of `certify` and `accept`.
 use Rattle.std.specs.Prelude.{◌≡◌, ℕ, Bool, List, ◌++◌, codes}
 use Rattle.msp_instance.specs.declared.Instance.{Instance}
-use Rattle.msp_schedule.specs.declared.Frac.{Frac}
-use Rattle.msp_schedule.specs.Fraction.{IsSameFraction, IsLowest}
+use Rattle.msp_pieces.specs.declared.Frac.{Frac}
+use Rattle.msp_pieces.specs.Fraction.{IsSameFraction, IsLowest}
 use Rattle.msp_cert.specs.declared.Certificate.{Certificate}
 use Rattle.msp_cert.specs.declared.Certified.{Certified}
 use Rattle.msp_grammar.specs.ScheduleText.{line_feed, fraction_text}

@@ -2,7 +2,7 @@
 use Rattle.std.specs.Prelude.{ℕ, List, ◌++◌, codes, decimal}
 use Rattle.msp_class.specs.declared.class.Class.{Class}
 use Rattle.msp_name.specs.Names.{name_of}
-use Rattle.msp_schedule.specs.declared.Frac.{Frac}
+use Rattle.msp_pieces.specs.declared.Frac.{Frac}
 use Rattle.msp_grammar.specs.ScheduleText.{fraction_text}
 
 -- the line of a class

@@ -1,6 +1,6 @@
 // The reports of `certify` and `accept`.
 ghost use Rattle.std.specs.Prelude.{◌≡◌, ◌++◌, OnOk, IfOk, length};
-ghost use Rattle.msp_schedule.specs.Fraction.{IsLowest};
+ghost use Rattle.msp_pieces.specs.Fraction.{IsLowest};
 ghost use Rattle.msp_cert_text.specs.CertificateText.{IsStatedBound, IsStatedCertificate};
 ghost use Rattle.msp_report.specs.CertifyText.{certify_report, accept_lines, IsAcceptText};
 
@@ -12,7 +12,7 @@ use msp_class::NoMemory;
 use msp_grammar::put_fraction;
 use msp_instance::Instance;
 use msp_job_name::Names;
-use msp_schedule::{Frac, lowest};
+use msp_pieces::{Frac, lowest};
 use msp_text::put;
 use std::alloc::Global;
 

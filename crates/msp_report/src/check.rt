@@ -1,8 +1,8 @@
 // The report of `check`.
 ghost use Rattle.std.specs.Prelude.{◌≡◌, ◌+◌, ◌++◌, ◌↔◌, IsTrue, OnOk, IfOk, IsNone, decimal};
 ghost use Rattle.msp_instance.specs.Conditions.{InClass};
-ghost use Rattle.msp_schedule.specs.Feasible.{Feasible};
-ghost use Rattle.msp_schedule.specs.Fraction.{IsSameFraction, IsLowest};
+ghost use Rattle.msp_pieces.specs.Feasible.{Feasible};
+ghost use Rattle.msp_pieces.specs.Fraction.{IsSameFraction, IsLowest};
 ghost use Rattle.msp_grammar.specs.ScheduleText.{IsStated};
 ghost use Rattle.msp_report.specs.CheckText.{count_lines, numbers_text, operation_text, break_text, broken_lines, yes_or_no, cost_lines, StatesItsCost, AreCostLines, AreCheckLines, IsCheckText};
 

@@ -6,7 +6,7 @@ ghost use Rattle.msp_report.specs.Lines.{class_line, number_line, cost_line};
 use msp_class::{Class, NoMemory};
 use msp_grammar::put_fraction;
 use msp_name::print;
-use msp_schedule::Frac;
+use msp_pieces::Frac;
 use msp_text::Part::{Number, Text};
 use msp_text::{put, put_all};
 

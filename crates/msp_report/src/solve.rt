@@ -1,6 +1,6 @@
 // The report of `solve`.
 ghost use Rattle.std.specs.Prelude.{◌≡◌, ◌++◌, IfOk, OnOk};
-ghost use Rattle.msp_schedule.specs.Fraction.{IsLowest};
+ghost use Rattle.msp_pieces.specs.Fraction.{IsLowest};
 ghost use Rattle.msp_grammar.specs.ScheduleText.{IsStated};
 ghost use Rattle.msp_report.specs.SolveText.{solver_word, solver_line, solve_report};
 

@@ -6,11 +6,11 @@ use Rattle.msp_class.proofs.IntegerRing.{≤ℤ_of_same}
 use Rattle.msp_instance.specs.declared.Job.{Job}
 use Rattle.msp_instance.specs.declared.Instance.{Instance}
 use Rattle.msp_instance.specs.Conditions.{Inner, inner_limits}
-use Rattle.msp_schedule.specs.declared.Schedule.{Schedule}
-use Rattle.msp_schedule.specs.Feasible.{Feasible}
-use Rattle.msp_schedule.proofs.feasible.Frames.{IsShaped-from_conditions}
-use Rattle.msp_schedule.proofs.changes.Serves.{SameWork, SameWork-sym, Feasible-same}
-use Rattle.msp_schedule.proofs.costs.Charges.{SameCharges, cost-same_charges}
+use Rattle.msp_pieces.specs.declared.Schedule.{Schedule}
+use Rattle.msp_pieces.specs.Feasible.{Feasible}
+use Rattle.msp_pieces.proofs.feasible.Frames.{IsShaped-from_conditions}
+use Rattle.msp_pieces.proofs.changes.Serves.{SameWork, SameWork-sym, Feasible-same}
+use Rattle.msp_pieces.proofs.costs.Charges.{SameCharges, cost-same_charges}
 use Rattle.msp_table.specs.Rows.{goes_of}
 use Rattle.msp_route.specs.Law.{IsLower}
 use Rattle.msp_route.specs.Bounds.{greatest_unit}

@@ -5,11 +5,11 @@ use Rattle.msp_class.specs.declared.sizes.TheConstants.{MOST_JOBS, GREATEST}
 use Rattle.msp_class.proofs.Sums.{OnceBelow, length-OnceBelow}
 use Rattle.msp_instance.specs.declared.Instance.{Instance}
 use Rattle.msp_instance.specs.Instance.{job_at, no_job}
-use Rattle.msp_schedule.specs.declared.Piece.{Piece}
-use Rattle.msp_schedule.specs.BackToBack.{back_to_back, piece, time_at, schedule_in_order}
-use Rattle.msp_schedule.proofs.lists.BackToBack.{back_to_back-All, back_to_back-to, length-back_to_back}
-use Rattle.msp_schedule.specs.Piece.{finish, IsTimed}
-use Rattle.msp_schedule.proofs.feasible.BackToBack.{piece_makes, back_to_back-timed, back_to_back_ends}
+use Rattle.msp_pieces.specs.declared.Piece.{Piece}
+use Rattle.msp_pieces.specs.BackToBack.{back_to_back, piece, time_at, schedule_in_order}
+use Rattle.msp_pieces.proofs.lists.BackToBack.{back_to_back-All, back_to_back-to, length-back_to_back}
+use Rattle.msp_pieces.specs.Piece.{finish, IsTimed}
+use Rattle.msp_pieces.proofs.feasible.BackToBack.{piece_makes, back_to_back-timed, back_to_back_ends}
 use Rattle.msp_route.specs.declared.bounds.TheConstants.{GREATEST_ANSWER_MOMENT}
 use Rattle.msp_route.specs.Bounds.{IsAnswer, answer_unit}
 use Rattle.msp_route.proofs.PlainJobs.{IsPlain, takes_time, is_short}

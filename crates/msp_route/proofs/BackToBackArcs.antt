@@ -6,12 +6,12 @@ use Rattle.msp_class.proofs.Sums.{OnceBelow}
 use Rattle.msp_instance.specs.declared.Arc.{Arc}
 use Rattle.msp_instance.specs.declared.Instance.{Instance}
 use Rattle.msp_instance.specs.Paths.{HasStep}
-use Rattle.msp_schedule.specs.declared.Piece.{Piece}
-use Rattle.msp_schedule.specs.Piece.{IsBefore, start, finish, IsTimed}
-use Rattle.msp_schedule.specs.Feasible.{Feasible}
-use Rattle.msp_schedule.specs.BackToBack.{back_to_back, piece, time_at, schedule_in_order}
-use Rattle.msp_schedule.proofs.lists.BackToBack.{back_to_back-arcs}
-use Rattle.msp_schedule.proofs.feasible.BackToBack.{piece_makes, back_to_back_is_feasible}
+use Rattle.msp_pieces.specs.declared.Piece.{Piece}
+use Rattle.msp_pieces.specs.Piece.{IsBefore, start, finish, IsTimed}
+use Rattle.msp_pieces.specs.Feasible.{Feasible}
+use Rattle.msp_pieces.specs.BackToBack.{back_to_back, piece, time_at, schedule_in_order}
+use Rattle.msp_pieces.proofs.lists.BackToBack.{back_to_back-arcs}
+use Rattle.msp_pieces.proofs.feasible.BackToBack.{piece_makes, back_to_back_is_feasible}
 use Rattle.msp_route.proofs.PlainJobs.{IsPlain, takes_time}
 use Rattle.msp_route.proofs.BackToBackAnswer.{timed, released}
 

@@ -3,8 +3,8 @@ use Rattle.std.proofs.Common.{◌≡◌, ℕ, true, ◌*ℤ◌, refl, sym, ap, �
 use Rattle.std.proofs.lemmas.List.Sorted.{IsPermutation-refl}
 use Rattle.msp_class.proofs.IntegerRing.{≤ℤ_trans}
 use Rattle.msp_instance.specs.declared.Instance.{Instance}
-use Rattle.msp_schedule.specs.declared.Solution.{Solution}
-use Rattle.msp_schedule.specs.Cost.{IsSolution}
+use Rattle.msp_pieces.specs.declared.Solution.{Solution}
+use Rattle.msp_pieces.specs.Cost.{IsSolution}
 use Rattle.msp_route.specs.Law.{IsBack, IsReordered}
 use Rattle.msp_route.specs.Bounds.{IsBounded, KeepsBounds, keeps_schedule}
 use Rattle.msp_route.specs.Changes.{same_costs}

@@ -8,9 +8,9 @@ use Rattle.msp_class.specs.declared.environments.EnvKind.{EnvKind}
 use Rattle.msp_class.specs.declared.environments.EnvKind.TheVariants.{Identical, Uniform, Unrelated, OpenShop, FlowShop, JobShop}
 use Rattle.msp_class.specs.Env.{kind_of}
 use Rattle.msp_instance.specs.declared.Instance.{Instance}
-use Rattle.msp_schedule.specs.declared.Schedule.{Schedule}
-use Rattle.msp_schedule.specs.declared.Solution.{Solution}
-use Rattle.msp_schedule.specs.Cost.{cost_of, Best, IsSolution, IsBest}
+use Rattle.msp_pieces.specs.declared.Schedule.{Schedule}
+use Rattle.msp_pieces.specs.declared.Solution.{Solution}
+use Rattle.msp_pieces.specs.Cost.{cost_of, Best, IsSolution, IsBest}
 use Rattle.msp_table.specs.Rows.{turns_dates, keeps_size}
 use Rattle.msp_table.proofs.KindLemmas.{open_shops-stay}
 use Rattle.msp_route.specs.Law.{Rate, IsPositive, IsLower, IsForth, IsBack}

@@ -8,9 +8,9 @@ use Rattle.msp_class.specs.declared.environments.EnvKind.TheVariants.{Identical,
 use Rattle.msp_class.specs.Env.{kind_of, is_mirror}
 use Rattle.msp_class.specs.Order.{turned}
 use Rattle.msp_instance.specs.declared.Instance.{Instance}
-use Rattle.msp_schedule.specs.declared.Schedule.{Schedule}
-use Rattle.msp_schedule.specs.Cost.{Best, cost_of}
-use Rattle.msp_schedule.proofs.feasible.InSeries.{unit_limit, best_ends_early}
+use Rattle.msp_pieces.specs.declared.Schedule.{Schedule}
+use Rattle.msp_pieces.specs.Cost.{Best, cost_of}
+use Rattle.msp_pieces.proofs.feasible.InSeries.{unit_limit, best_ends_early}
 use Rattle.msp_table.specs.Parts.{HeadsIs, CritIs, has_all}
 use Rattle.msp_table.specs.Rows.{table, goes_of, turns_dates}
 use Rattle.msp_route.specs.declared.bounds.TheConstants.{GREATEST_ANSWER_MOMENT}

@@ -9,7 +9,7 @@ use Rattle.msp_class.specs.declared.sizes.TheConstants.{GREATEST}
 use Rattle.msp_instance.specs.declared.Job.{Job}
 use Rattle.msp_instance.specs.declared.Instance.{Instance}
 use Rattle.msp_instance.specs.Instance.{no_need, job_at, common_time}
-use Rattle.msp_schedule.proofs.feasible.Frames.{job_at-map}
+use Rattle.msp_pieces.proofs.feasible.Frames.{job_at-map}
 use Rattle.msp_instance.specs.Conditions.{MeetsConditions, IsJobOf, HasArcs, HasDegree, HasNearDues, Inner, inner_limits, inner_factor}
 
 -- the instance with other jobs, in a class with another order, release dates, times or criterion

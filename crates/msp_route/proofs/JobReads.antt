@@ -8,10 +8,10 @@ use Rattle.msp_instance.specs.declared.Job.{Job}
 use Rattle.msp_instance.specs.declared.Instance.{Instance}
 use Rattle.msp_instance.specs.Instance.{no_need, no_job, job_at}
 use Rattle.msp_instance.specs.Conditions.{Inner}
-use Rattle.msp_schedule.specs.declared.Schedule.{Schedule}
-use Rattle.msp_schedule.specs.Within.{Within, HasSmallCost}
-use Rattle.msp_schedule.specs.BackToBack.{time_at}
-use Rattle.msp_schedule.proofs.costs.Small.{small_costs}
+use Rattle.msp_pieces.specs.declared.Schedule.{Schedule}
+use Rattle.msp_pieces.specs.Within.{Within, HasSmallCost}
+use Rattle.msp_pieces.specs.BackToBack.{time_at}
+use Rattle.msp_pieces.proofs.costs.Small.{small_costs}
 
 -- a job of the list, read by its number
 pub read_job : (i : Instance) (jobs : List Job) (k : ℕ) (j : Job) → jobs ≡ i.jobs → k < length jobs → j ≡ get_or jobs k j → j ≡ job_at i k

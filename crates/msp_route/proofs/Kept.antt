@@ -8,7 +8,7 @@ use Rattle.msp_class.specs.declared.environments.EnvKind.TheVariants.{Uniform}
 use Rattle.msp_class.specs.Env.{kind_of}
 use Rattle.msp_class.proofs.EnvNumbers.{env_number-injective}
 use Rattle.msp_instance.specs.declared.Instance.{Instance}
-use Rattle.msp_schedule.specs.declared.Schedule.{Schedule}
+use Rattle.msp_pieces.specs.declared.Schedule.{Schedule}
 use Rattle.msp_table.specs.Rows.{table, goes_of, keeps_size}
 use Rattle.msp_route.specs.Bounds.{EndsBy, IsSized, KeepsBounds, keeps_schedule, trades_dates, moment_after}
 use Rattle.msp_route.specs.declared.bounds.TheConstants.{GREATEST_RAISE, GREATEST_LINED_UP, GREATEST_CLOSED_UP}

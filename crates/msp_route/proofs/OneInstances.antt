@@ -9,8 +9,8 @@ use Rattle.msp_class.specs.Env.{kind_of}
 use Rattle.msp_instance.specs.declared.Instance.{Instance}
 use Rattle.msp_instance.specs.Instance.{job_at, no_need, no_job}
 use Rattle.msp_instance.specs.Conditions.{HasShape, HasTimes, HasRelease, MeetsConditions, Inner, inner_limits, least_time, greatest_time}
-use Rattle.msp_schedule.proofs.feasible.OneMachine.{IsOneMachine, IsOneMachine-from_env}
-use Rattle.msp_schedule.specs.BackToBack.{time_at}
+use Rattle.msp_pieces.proofs.feasible.OneMachine.{IsOneMachine, IsOneMachine-from_env}
+use Rattle.msp_pieces.specs.BackToBack.{time_at}
 
 short_times : (t : Times) → greatest_time (inner_limits Identical) t ≤ GREATEST
 short_times General = lit≤ tt

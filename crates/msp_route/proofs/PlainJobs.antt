@@ -7,8 +7,8 @@ use Rattle.msp_class.specs.Env.{kind_of}
 use Rattle.msp_instance.specs.declared.Instance.{Instance}
 use Rattle.msp_instance.specs.Instance.{no_need, no_job}
 use Rattle.msp_instance.specs.Conditions.{HasRelease, Inner, inner_limits}
-use Rattle.msp_schedule.proofs.feasible.OneMachine.{IsOneMachine}
-use Rattle.msp_schedule.specs.BackToBack.{time_at}
+use Rattle.msp_pieces.proofs.feasible.OneMachine.{IsOneMachine}
+use Rattle.msp_pieces.specs.BackToBack.{time_at}
 use Rattle.msp_route.proofs.OneInstances.{IsOneInstance-from}
 
 pub record IsPlain (i : Instance) : Type 0 where

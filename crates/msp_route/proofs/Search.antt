@@ -13,12 +13,12 @@ use Rattle.msp_instance.specs.declared.Arc.{Arc}
 use Rattle.msp_instance.specs.declared.Instance.{Instance}
 use Rattle.msp_instance.specs.Conditions.{IsAcyclic}
 use Rattle.msp_instance.proofs.ListingLemmas.{list_any-from_Contains, Contains-from_list_any}
-use Rattle.msp_schedule.proofs.lists.Intervals.{greatest_by, greatest_by-contains, greatest_by-reached}
+use Rattle.msp_pieces.proofs.lists.Intervals.{greatest_by, greatest_by-contains, greatest_by-reached}
 use Rattle.msp_route.specs.declared.last_job.Candidate.{Candidate}
-use Rattle.msp_schedule.specs.Blocks.{cost_at, HasNoSuccessor}
+use Rattle.msp_pieces.specs.Blocks.{cost_at, HasNoSuccessor}
 use Rattle.msp_route.specs.LastJob.{CostsLess, EndsAt}
 use Rattle.msp_route.specs.Candidates.{Precedes, IsFirstCandidate, IsFound}
-use Rattle.msp_schedule.proofs.bounds.Certified.{ranked}
+use Rattle.msp_pieces.proofs.bounds.Certified.{ranked}
 
 -- ---- one more job
 module _ (jobs : List ℕ) (blocked : ℕ → Bool) (cost : ℕ → ℤ) (k : ℕ) (j : ℕ) (inside : k < length jobs) (at : j ≡ get_or jobs k 0) where

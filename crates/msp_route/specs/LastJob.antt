@@ -1,7 +1,7 @@
 -- The job that ends last of the jobs left.
 use Rattle.std.specs.Prelude.{◌≡◌, ℕ, ◌≤◌, ◌⊎◌, List, ◌<ℤ◌, All}
 use Rattle.msp_instance.specs.declared.Instance.{Instance}
-use Rattle.msp_schedule.specs.Blocks.{cost_at, HasNoSuccessor}
+use Rattle.msp_pieces.specs.Blocks.{cost_at, HasNoSuccessor}
 
 -- Job a costs less than job b at the moment, or as much and has no greater number.
 abbrev pub CostsLess : Instance → ℕ → ℕ → ℕ → Type 0

@@ -5,7 +5,7 @@ use Rattle.msp_class.specs.declared.class.Crit.{Crit}
 use Rattle.msp_class.specs.declared.class.Crit.TheVariants.{Cmax, Lmax, Fmax, SumC, SumWC, SumU, SumWU, SumT, SumWT}
 use Rattle.msp_instance.specs.declared.Instance.{Instance}
 use Rattle.msp_instance.specs.Instance.{common_time}
-use Rattle.msp_schedule.specs.Cost.{greatest}
+use Rattle.msp_pieces.specs.Cost.{greatest}
 use Rattle.msp_route.specs.Law.{Rate}
 use Rattle.msp_route.specs.Changes.{same_costs}
 

@@ -3,9 +3,9 @@ use Rattle.std.specs.Prelude.{◌≡◌, ℕ, ◌≤◌, ◌↔◌, true, ◌≤
 use Rattle.msp_class.specs.Env.{kind_of}
 use Rattle.msp_instance.specs.declared.Instance.{Instance}
 use Rattle.msp_instance.specs.Conditions.{Inner}
-use Rattle.msp_schedule.specs.declared.Schedule.{Schedule}
-use Rattle.msp_schedule.specs.Feasible.{Feasible}
-use Rattle.msp_schedule.specs.Cost.{cost_of}
+use Rattle.msp_pieces.specs.declared.Schedule.{Schedule}
+use Rattle.msp_pieces.specs.Feasible.{Feasible}
+use Rattle.msp_pieces.specs.Cost.{cost_of}
 use Rattle.msp_table.specs.declared.row.TheConstants.{ROWS}
 use Rattle.msp_table.specs.Rows.{carries}
 use Rattle.msp_route.specs.Law.{Applies, IsLower}

@@ -1,6 +1,6 @@
 // What is answered to an instance.
 use msp_class::Class;
-use msp_schedule::Solution;
+use msp_pieces::Solution;
 use msp_table::Chain;
 
 /// A solver, by the name under which it is known.

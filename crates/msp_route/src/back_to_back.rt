@@ -3,15 +3,15 @@ ghost use Rattle.std.specs.Prelude.{◌≡◌, ◌*◌, ◌<◌, ◌≤◌, leng
 ghost use Rattle.msp_class.specs.declared.sizes.TheConstants.{MOST_JOBS, GREATEST, GREATEST_UNIT};
 ghost use Rattle.msp_instance.specs.Instance.{no_need};
 ghost use Rattle.msp_instance.specs.Conditions.{Inner};
-ghost use Rattle.msp_schedule.specs.Within.{Within};
-ghost use Rattle.msp_schedule.specs.Feasible.{Feasible};
-ghost use Rattle.msp_schedule.specs.BackToBack.{piece, time_at, schedule_in_order, back_to_back};
+ghost use Rattle.msp_pieces.specs.Within.{Within};
+ghost use Rattle.msp_pieces.specs.Feasible.{Feasible};
+ghost use Rattle.msp_pieces.specs.BackToBack.{piece, time_at, schedule_in_order, back_to_back};
 ghost use Rattle.msp_route.specs.BackToBack.{IsSolutionInOrder};
 
 use crate::times::first_time;
 use msp_class::{List, NoMemory};
 use msp_instance::{Instance, Job};
-use msp_schedule::{Piece, Schedule, Solution};
+use msp_pieces::{Piece, Schedule, Solution};
 use std::alloc::Global;
 
 /// How long the job's first operation lasts over the unit.
@@ -71,6 +71,6 @@ pub fn solution_in_order(
 {
     let pieces = pieces_back_to_back(alloc, inst, 1, order)?;
     let schedule = Schedule { unit: 1, pieces };
-    let cost = msp_schedule::cost(inst, &schedule);
+    let cost = msp_pieces::cost(inst, &schedule);
     Ok(Solution { schedule, cost })
 }

@@ -11,7 +11,7 @@ use crate::copies::led;
 use crate::reduction::Reduction;
 use msp_class::NoMemory;
 use msp_instance::Instance;
-use msp_schedule::Solution;
+use msp_pieces::Solution;
 use msp_table::Row;
 use std::alloc::Global;
 

@@ -2,12 +2,12 @@
 ghost use Rattle.std.specs.Prelude.{◌≡◌, ◌<◌, ◌⊎◌, false, length, slice_index_or, All, IfSome};
 ghost use Rattle.msp_class.specs.declared.sizes.TheConstants.{MOST_JOBS};
 ghost use Rattle.msp_instance.specs.Conditions.{Inner};
-ghost use Rattle.msp_schedule.specs.Blocks.{cost_at};
+ghost use Rattle.msp_pieces.specs.Blocks.{cost_at};
 ghost use Rattle.msp_route.specs.LastJob.{EndsAt};
 ghost use Rattle.msp_route.specs.Candidates.{Precedes, IsFound};
 
 use msp_instance::{Instance, MOST_JOBS};
-use msp_schedule::{flags_before, flags_of, job_cost_at};
+use msp_pieces::{flags_before, flags_of, job_cost_at};
 
 /// A job that may go last: its place in the list of jobs left, and what it costs there.
 #[derive(Clone, Copy)]

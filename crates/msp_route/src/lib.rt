@@ -1,6 +1,6 @@
 //! Reductions that carry instances and schedules, solvers, and a solver composed of both.
 //!
-//! It stands on `msp_schedule` and `msp_table`. The layers above use the traits `Reduction` and `Solver` alone: what a lawful
+//! It stands on `msp_pieces` and `msp_table`. The layers above use the traits `Reduction` and `Solver` alone: what a lawful
 //! reduction does to costs, so that a best schedule brought back is best, and that a solver's answer is best within its bounds. A row over
 //! which schedules stay as they are says so by `KeepsData` or `KeepsSchedules`, and is a lawful reduction by that. What more than one
 //! solver needs stands here too, since no solver's crate stands on another's: the job that ends last (`last_place`), how long jobs take

@@ -2,8 +2,8 @@
 ghost use Rattle.std.specs.Prelude.{◌≡◌, ℕ, IfOk, IsTrue};
 ghost use Rattle.msp_instance.specs.declared.Instance.{Instance as Inst};
 ghost use Rattle.msp_instance.specs.Conditions.{Inner};
-ghost use Rattle.msp_schedule.specs.declared.Schedule.{Schedule};
-ghost use Rattle.msp_schedule.specs.Cost.{IsSolution};
+ghost use Rattle.msp_pieces.specs.declared.Schedule.{Schedule};
+ghost use Rattle.msp_pieces.specs.Cost.{IsSolution};
 ghost use Rattle.msp_table.specs.Rows.{carries};
 ghost use Rattle.msp_route.specs.Law.{Rate, Applies, IsLower, IsPositive, IsForth, IsBack, IsReordered};
 ghost use Rattle.msp_route.specs.Bounds.{IsBounded, KeepsBounds};
@@ -11,7 +11,7 @@ ghost use Rattle.msp_route.specs.Rates.{rate_of};
 
 use msp_class::NoMemory;
 use msp_instance::Instance;
-use msp_schedule::Solution;
+use msp_pieces::Solution;
 use msp_table::Row;
 use std::alloc::Global;
 

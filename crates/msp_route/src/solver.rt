@@ -3,12 +3,12 @@ ghost use Rattle.std.specs.Prelude.{◌≡◌, ◌↔◌, ⊤, IfOk, IsTrue};
 ghost use Rattle.msp_class.specs.declared.class.Class.{Class as ClassValue};
 ghost use Rattle.msp_instance.specs.declared.Instance.{Instance as Inst};
 ghost use Rattle.msp_instance.specs.Conditions.{Inner};
-ghost use Rattle.msp_schedule.specs.Cost.{IsBest};
+ghost use Rattle.msp_pieces.specs.Cost.{IsBest};
 ghost use Rattle.msp_route.specs.Bounds.{IsAnswer};
 
 use msp_class::{Class, NoMemory};
 use msp_instance::Instance;
-use msp_schedule::Solution;
+use msp_pieces::Solution;
 use std::alloc::Global;
 
 /// What answers each instance of a class that fits it with a best schedule. A solver that names no limit can solve each instance of its

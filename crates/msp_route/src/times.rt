@@ -2,7 +2,7 @@
 ghost use Rattle.std.specs.Prelude.{◌≡◌, ◌*◌, ◌<◌, ◌≤◌, length, slice_index_or, sum_by, All};
 ghost use Rattle.msp_class.specs.declared.sizes.TheConstants.{MOST_JOBS, GREATEST};
 ghost use Rattle.msp_instance.specs.Instance.{no_need};
-ghost use Rattle.msp_schedule.specs.BackToBack.{time_at};
+ghost use Rattle.msp_pieces.specs.BackToBack.{time_at};
 
 use msp_instance::{Instance, Job};
 

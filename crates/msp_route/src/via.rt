@@ -6,7 +6,7 @@ use crate::reduction::Reduction;
 use crate::solver::Solver;
 use msp_class::{Class, NoMemory};
 use msp_instance::Instance;
-use msp_schedule::Solution;
+use msp_pieces::Solution;
 use std::alloc::Global;
 
 /// The solver of a class that carries its instances over one row and solves them at the other end.

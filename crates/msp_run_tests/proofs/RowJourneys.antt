@@ -9,10 +9,10 @@ use Rattle.msp_class.specs.Env.{kind_of}
 use Rattle.msp_instance.specs.declared.Instance.{Instance}
 use Rattle.msp_instance.proofs.Limits.{Inner-from_class}
 use Rattle.msp_class.specs.declared.sizes.TheConstants.{MOST_PIECES}
-use Rattle.msp_schedule.specs.declared.limits.TheConstants.{GREATEST_CARRIED_UNIT}
-use Rattle.msp_schedule.specs.declared.Piece.{Piece}
-use Rattle.msp_schedule.specs.declared.Schedule.{Schedule}
-use Rattle.msp_schedule.specs.Within.{IsMoment, Within}
+use Rattle.msp_pieces.specs.declared.limits.TheConstants.{GREATEST_CARRIED_UNIT}
+use Rattle.msp_pieces.specs.declared.Piece.{Piece}
+use Rattle.msp_pieces.specs.declared.Schedule.{Schedule}
+use Rattle.msp_pieces.specs.Within.{IsMoment, Within}
 use Rattle.msp_table.specs.Rows.{carries, goes_of}
 use Rattle.msp_table.specs.Chains.{stay, step}
 use Rattle.msp_route.specs.Bounds.{IsSized, greatest_unit}

@@ -2,7 +2,7 @@
 ghost use Rattle.std.specs.Prelude.{◌≡◌, IsTrue};
 ghost use Rattle.msp_carry.specs.Carried.{IsChain, carried};
 ghost use Rattle.msp_instance.specs.Conditions.{InClass, Inner};
-ghost use Rattle.msp_schedule.specs.Cost.{IsSolution};
+ghost use Rattle.msp_pieces.specs.Cost.{IsSolution};
 ghost use Rattle.msp_route.specs.Bounds.{IsSized, EndsBy};
 ghost use Rattle.msp_route.specs.declared.bounds.TheConstants.{GREATEST_ANSWER_MOMENT};
 

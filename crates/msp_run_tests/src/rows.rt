@@ -1,9 +1,9 @@
 // Each carrying row once: a generated instance goes down it, and a schedule of the lower instance comes back.
 ghost use Rattle.std.specs.Prelude.{pos, ◌≤ℤ◌, IsTrue, IsSome, IfOk, All};
 ghost use Rattle.msp_instance.specs.Conditions.{Inner};
-ghost use Rattle.msp_schedule.specs.Cost.{IsSolution};
-ghost use Rattle.msp_schedule.specs.Feasible.{Feasible};
-ghost use Rattle.msp_schedule.specs.Within.{Within};
+ghost use Rattle.msp_pieces.specs.Cost.{IsSolution};
+ghost use Rattle.msp_pieces.specs.Feasible.{Feasible};
+ghost use Rattle.msp_pieces.specs.Within.{Within};
 ghost use Rattle.msp_table.specs.Rows.{carries, goes_of};
 ghost use Rattle.msp_route.specs.Bounds.{IsSized, EndsBy};
 ghost use Rattle.msp_route.specs.declared.bounds.TheConstants.{GREATEST_ANSWER_MOMENT};

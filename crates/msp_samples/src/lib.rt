@@ -1,6 +1,6 @@
 //! Instances and schedules for tests.
 //!
-//! It stands on `msp_class`, `msp_instance` and `msp_schedule`. `msp_tests` uses it, and no program does.
+//! It stands on `msp_class`, `msp_instance` and `msp_pieces`. `msp_tests` uses it, and no program does.
 #![tactic(auto)]
 
 mod instances;

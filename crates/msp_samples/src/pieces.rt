@@ -1,7 +1,7 @@
 // Pieces of work.
 ghost use Rattle.std.specs.Prelude.{◌≡◌};
 
-use msp_schedule::Piece;
+use msp_pieces::Piece;
 
 /// A piece of a job of one operation, on the first machine.
 pub const fn piece(job: u32, from: i128, to: i128) -> Piece

@@ -1,6 +1,1 @@
-pub mod lists
-pub mod costs
-pub mod feasible
-pub mod changes
-pub mod bounds
 pub mod judging

@@ -1,8 +1,8 @@
 -- The first beginnings of jobs. No public contract cites this file.
 use Rattle.std.specs.Prelude.{◌≡◌, ℕ, ◌<◌, List, ℤ, pos, ◌≤ℤ◌, All, slice_index_or}
 use Rattle.msp_class.specs.declared.sizes.TheConstants.{MOST_JOBS}
-use Rattle.msp_schedule.specs.declared.limits.TheConstants.{GREATEST_MOMENT}
-use Rattle.msp_schedule.specs.declared.Piece.{Piece}
+use Rattle.msp_pieces.specs.declared.limits.TheConstants.{GREATEST_MOMENT}
+use Rattle.msp_pieces.specs.declared.Piece.{Piece}
 
 -- No piece of the job begins before the moment, which is the greatest such moment up to the greatest of all.
 pub record IsBegin (pieces : List Piece) (j : ℕ) (x : ℤ) : Type 0 where

@@ -5,19 +5,12 @@ use Rattle.msp_class.specs.Env.{kind_of}
 use Rattle.msp_instance.specs.declared.Arc.{Arc as ArcValue}
 use Rattle.msp_instance.specs.declared.Instance.{Instance}
 use Rattle.msp_instance.specs.Instance.{job_at}
-use Rattle.msp_schedule.specs.declared.Piece.{Piece as PieceValue}
-use Rattle.msp_schedule.specs.declared.Schedule.{Schedule}
+use Rattle.msp_pieces.specs.declared.Piece.{Piece as PieceValue}
+use Rattle.msp_pieces.specs.declared.Schedule.{Schedule}
 use Rattle.msp_schedule.specs.declared.breaks.Break.{Break}
 use Rattle.msp_schedule.specs.declared.breaks.Break.TheVariants.{Span, Place, Machine, Job, Release, Arc, Route, Work}
-use Rattle.msp_schedule.specs.Piece.{IsBefore}
-use Rattle.msp_schedule.specs.Feasible.{Feasible, HasOperation, HasPlace, GetsWork}
-
--- The piece of a number, from 0. What is read where there is none has no length.
-abbrev pub no_piece : PieceValue
-no_piece = record { job = 0; op = 0; machine = 0; from = pos 0; to = pos 0 }
-
-abbrev pub piece_at : List PieceValue → ℕ → PieceValue
-piece_at pieces k = slice_index_or pieces k no_piece
+use Rattle.msp_pieces.specs.Piece.{IsBefore, piece_at}
+use Rattle.msp_pieces.specs.Feasible.{Feasible, HasOperation, HasPlace, GetsWork}
 
 -- The arc of a number, from 0.
 abbrev pub no_arc : ArcValue

@@ -1,9 +1,10 @@
 -- Machines and jobs as that in which pieces must not overlap. No public contract cites this file.
 use Rattle.std.specs.Prelude.{◌≡◌, ℕ, ◌<◌, ◌⊎◌, List, Option, Some, None}
-use Rattle.msp_schedule.specs.declared.Piece.{Piece}
+use Rattle.msp_pieces.specs.declared.Piece.{Piece}
 use Rattle.msp_schedule.specs.declared.overlaps.Lane.{Lane}
 use Rattle.msp_schedule.specs.declared.overlaps.Lane.TheVariants.{Machine, Job}
-use Rattle.msp_schedule.specs.Breaks.{piece_at, StandsAhead, Overlaps}
+use Rattle.msp_pieces.specs.Piece.{piece_at}
+use Rattle.msp_schedule.specs.Breaks.{StandsAhead, Overlaps}
 
 abbrev pub lane_of : Lane → Piece → ℕ
 lane_of Machine p = p.machine

@@ -1,9 +1,9 @@
 -- What each piece occupies, and when; this is sorted to find overlaps. No public contract cites this file.
 use Rattle.std.specs.Prelude.{◌≡◌, ℕ, ◌+◌, ◌<◌, ◌≤◌, ◌⊎◌, List, length, pos, ◌<ℤ◌, slice_index_or}
-use Rattle.msp_schedule.specs.declared.Piece.{Piece}
+use Rattle.msp_pieces.specs.declared.Piece.{Piece}
 use Rattle.msp_schedule.specs.declared.occupancies.Occupancy.{Occupancy}
 use Rattle.msp_schedule.specs.declared.overlaps.Lane.{Lane}
-use Rattle.msp_schedule.specs.Breaks.{piece_at}
+use Rattle.msp_pieces.specs.Piece.{piece_at}
 use Rattle.msp_schedule.specs.Lanes.{lane_of}
 
 abbrev pub no_occupancy : Occupancy

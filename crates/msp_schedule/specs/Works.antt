@@ -1,18 +1,16 @@
 -- The work of an operation among some pieces. No public contract cites this file.
-use Rattle.std.specs.Prelude.{◌≡◌, ℕ, ◌*◌, ◌<◌, ◌≤◌, All, List, [], ◌∷◌, length, ℤ, pos, ◌*ℤ◌, unsigned_abs, map, slice_index_or, MatchBool}
+use Rattle.std.specs.Prelude.{◌≡◌, ℕ, ◌<◌, ◌≤◌, All, List, [], ◌∷◌, length, ℤ, pos, ◌*ℤ◌, map, slice_index_or, MatchBool}
 use Rattle.msp_class.specs.declared.environments.EnvKind.{EnvKind}
 use Rattle.msp_class.specs.declared.environments.EnvKind.TheVariants.{Identical, Uniform, Unrelated, OpenShop, FlowShop, JobShop}
 use Rattle.msp_class.specs.Env.{IsCutOnUnrelated, kind_of}
 use Rattle.msp_instance.specs.declared.Instance.{Instance}
-use Rattle.msp_instance.specs.Instance.{job_at, need_at}
-use Rattle.msp_instance.specs.Conditions.{LiesWithin, Inner}
-use Rattle.msp_schedule.specs.declared.Piece.{Piece}
-use Rattle.msp_class.specs.declared.sizes.TheConstants.{MOST_PIECES, GREATEST_SPEED}
-use Rattle.msp_schedule.specs.declared.limits.TheConstants.{GREATEST_MOMENT}
-use Rattle.msp_schedule.specs.Piece.{length_of}
-use Rattle.msp_schedule.specs.Feasible.{HasOperation, HasPlace, total, work_of, whole_work, IsWholeWork}
+use Rattle.msp_instance.specs.Conditions.{Inner}
+use Rattle.msp_pieces.specs.declared.Piece.{Piece}
+use Rattle.msp_class.specs.declared.sizes.TheConstants.{MOST_PIECES}
+use Rattle.msp_pieces.specs.Piece.{length_of}
+use Rattle.msp_pieces.specs.Feasible.{HasOperation, HasPlace, total, work_of, whole_work, IsWholeWork}
 use Rattle.msp_schedule.specs.Breaks.{pieces_among, IsLeastOperation}
-use Rattle.msp_schedule.specs.Within.{IsMoment, greatest_scaled}
+use Rattle.msp_pieces.specs.Within.{IsMoment}
 
 -- The number of the need that says how long the piece's operation takes: on unrelated machines that of its machine.
 abbrev pub need_of : EnvKind → Piece → ℕ
@@ -31,21 +29,6 @@ measured_by Unrelated i p = length_of p
 measured_by OpenShop i p = length_of p
 measured_by FlowShop i p = length_of p
 measured_by JobShop i p = length_of p
-
--- The most, in size, of the length of a piece, and of its work, on uniform machines times the speed.
-abbrev pub greatest_length : ℕ
-greatest_length = unsigned_abs GREATEST_MOMENT
-
-abbrev pub greatest_work : ℕ
-greatest_work = greatest_length * GREATEST_SPEED
-
--- The times over the unit fit a signed number of 128 bits.
-abbrev pub AreSmallTimes : Instance → ℤ → Type 0
-AreSmallTimes i unit = (j o : ℕ) → j < length i.jobs → o < length (job_at i j).needs → LiesWithin greatest_scaled (unit *ℤ pos (need_at i j o).time)
-
--- The same of release dates.
-abbrev pub AreSmallReleases : Instance → ℤ → Type 0
-AreSmallReleases i unit = (j : ℕ) → j < length i.jobs → LiesWithin greatest_scaled (unit *ℤ pos (job_at i j).release)
 
 -- Whether operations get their work from these pieces can be decided: the instance is inner, the pieces are few, have their places and
 -- bounded moments, and on unrelated machines no operation may be cut.

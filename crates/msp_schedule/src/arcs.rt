@@ -2,14 +2,13 @@
 ghost use Rattle.std.specs.Prelude.{◌≡◌, ℕ, ◌<◌, ◌≤◌, ◌↔◌, pos, ◌≤ℤ◌, length, All, slice_index_or, slice_set, IsTrue, IsNone, IfSome};
 ghost use Rattle.std.specs.Int.{int_min};
 ghost use Rattle.msp_class.specs.declared.sizes.TheConstants.{MOST_JOBS, MOST_ARCS};
-ghost use Rattle.msp_schedule.specs.declared.limits.TheConstants.{GREATEST_MOMENT};
-ghost use Rattle.msp_schedule.specs.Within.{IsMoment};
+ghost use Rattle.msp_pieces.specs.declared.limits.TheConstants.{GREATEST_MOMENT};
+ghost use Rattle.msp_pieces.specs.Within.{IsMoment};
 ghost use Rattle.msp_schedule.specs.Breaks.{KeepsArc, IsFirstLostArc};
 ghost use Rattle.msp_schedule.specs.Begins.{AreBegins};
 
-use crate::total_cost::ends_of;
-use crate::{GREATEST_MOMENT, Piece};
 use msp_instance::{Arc, MOST_JOBS};
+use msp_pieces::{GREATEST_MOMENT, Piece, ends_of};
 
 fn lower(begins: &mut [i128], piece: &Piece)
     requires { piece.now.job < length begins.old }

@@ -4,19 +4,17 @@ ghost use Rattle.msp_class.specs.declared.sizes.TheConstants.{MOST_ARCS, MOST_PI
 ghost use Rattle.msp_class.specs.Env.{IsCutOnUnrelated, kind_of};
 ghost use Rattle.msp_instance.specs.declared.Instance.{Instance as InstanceValue};
 ghost use Rattle.msp_instance.specs.Instance.{job_at, no_need};
-ghost use Rattle.msp_schedule.specs.Feasible.{Feasible, HasOperation, HasPlace, MayRun};
+ghost use Rattle.msp_pieces.specs.Feasible.{Feasible, HasOperation, HasPlace, MayRun};
 ghost use Rattle.msp_instance.specs.Conditions.{LiesWithin, Inner};
-ghost use Rattle.msp_schedule.specs.Within.{IsMoment, Within, greatest_scaled};
+ghost use Rattle.msp_pieces.specs.Within.{IsMoment, Within, greatest_scaled, AreSmallReleases};
 ghost use Rattle.msp_schedule.specs.Begins.{IsEarlierEnd};
-ghost use Rattle.msp_schedule.specs.Works.{AreSmallReleases};
 ghost use Rattle.msp_schedule.specs.Breaks.{IsEmpty, IsEarly, KeepsArc, KeepsRoute, IsDecision, IsFirstBreak, IsFirstPiece, IsReleased, IsFirstLostArc};
 
-use crate::job_cost::product;
 use crate::overlaps::{Lane, first_overlap};
 use crate::routes::{first_out_of_route, first_work};
-use crate::{Piece, Schedule};
 use msp_class::{EnvKind, env_kind};
 use msp_instance::{Arc, Instance, Need};
+use msp_pieces::{Piece, Schedule, product};
 
 /// A broken condition of a feasible schedule, and where it is broken. Pieces, jobs, operations and arcs are numbered from 0.
 #[derive(Clone, Copy, Debug, PartialEq, Eq)]

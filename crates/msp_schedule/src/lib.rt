@@ -1,81 +1,27 @@
-//! Schedules over any unit, and what it means that a schedule is feasible, what it costs, and that it is best.
+//! Judging schedules: whether a schedule is feasible, and which condition of a feasible one it breaks first.
 //!
-//! It stands on `msp_instance`. The layers above use the definitions `Feasible`, `cost_of` and `Best`, that `first_break` and `swept`
-//! answer None exactly where a schedule is feasible, that `cost` gives the cost in lowest terms, and the laws of feasible schedules:
-//! `law_of_blocks` on one machine, `law_of_ends`, `law_of_groups`, `law_of_floors`, `law_of_levels` and `law_of_segments` on identical
-//! machines, `law_of_last_ends` on these and in shops, `law_of_speeds` on identical and uniform machines, `law_of_prices` on unrelated
-//! machines, and `law_of_machines` and `law_of_lines` in shops. `law_of_first_break` says that the first break of a schedule is
-//! determined, and `law_of_limits` the limits by their numbers.
+//! It stands on `msp_pieces`, which says what a feasible schedule is. The layers above use that `first_break` and `swept` answer None
+//! exactly where a schedule is feasible, and else its first break, which is determined (`law_of_first_break`). What a caller names with
+//! these calls is re-exported here: all public names of `msp_pieces` but `product` and `ends_of`, which serve this crate alone.
 #![tactic(auto)]
-
-ghost use Rattle.std.specs.Prelude.{pos, ◌≤ℤ◌};
-
-use msp_class::List;
 
 mod arcs;
 mod breaks;
-mod fraction;
-mod job_cost;
-mod job_flags;
 mod laws;
-mod limits;
-mod numbers;
 mod occupancies;
 mod overlaps;
 mod routes;
-mod settling;
 mod shares;
 mod sweep;
-mod total_cost;
 mod work;
 
 pub use breaks::{Break, first_break};
-pub use fraction::{compare, lowest};
-pub use job_cost::job_cost_at;
-pub use job_flags::{flags_before, flags_of, follows_flagged};
-pub use laws::{
-    law_of_blocks, law_of_ends, law_of_first_break, law_of_floors, law_of_groups, law_of_last_ends,
-    law_of_levels, law_of_limits, law_of_lines, law_of_machines, law_of_prices, law_of_segments,
-    law_of_speeds,
+pub use laws::law_of_first_break;
+pub use msp_pieces::{
+    Frac, GREATEST_CARRIED_UNIT, GREATEST_COMPARED_DENOMINATOR, GREATEST_COMPARED_NUMERATOR,
+    GREATEST_MOMENT, GREATEST_UNIT, MOST_PIECES, Piece, Schedule, Solution, all_jobs, compare,
+    cost, flags_before, flags_of, follows_flagged, job_cost_at, law_of_blocks, law_of_ends,
+    law_of_floors, law_of_groups, law_of_last_ends, law_of_levels, law_of_limits, law_of_lines,
+    law_of_machines, law_of_prices, law_of_segments, law_of_speeds, lowest, settle, sort_pieces,
 };
-pub use limits::{
-    GREATEST_CARRIED_UNIT, GREATEST_COMPARED_DENOMINATOR, GREATEST_COMPARED_NUMERATOR,
-    GREATEST_MOMENT,
-};
-pub use msp_class::{GREATEST_UNIT, MOST_PIECES};
-pub use numbers::all_jobs;
-pub use settling::{settle, sort_pieces};
 pub use sweep::swept;
-pub use total_cost::cost;
-
-/// A piece of work on an operation of a job, all three numbered from 0. A moment `x` stands for the time `x / unit`.
-#[derive(Clone, Copy, Debug, PartialEq, Eq)]
-pub struct Piece {
-    pub job: u32,
-    pub op: u32,
-    pub machine: u32,
-    pub from: i128,
-    pub to: i128,
-}
-
-/// A schedule: its pieces, with moments in parts of size `1 / unit`.
-#[derive(Drop)]
-pub struct Schedule {
-    pub unit: i128,
-    pub pieces: List<Piece>,
-}
-
-/// A fraction: a numerator over a denominator of at least 1.
-#[derive(Clone, Copy, Debug, PartialEq, Eq)]
-pub struct Frac {
-    pub num: i128,
-    pub den: i128,
-    ghost positive: { pos 1 ≤ℤ den },
-}
-
-/// A schedule and its cost.
-#[derive(Drop)]
-pub struct Solution {
-    pub schedule: Schedule,
-    pub cost: Frac,
-}

@@ -2,14 +2,14 @@
 ghost use Rattle.std.specs.Prelude.{◌≡◌, ◌≤◌, ◌↔◌, length, AllPairs, IsPermutation, IsTrue, IsNone, IfOk, IfSome};
 ghost use Rattle.std.specs.Ordering.{int_cmp, nat_cmp, ordering_then};
 ghost use Rattle.msp_class.specs.declared.sizes.TheConstants.{MOST_PIECES};
-ghost use Rattle.msp_schedule.specs.Piece.{IsApart};
+ghost use Rattle.msp_pieces.specs.Piece.{IsApart};
 ghost use Rattle.msp_schedule.specs.Breaks.{IsFirstOverlap};
 ghost use Rattle.msp_schedule.specs.Lanes.{lane_of};
 ghost use Rattle.msp_schedule.specs.Occupancies.{occupancy_of, AreOccupancies, IsNotAfter, Meets, IsClearBelow, IsFirstMeeting};
 
-use crate::Piece;
 use crate::overlaps::{Lane, lane_of};
 use msp_class::NoMemory;
+use msp_pieces::Piece;
 use std::alloc::Global;
 use std::cmp::Ordering;
 

@@ -1,11 +1,11 @@
 // Pieces that overlap on a machine or in a job, found among all pairs.
 ghost use Rattle.std.specs.Prelude.{◌≡◌, ℕ, ◌+◌, ◌<◌, ◌≤◌, ◌↔◌, length, AllPairs, IsTrue, IsNone, IfNone, IfSome};
 ghost use Rattle.msp_class.specs.declared.sizes.TheConstants.{MOST_PIECES};
-ghost use Rattle.msp_schedule.specs.Piece.{IsApart};
+ghost use Rattle.msp_pieces.specs.Piece.{IsApart};
 ghost use Rattle.msp_schedule.specs.Breaks.{StandsAhead, Overlaps, IsFirstOverlap};
 ghost use Rattle.msp_schedule.specs.Lanes.{lane_of, Precedes, IsFirstOverlapBelow};
 
-use crate::Piece;
+use msp_pieces::Piece;
 
 /// In what pieces must not overlap: on a machine, or in a job.
 #[derive(Clone, Copy)]

@@ -3,16 +3,16 @@ ghost use Rattle.std.specs.Prelude.{◌≡◌, ℕ, ◌<◌, true, false, length
 ghost use Rattle.msp_class.specs.declared.list.TheConstants.{PLACES};
 ghost use Rattle.msp_instance.specs.Instance.{job_at};
 ghost use Rattle.msp_instance.specs.Conditions.{Inner};
-ghost use Rattle.msp_schedule.specs.Feasible.{HasPlace};
-ghost use Rattle.msp_schedule.specs.Within.{IsMoment};
+ghost use Rattle.msp_pieces.specs.Feasible.{HasPlace};
+ghost use Rattle.msp_pieces.specs.Within.{IsMoment, AreSmallTimes};
 ghost use Rattle.msp_schedule.specs.Breaks.{IsLeast, KeepsRoute, HasRoutes, KeepsRoutes, IsFirstOutOfRoute};
-ghost use Rattle.msp_schedule.specs.Works.{AreMeasurable, AreSmallTimes, LacksWorkAmong, IsWorked, AreWorked, IsFirstUnworked};
+ghost use Rattle.msp_schedule.specs.Works.{AreMeasurable, LacksWorkAmong, IsWorked, AreWorked, IsFirstUnworked};
 
-use crate::Piece;
 use crate::breaks::{has_operation, keeps_route};
 use crate::work::gets_work;
 use msp_class::{EnvKind, env_kind};
 use msp_instance::Instance;
+use msp_pieces::Piece;
 
 /// The first of so many operations of the job that begins before an earlier one ends.
 pub(crate) fn first_unrouted(pieces: &[Piece], job: u32, ops: u32) -> Option<u32>

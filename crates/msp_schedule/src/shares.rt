@@ -5,15 +5,15 @@ ghost use Rattle.msp_class.specs.declared.list.TheConstants.{PLACES};
 ghost use Rattle.msp_class.specs.declared.sizes.TheConstants.{MOST_JOBS};
 ghost use Rattle.msp_instance.specs.Instance.{job_at};
 ghost use Rattle.msp_instance.specs.Conditions.{Inner};
-ghost use Rattle.msp_schedule.specs.Feasible.{HasPlace};
-ghost use Rattle.msp_schedule.specs.Within.{IsMoment};
+ghost use Rattle.msp_pieces.specs.Feasible.{HasPlace};
+ghost use Rattle.msp_pieces.specs.Within.{IsMoment, AreSmallTimes};
 ghost use Rattle.msp_schedule.specs.Breaks.{IsLeast, KeepsRoute, HasRoutes, KeepsRoutes, IsFirstOutOfRoute};
-ghost use Rattle.msp_schedule.specs.Works.{AreMeasurable, AreSmallTimes, LacksWorkAmong, IsWorked, AreWorked, IsFirstUnworked};
+ghost use Rattle.msp_schedule.specs.Works.{AreMeasurable, LacksWorkAmong, IsWorked, AreWorked, IsFirstUnworked};
 
-use crate::Piece;
 use crate::routes::{first_unrouted, first_unworked, needs_of};
 use msp_class::{EnvKind, NoMemory, env_kind};
 use msp_instance::Instance;
+use msp_pieces::Piece;
 use std::alloc::Global;
 
 fn sort_by_job(pieces: &mut Vec<Piece>)

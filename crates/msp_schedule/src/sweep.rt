@@ -3,10 +3,9 @@ ghost use Rattle.std.specs.Prelude.{◌↔◌, IsNone, IfOk, IfSome};
 ghost use Rattle.msp_class.specs.Env.{IsCutOnUnrelated};
 ghost use Rattle.msp_instance.specs.Conditions.{Inner};
 ghost use Rattle.msp_schedule.specs.Breaks.{IsDecision, IsFirstBreak};
-ghost use Rattle.msp_schedule.specs.Feasible.{Feasible};
-ghost use Rattle.msp_schedule.specs.Within.{Within};
+ghost use Rattle.msp_pieces.specs.Feasible.{Feasible};
+ghost use Rattle.msp_pieces.specs.Within.{Within};
 
-use crate::Schedule;
 use crate::arcs::swept_arc;
 use crate::breaks::{Break, first_early, first_empty, first_misplaced};
 use crate::occupancies::swept_overlap;
@@ -14,6 +13,7 @@ use crate::overlaps::Lane;
 use crate::shares::{swept_route, swept_work};
 use msp_class::NoMemory;
 use msp_instance::Instance;
+use msp_pieces::Schedule;
 use std::alloc::Global;
 
 fn decided(alloc: Global, inst: &Instance, s: &Schedule) -> Result<Option<Break>, NoMemory>

@@ -5,17 +5,16 @@ ghost use Rattle.msp_instance.specs.Instance.{job_at, need_at};
 ghost use Rattle.msp_class.specs.declared.environments.EnvKind.TheVariants.{Unrelated};
 ghost use Rattle.msp_class.specs.Env.{kind_of};
 ghost use Rattle.msp_instance.specs.Conditions.{LiesWithin, Inner};
-ghost use Rattle.msp_schedule.specs.Feasible.{HasOperation, HasPlace, IsWholeWork, total, work_of};
-ghost use Rattle.msp_schedule.specs.Works.{AreMeasurable, AreSmallTimes, GetsWorkAmong, need_of, measured_by, greatest_length, greatest_work};
-ghost use Rattle.msp_schedule.specs.Within.{IsMoment, greatest_scaled};
-ghost use Rattle.msp_schedule.specs.declared.Piece.{Piece as PieceValue};
-ghost use Rattle.msp_schedule.specs.Piece.{length_of};
+ghost use Rattle.msp_pieces.specs.Feasible.{HasOperation, HasPlace, IsWholeWork, total, work_of};
+ghost use Rattle.msp_schedule.specs.Works.{AreMeasurable, GetsWorkAmong, need_of, measured_by};
+ghost use Rattle.msp_pieces.specs.Within.{IsMoment, greatest_scaled, AreSmallTimes, greatest_length, greatest_work};
+ghost use Rattle.msp_pieces.specs.declared.Piece.{Piece as PieceValue};
+ghost use Rattle.msp_pieces.specs.Piece.{length_of};
 ghost use Rattle.msp_schedule.specs.Breaks.{pieces_among};
 
-use crate::Piece;
-use crate::job_cost::product;
 use msp_class::{EnvKind, env_kind};
 use msp_instance::Instance;
+use msp_pieces::{Piece, product};
 
 fn is_of(piece: &Piece, job: u32, op: u32) -> bool
     ensures { result ≡ ((piece.now.job == job) && (piece.now.op == op)) }

@@ -11,8 +11,8 @@ use Rattle.std.proofs.lemmas.List.Sorted.{All-permutation, Contains-permutation,
 use Rattle.msp_class.proofs.Sums.{OnceBelow-range, OnceBelow-contains, OnceBelow-distinct, length-OnceBelow, range_with_len_last, Contains-filter}
 use Rattle.msp_instance.specs.declared.Instance.{Instance}
 use Rattle.msp_instance.specs.Instance.{need_at}
-use Rattle.msp_schedule.proofs.changes.Moves.{AllPairs-map}
-use Rattle.msp_schedule.proofs.lists.Permuted.{AllPairs-permutation}
+use Rattle.msp_pieces.proofs.changes.Moves.{AllPairs-map}
+use Rattle.msp_pieces.proofs.lists.Permuted.{AllPairs-permutation}
 use Rattle.msp_shops.specs.declared.pass.JobTimes.{JobTimes}
 use Rattle.msp_shops.specs.Groups.{route_times, begins_on, IsTwoMachineShop, IsGroup}
 

@@ -5,10 +5,10 @@ use Rattle.std.proofs.lemmas.List.Elements.{All-append, All-contains, Contains-a
 use Rattle.msp_class.specs.declared.sizes.TheConstants.{MOST_JOBS, GREATEST}
 use Rattle.msp_instance.specs.declared.Instance.{Instance}
 use Rattle.msp_instance.specs.Instance.{job_at, need_at}
-use Rattle.msp_schedule.specs.declared.Piece.{Piece}
-use Rattle.msp_schedule.specs.Intervals.{IsApartOn}
-use Rattle.msp_schedule.specs.Piece.{start, finish, IsTimed}
-use Rattle.msp_schedule.proofs.feasible.Series.{AllPairs-append}
+use Rattle.msp_pieces.specs.declared.Piece.{Piece}
+use Rattle.msp_pieces.specs.Intervals.{IsApartOn}
+use Rattle.msp_pieces.specs.Piece.{start, finish, IsTimed}
+use Rattle.msp_pieces.proofs.feasible.Series.{AllPairs-append}
 use Rattle.msp_shops.specs.declared.pass.JobTimes.{JobTimes}
 use Rattle.msp_shops.specs.declared.pass.Moments.{Moments}
 use Rattle.msp_shops.specs.Pass.{machine_of, IsOf, HasPiece, IsPass}

@@ -19,10 +19,10 @@ use Rattle.msp_instance.specs.declared.Need.{Need}
 use Rattle.msp_instance.specs.declared.Instance.{Instance}
 use Rattle.msp_instance.specs.Instance.{no_need, no_job, job_at, need_at}
 use Rattle.msp_instance.specs.Conditions.{HasShape, HasTimes, HasRelease, HasArcs, MeetsConditions, Inner, inner_limits, least_time, greatest_time}
-use Rattle.msp_schedule.specs.Loads.{machine_load, job_length}
-use Rattle.msp_schedule.proofs.lists.Intervals.{greatest_by, greatest_by-contains, greatest_by-reached}
-use Rattle.msp_schedule.proofs.lists.Places.{sum_by-places}
-use Rattle.msp_schedule.proofs.bounds.Loads.{law_of_machines, law_of_lines}
+use Rattle.msp_pieces.specs.Loads.{machine_load, job_length}
+use Rattle.msp_pieces.proofs.lists.Intervals.{greatest_by, greatest_by-contains, greatest_by-reached}
+use Rattle.msp_pieces.proofs.lists.Places.{sum_by-places}
+use Rattle.msp_pieces.proofs.bounds.Loads.{law_of_machines, law_of_lines}
 use Rattle.msp_shops.specs.declared.pass.JobTimes.{JobTimes}
 use Rattle.msp_shops.specs.Pass.{IsCritical}
 use Rattle.msp_shops.specs.Open.{open_class, IsOpenEnd}

@@ -13,12 +13,12 @@ use Rattle.msp_class.proofs.Sums.{AllPairs-tail, AllPairs-head}
 use Rattle.msp_class.proofs.IntegerRing.{pos-le}
 use Rattle.msp_instance.specs.declared.Instance.{Instance}
 use Rattle.msp_instance.specs.Instance.{need_at}
-use Rattle.msp_schedule.specs.declared.Piece.{Piece}
-use Rattle.msp_schedule.specs.Loads.{machine_load}
-use Rattle.msp_schedule.specs.Intervals.{IsApartOn}
-use Rattle.msp_schedule.specs.Piece.{start, finish, IsTimed}
-use Rattle.msp_schedule.proofs.feasible.Series.{AllPairs-append}
-use Rattle.msp_schedule.proofs.changes.Moves.{Contains-map}
+use Rattle.msp_pieces.specs.declared.Piece.{Piece}
+use Rattle.msp_pieces.specs.Loads.{machine_load}
+use Rattle.msp_pieces.specs.Intervals.{IsApartOn}
+use Rattle.msp_pieces.specs.Piece.{start, finish, IsTimed}
+use Rattle.msp_pieces.proofs.feasible.Series.{AllPairs-append}
+use Rattle.msp_pieces.proofs.changes.Moves.{Contains-map}
 use Rattle.msp_shops.specs.declared.pass.JobTimes.{JobTimes}
 use Rattle.msp_shops.specs.declared.pass.Moments.{Moments}
 use Rattle.msp_shops.specs.declared.pass.Stage.{Stage}

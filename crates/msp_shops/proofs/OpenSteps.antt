@@ -18,11 +18,11 @@ use Rattle.msp_shops.specs.OpenOrder.{lesser, AreGrouped, all_times, turned, IsL
 use Rattle.std.proofs.lemmas.List.Elements.{All-map}
 use Rattle.msp_class.specs.declared.sizes.TheConstants.{MOST_JOBS, GREATEST}
 use Rattle.msp_instance.specs.Conditions.{Inner}
-use Rattle.msp_schedule.specs.declared.Piece.{Piece}
-use Rattle.msp_schedule.specs.declared.Schedule.{Schedule}
-use Rattle.msp_schedule.specs.declared.Frac.{Frac}
-use Rattle.msp_schedule.specs.Fraction.{IsOver}
-use Rattle.msp_schedule.specs.Cost.{cost_of}
+use Rattle.msp_pieces.specs.declared.Piece.{Piece}
+use Rattle.msp_pieces.specs.declared.Schedule.{Schedule}
+use Rattle.msp_pieces.specs.declared.Frac.{Frac}
+use Rattle.msp_pieces.specs.Fraction.{IsOver}
+use Rattle.msp_pieces.specs.Cost.{cost_of}
 use Rattle.msp_shops.specs.declared.pass.Stage.{Stage}
 use Rattle.msp_shops.specs.Open.{open_class, IsOpenCost}
 use Rattle.msp_shops.proofs.Shops.{IsBestPlan, over_one}

@@ -13,15 +13,15 @@ use Rattle.msp_class.proofs.IntegerRing.{natural, pos-same, +ℤ_idl}
 use Rattle.msp_class.proofs.Sums.{sum_by-filter, sum_by-mono}
 use Rattle.msp_instance.specs.declared.Instance.{Instance}
 use Rattle.msp_instance.specs.Instance.{job_at, need_at, no_need}
-use Rattle.msp_schedule.specs.declared.Piece.{Piece}
-use Rattle.msp_schedule.specs.declared.Schedule.{Schedule}
-use Rattle.msp_schedule.specs.Piece.{length_of, pieces_of, job_of, IsBefore, start, finish, IsTimed}
-use Rattle.msp_schedule.specs.Feasible.{Feasible, HasOperation, MayRun, FollowsRoute, IsWholeWork, total, whole_work, work_of as part_of}
-use Rattle.msp_schedule.specs.Intervals.{IsApart, size_of, work_of}
-use Rattle.msp_schedule.proofs.lists.Intervals.{apart_on_each}
-use Rattle.msp_schedule.proofs.lists.Places.{filter-both}
-use Rattle.msp_schedule.proofs.feasible.Frames.{named_one}
-use Rattle.msp_schedule.proofs.feasible.OneMachine.{IsTimed-from_span, apart_in_nat, both_true, total_lengths}
+use Rattle.msp_pieces.specs.declared.Piece.{Piece}
+use Rattle.msp_pieces.specs.declared.Schedule.{Schedule}
+use Rattle.msp_pieces.specs.Piece.{length_of, pieces_of, job_of, IsBefore, start, finish, IsTimed}
+use Rattle.msp_pieces.specs.Feasible.{Feasible, HasOperation, MayRun, FollowsRoute, IsWholeWork, total, whole_work, work_of as part_of}
+use Rattle.msp_pieces.specs.Intervals.{IsApart, size_of, work_of}
+use Rattle.msp_pieces.proofs.lists.Intervals.{apart_on_each}
+use Rattle.msp_pieces.proofs.lists.Places.{filter-both}
+use Rattle.msp_pieces.proofs.feasible.Frames.{named_one}
+use Rattle.msp_pieces.proofs.feasible.OneMachine.{IsTimed-from_span, apart_in_nat, both_true, total_lengths}
 use Rattle.msp_shops.specs.Pass.{machine_of}
 use Rattle.msp_shops.specs.Groups.{IsTwoMachineShop}
 

@@ -16,17 +16,17 @@ use Rattle.msp_class.proofs.Sums.{AllPairs-contains, Contains-filter}
 use Rattle.msp_instance.specs.declared.Arc.{Arc}
 use Rattle.msp_instance.specs.declared.Instance.{Instance}
 use Rattle.msp_instance.specs.Instance.{no_job, job_at, need_at}
-use Rattle.msp_schedule.specs.declared.Piece.{Piece}
-use Rattle.msp_schedule.specs.declared.Schedule.{Schedule}
-use Rattle.msp_schedule.specs.Piece.{length_of, pieces_of, IsBefore, start, finish, IsTimed}
-use Rattle.msp_schedule.specs.Feasible.{Feasible, HasPlace, HasOperation, MayRun, FollowsRoute, GetsWork, IsWholeWork, total, whole_work, work_of}
-use Rattle.msp_schedule.specs.Cost.{cost_of, end_of, Best}
-use Rattle.msp_schedule.specs.Within.{IsMoment, Within}
-use Rattle.msp_schedule.specs.Intervals.{IsApartOn}
-use Rattle.msp_schedule.proofs.feasible.OneMachine.{IsTimed-from_span, apart_in_int}
-use Rattle.msp_schedule.proofs.feasible.Frames.{of_operation-named, of_one, named_one}
-use Rattle.msp_schedule.proofs.feasible.LastEnds.{last_end-bound}
-use Rattle.msp_schedule.proofs.costs.Makespan.{cost_natural, ends_by_cost, cost_by_ends}
+use Rattle.msp_pieces.specs.declared.Piece.{Piece}
+use Rattle.msp_pieces.specs.declared.Schedule.{Schedule}
+use Rattle.msp_pieces.specs.Piece.{length_of, pieces_of, IsBefore, start, finish, IsTimed}
+use Rattle.msp_pieces.specs.Feasible.{Feasible, HasPlace, HasOperation, MayRun, FollowsRoute, GetsWork, IsWholeWork, total, whole_work, work_of}
+use Rattle.msp_pieces.specs.Cost.{cost_of, end_of, Best}
+use Rattle.msp_pieces.specs.Within.{IsMoment, Within}
+use Rattle.msp_pieces.specs.Intervals.{IsApartOn}
+use Rattle.msp_pieces.proofs.feasible.OneMachine.{IsTimed-from_span, apart_in_int}
+use Rattle.msp_pieces.proofs.feasible.Frames.{of_operation-named, of_one, named_one}
+use Rattle.msp_pieces.proofs.feasible.LastEnds.{last_end-bound}
+use Rattle.msp_pieces.proofs.costs.Makespan.{cost_natural, ends_by_cost, cost_by_ends}
 use Rattle.msp_route.specs.declared.bounds.TheConstants.{GREATEST_ANSWER_MOMENT}
 use Rattle.msp_route.specs.Bounds.{IsAnswer, answer_unit}
 use Rattle.msp_shops.specs.Pass.{machine_of}

@@ -7,11 +7,11 @@ use Rattle.std.proofs.lemmas.Int.{ints}
 use Rattle.std.proofs.lemmas.List.{map-append, drop_more}
 use Rattle.std.proofs.lemmas.List.Elements.{All-nil, All-cons, All-append, All-head, All-tail, All-drop, filter-append}
 use Rattle.msp_class.proofs.IntegerRing.{+ℤ_idl}
-use Rattle.msp_schedule.specs.declared.Piece.{Piece}
-use Rattle.msp_schedule.specs.Piece.{length_of, IsApart}
-use Rattle.msp_schedule.specs.Feasible.{total as sum}
-use Rattle.msp_schedule.proofs.changes.Moves.{total-cons}
-use Rattle.msp_schedule.proofs.feasible.Series.{AllPairs-append}
+use Rattle.msp_pieces.specs.declared.Piece.{Piece}
+use Rattle.msp_pieces.specs.Piece.{length_of, IsApart}
+use Rattle.msp_pieces.specs.Feasible.{total as sum}
+use Rattle.msp_pieces.proofs.changes.Moves.{total-cons}
+use Rattle.msp_pieces.proofs.feasible.Series.{AllPairs-append}
 use Rattle.msp_timetable.specs.declared.matrix.Slice.{Slice}
 use Rattle.msp_timetable.specs.Split.{column_of, total, time_at, greatest_sum, IsSlice}
 use Rattle.msp_shops.specs.Sliced.{row_piece, row_part, row_parts, laid}

@@ -7,14 +7,14 @@ use Rattle.msp_class.specs.Sums.{total_below}
 use Rattle.msp_class.proofs.Sums.{cond-le, sum_by-map, sum_by-mono, sum_by-scale, sum_by-distinct_test, total_below-add, total_below-mono, total_below-same}
 use Rattle.msp_instance.specs.declared.Instance.{Instance}
 use Rattle.msp_instance.specs.Instance.{need_at}
-use Rattle.msp_schedule.specs.declared.Piece.{Piece}
-use Rattle.msp_schedule.specs.declared.Schedule.{Schedule}
-use Rattle.msp_schedule.specs.Feasible.{Feasible}
-use Rattle.msp_schedule.specs.Intervals.{work_of}
-use Rattle.msp_schedule.specs.Piece.{job_of, start, finish}
-use Rattle.msp_schedule.proofs.lists.Intervals.{earlier_ends, last_of, last_of-bound, last_of-least, room_on_one}
-use Rattle.msp_schedule.proofs.changes.Moves.{AllPairs-map}
-use Rattle.msp_schedule.proofs.feasible.OneMachine.{both_true}
+use Rattle.msp_pieces.specs.declared.Piece.{Piece}
+use Rattle.msp_pieces.specs.declared.Schedule.{Schedule}
+use Rattle.msp_pieces.specs.Feasible.{Feasible}
+use Rattle.msp_pieces.specs.Intervals.{work_of}
+use Rattle.msp_pieces.specs.Piece.{job_of, start, finish}
+use Rattle.msp_pieces.proofs.lists.Intervals.{earlier_ends, last_of, last_of-bound, last_of-least, room_on_one}
+use Rattle.msp_pieces.proofs.changes.Moves.{AllPairs-map}
+use Rattle.msp_pieces.proofs.feasible.OneMachine.{both_true}
 use Rattle.msp_shops.specs.declared.pass.JobTimes.{JobTimes}
 use Rattle.msp_shops.specs.Groups.{begins_on, IsTwoMachineShop, IsGroup}
 use Rattle.msp_shops.proofs.Cut.{HaveTwoStages}

@@ -1,6 +1,6 @@
 -- Pieces of one operation that touch on its machine.
 use Rattle.std.specs.Prelude.{◌≡◌, List, AllPairs}
-use Rattle.msp_schedule.specs.declared.Piece.{Piece}
+use Rattle.msp_pieces.specs.declared.Piece.{Piece}
 
 -- The second piece goes on with the first: it runs the same operation on the same machine, from the moment on at which the first ends.
 pub record GoesOn (p q : Piece) : Type 0 where

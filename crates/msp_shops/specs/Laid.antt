@@ -1,6 +1,6 @@
 -- The pieces of all jobs as Jackson's rule lays them. No public contract cites this file.
 use Rattle.std.specs.Prelude.{◌≡◌, ◌++◌, List, sum_by}
-use Rattle.msp_schedule.specs.declared.Piece.{Piece}
+use Rattle.msp_pieces.specs.declared.Piece.{Piece}
 use Rattle.msp_shops.specs.declared.pass.JobTimes.{JobTimes}
 use Rattle.msp_shops.specs.declared.pass.Moments.{Moments}
 use Rattle.msp_shops.specs.Pass.{IsPass}

@@ -1,9 +1,9 @@
 -- What holds of jobs that pass over a first and then over a second machine. No public contract cites this file.
 use Rattle.std.specs.Prelude.{◌≡◌, ℕ, ◌+◌, ◌*◌, ◌^◌, ◌<◌, ◌≤◌, ◌⊎◌, ◌++◌, ◌==◌, List, [], ◌∷◌, if◌then◌else◌, pos, All, AllPairs, Contains, length, sum_by}
 use Rattle.msp_class.specs.declared.sizes.TheConstants.{GREATEST}
-use Rattle.msp_schedule.specs.declared.Piece.{Piece}
-use Rattle.msp_schedule.specs.Intervals.{IsApartOn}
-use Rattle.msp_schedule.specs.Piece.{start, finish, IsTimed}
+use Rattle.msp_pieces.specs.declared.Piece.{Piece}
+use Rattle.msp_pieces.specs.Intervals.{IsApartOn}
+use Rattle.msp_pieces.specs.Piece.{start, finish, IsTimed}
 use Rattle.msp_shops.specs.declared.pass.JobTimes.{JobTimes}
 use Rattle.msp_shops.specs.declared.pass.Moments.{Moments}
 use Rattle.msp_shops.specs.declared.pass.Stage.{Stage}

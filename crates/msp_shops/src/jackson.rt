@@ -11,8 +11,8 @@ ghost use Rattle.msp_shops.specs.Classes.{jackson_class};
 use crate::two_machines::in_series;
 use msp_class::{Class, Crit, Env, NoMemory, Order, Times};
 use msp_instance::Instance;
+use msp_pieces::Solution;
 use msp_route::Solver;
-use msp_schedule::Solution;
 use std::alloc::Global;
 
 /// The class that the rule solves: `J2|n<=2|Cmax`.

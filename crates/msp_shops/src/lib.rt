@@ -1,6 +1,6 @@
 //! The solvers of two-machine shops, with and without preemption, and of open shops with preemption.
 //!
-//! It stands on `msp_schedule`, `msp_route` and `msp_timetable`. The layers above use the clauses of `Solver`: the answers are best; and
+//! It stands on `msp_pieces`, `msp_route` and `msp_timetable`. The layers above use the clauses of `Solver`: the answers are best; and
 //! those of `Open2` and `OpenCut`: the cost is the greatest of the loads of the machines and of the lengths of the jobs.
 #![tactic(auto)]
 

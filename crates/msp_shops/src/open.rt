@@ -7,11 +7,11 @@
 // In the loop (`proofs/OpenSteps.antt`): the first machine has no gap, the second is packed from some job on.
 //
 // Best (`proofs/OpenFacts.antt`): the machines end by the greatest of their loads and of the lengths of the jobs, and no schedule ends
-// before any of these (`law_of_machines` and `law_of_lines` of `msp_schedule`).
+// before any of these (`law_of_machines` and `law_of_lines` of `msp_pieces`).
 ghost use Rattle.std.specs.Prelude.{◌≡◌, ◌≢◌, ◌<◌, ◌≤◌, ◌∷◌, length, map, All, AllPairs, IfOk, IsPermutation};
 ghost use Rattle.msp_class.specs.declared.sizes.TheConstants.{MOST_JOBS, GREATEST};
 ghost use Rattle.msp_instance.specs.Conditions.{Inner};
-ghost use Rattle.msp_schedule.specs.Cost.{IsBest};
+ghost use Rattle.msp_pieces.specs.Cost.{IsBest};
 ghost use Rattle.msp_route.specs.Bounds.{IsAnswer};
 ghost use Rattle.msp_shops.specs.Open.{open_class, IsOpenCost};
 ghost use Rattle.msp_shops.specs.OpenOrder.{all_times, turned, lesser, IsLaid, IsOpenPlan};
@@ -21,8 +21,8 @@ use crate::order::put_in_order;
 use crate::pass::{JobTimes, Moments, Stage, pass, put};
 use msp_class::{Class, Crit, Env, List, NoMemory, Order, Times};
 use msp_instance::Instance;
+use msp_pieces::{Piece, Schedule, Solution};
 use msp_route::Solver;
-use msp_schedule::{Piece, Schedule, Solution};
 use std::alloc::Global;
 
 /// The class that the rule solves: `O2||Cmax`.
@@ -143,7 +143,7 @@ fn open_shop(alloc: Global, inst: &Instance) -> Result<Solution, NoMemory>
 {
     let pieces = open_pieces(alloc, inst)?;
     let schedule = Schedule { unit: 1, pieces };
-    let cost = msp_schedule::cost(inst, &schedule);
+    let cost = msp_pieces::cost(inst, &schedule);
     Ok(Solution { schedule, cost })
 }
 

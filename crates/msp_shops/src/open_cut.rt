@@ -5,13 +5,13 @@
 // one after another they are the schedule; pieces that touch on a machine are joined.
 //
 // Best (`proofs/OpenCutFacts.antt`): a line's sum is the load of a machine or the length of a job, and no schedule ends before it
-// (`law_of_machines` and `law_of_lines` of `msp_schedule`).
+// (`law_of_machines` and `law_of_lines` of `msp_pieces`).
 ghost use Rattle.std.specs.Prelude.{◌≡◌, ◌<◌, ◌≤◌, ◌++◌, pos, length, map, IfOk, OnOk};
 ghost use Rattle.std.specs.List.{range_with_len};
 ghost use Rattle.msp_class.specs.declared.sizes.TheConstants.{MOST_JOBS, MOST_MACHINES};
 ghost use Rattle.msp_instance.specs.Conditions.{Inner};
 ghost use Rattle.msp_instance.specs.Instance.{need_at};
-ghost use Rattle.msp_schedule.specs.Cost.{IsBest};
+ghost use Rattle.msp_pieces.specs.Cost.{IsBest};
 ghost use Rattle.msp_route.specs.Bounds.{IsAnswer};
 ghost use Rattle.msp_shops.specs.Joined.{AreJoined};
 ghost use Rattle.msp_shops.specs.OpenCut.{open_cut_class, IsOpenCutCost};
@@ -21,8 +21,8 @@ use crate::groups::time_of;
 use crate::slices::lay_slices;
 use msp_class::{Class, Crit, Env, List, NoMemory, Order, Times};
 use msp_instance::Instance;
+use msp_pieces::{Piece, Schedule, Solution};
 use msp_route::Solver;
-use msp_schedule::{Piece, Schedule, Solution};
 use msp_timetable::{Matrix, split};
 use std::alloc::Global;
 
@@ -119,7 +119,7 @@ impl Solver for OpenCut {
     {
         let pieces = cut_pieces(alloc, inst)?;
         let schedule = Schedule { unit: 1, pieces };
-        let cost = msp_schedule::cost(inst, &schedule);
+        let cost = msp_pieces::cost(inst, &schedule);
         Ok(Solution { schedule, cost })
     }
 }

@@ -4,7 +4,7 @@ ghost use Rattle.msp_class.specs.declared.sizes.TheConstants.{MOST_JOBS, GREATES
 ghost use Rattle.msp_shops.specs.Pass.{HasPassed, greatest_begin, part};
 
 use msp_class::{List, NoMemory};
-use msp_schedule::Piece;
+use msp_pieces::Piece;
 
 /// A job's times on the first and on the second machine.
 #[derive(Clone, Copy)]

@@ -6,7 +6,7 @@ ghost use Rattle.msp_shops.specs.Joined.{AreJoined};
 ghost use Rattle.msp_shops.specs.Sliced.{row_part, row_parts, laid, Joins, IsEndOf, HasBegun, AreInRows};
 
 use msp_class::{List, NoMemory};
-use msp_schedule::Piece;
+use msp_pieces::Piece;
 use msp_timetable::Slice;
 use std::alloc::Global;
 

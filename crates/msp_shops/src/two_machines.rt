@@ -1,7 +1,7 @@
 // Jackson's rule: each machine takes the jobs that begin on it in Johnson's order, and after them those that come from the other one.
 ghost use Rattle.std.specs.Prelude.{◌≡◌, IfOk};
 ghost use Rattle.msp_instance.specs.Conditions.{Inner};
-ghost use Rattle.msp_schedule.specs.Cost.{IsBest};
+ghost use Rattle.msp_pieces.specs.Cost.{IsBest};
 ghost use Rattle.msp_route.specs.Bounds.{IsAnswer};
 ghost use Rattle.msp_shops.specs.Groups.{IsTwoMachineShop, IsJohnsonGroup};
 ghost use Rattle.msp_shops.specs.Laid.{AreLaid};
@@ -10,7 +10,7 @@ use crate::groups::{first_total, johnson_group};
 use crate::pass::{JobTimes, Moments, Stage, pass};
 use msp_class::{List, NoMemory};
 use msp_instance::Instance;
-use msp_schedule::{Piece, Schedule, Solution};
+use msp_pieces::{Piece, Schedule, Solution};
 use std::alloc::Global;
 
 /// The operation of this number, on the machine.
@@ -60,6 +60,6 @@ pub fn in_series(alloc: Global, inst: &Instance) -> Result<Solution, NoMemory>
     let there = johnson_group(alloc, inst, 1)?;
     let pieces = pieces_of(alloc, inst, &here, &there)?;
     let schedule = Schedule { unit: 1, pieces };
-    let cost = msp_schedule::cost(inst, &schedule);
+    let cost = msp_pieces::cost(inst, &schedule);
     Ok(Solution { schedule, cost })
 }

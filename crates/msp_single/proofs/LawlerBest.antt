@@ -8,22 +8,22 @@ use Rattle.msp_class.proofs.Sums.{OnceBelow, OnceBelow-from_permutation, OnceBel
 use Rattle.msp_instance.specs.declared.Instance.{Instance}
 use Rattle.msp_instance.specs.Conditions.{Inner}
 use Rattle.msp_instance.specs.Paths.{HasStep}
-use Rattle.msp_schedule.specs.declared.Piece.{Piece}
-use Rattle.msp_schedule.specs.declared.Schedule.{Schedule}
-use Rattle.msp_schedule.specs.Piece.{job_of}
-use Rattle.msp_schedule.specs.Feasible.{Feasible}
-use Rattle.msp_schedule.specs.Cost.{end_of, Best}
-use Rattle.msp_schedule.specs.Settled.{IsSettled}
-use Rattle.msp_schedule.specs.Within.{Within}
-use Rattle.msp_schedule.specs.BackToBack.{back_to_back, piece, time_at, schedule_in_order}
-use Rattle.msp_schedule.proofs.lists.BackToBack.{back_to_back-jobs, back_to_back-last, end_in, end_in-at}
-use Rattle.msp_schedule.proofs.feasible.OneMachine.{last_end-is}
-use Rattle.msp_schedule.proofs.feasible.BackToBack.{piece_makes, back_to_back_is_settled, back_to_back_is_within}
+use Rattle.msp_pieces.specs.declared.Piece.{Piece}
+use Rattle.msp_pieces.specs.declared.Schedule.{Schedule}
+use Rattle.msp_pieces.specs.Piece.{job_of}
+use Rattle.msp_pieces.specs.Feasible.{Feasible}
+use Rattle.msp_pieces.specs.Cost.{end_of, Best}
+use Rattle.msp_pieces.specs.Settled.{IsSettled}
+use Rattle.msp_pieces.specs.Within.{Within}
+use Rattle.msp_pieces.specs.BackToBack.{back_to_back, piece, time_at, schedule_in_order}
+use Rattle.msp_pieces.proofs.lists.BackToBack.{back_to_back-jobs, back_to_back-last, end_in, end_in-at}
+use Rattle.msp_pieces.proofs.feasible.OneMachine.{last_end-is}
+use Rattle.msp_pieces.proofs.feasible.BackToBack.{piece_makes, back_to_back_is_settled, back_to_back_is_within}
 use Rattle.msp_route.specs.Bounds.{IsAnswer}
 use Rattle.msp_route.specs.LastJob.{CostsLess}
 use Rattle.msp_single.specs.Lawler.{lawler_class, IsLawlerOrder}
-use Rattle.msp_schedule.specs.Blocks.{total_time, cost_at, IsCertified}
-use Rattle.msp_schedule.proofs.bounds.Certified.{ranked, Rises, best_by_certificates}
+use Rattle.msp_pieces.specs.Blocks.{total_time, cost_at, IsCertified}
+use Rattle.msp_pieces.proofs.bounds.Certified.{ranked, Rises, best_by_certificates}
 use Rattle.msp_route.proofs.PlainJobs.{takes_time, is_short}
 use Rattle.msp_single.proofs.LawlerFacts.{IsLawlerInstance, IsLawlerInstance-from_class}
 use Rattle.msp_route.proofs.BackToBackAnswer.{timed, back_to_back_is_answer}

@@ -11,26 +11,26 @@ use Rattle.msp_class.proofs.Sums.{OnceBelow, OnceBelow-from_permutation, OnceBel
 use Rattle.msp_class.proofs.Sums.{sum_by-constant, cond-no, cond-le}
 use Rattle.msp_instance.specs.declared.Instance.{Instance}
 use Rattle.msp_instance.specs.Conditions.{Inner}
-use Rattle.msp_schedule.specs.declared.Piece.{Piece}
-use Rattle.msp_schedule.specs.declared.Schedule.{Schedule}
-use Rattle.msp_schedule.specs.Piece.{job_of}
-use Rattle.msp_schedule.specs.Feasible.{Feasible}
-use Rattle.msp_schedule.specs.Cost.{end_of, cost_of, Best}
-use Rattle.msp_schedule.specs.Settled.{IsSettled}
-use Rattle.msp_schedule.specs.Within.{Within}
-use Rattle.msp_schedule.specs.BackToBack.{back_to_back, piece, time_at, schedule_in_order}
-use Rattle.msp_schedule.proofs.lists.BackToBack.{back_to_back-jobs, back_to_back-last, end_in}
-use Rattle.msp_schedule.proofs.feasible.OneMachine.{IsPlan-from_feasible, last_end-is}
-use Rattle.msp_schedule.proofs.feasible.BackToBack.{piece_makes, ordered_without_arcs, back_to_back_is_feasible, back_to_back_is_settled, back_to_back_is_within}
+use Rattle.msp_pieces.specs.declared.Piece.{Piece}
+use Rattle.msp_pieces.specs.declared.Schedule.{Schedule}
+use Rattle.msp_pieces.specs.Piece.{job_of}
+use Rattle.msp_pieces.specs.Feasible.{Feasible}
+use Rattle.msp_pieces.specs.Cost.{end_of, cost_of, Best}
+use Rattle.msp_pieces.specs.Settled.{IsSettled}
+use Rattle.msp_pieces.specs.Within.{Within}
+use Rattle.msp_pieces.specs.BackToBack.{back_to_back, piece, time_at, schedule_in_order}
+use Rattle.msp_pieces.proofs.lists.BackToBack.{back_to_back-jobs, back_to_back-last, end_in}
+use Rattle.msp_pieces.proofs.feasible.OneMachine.{IsPlan-from_feasible, last_end-is}
+use Rattle.msp_pieces.proofs.feasible.BackToBack.{piece_makes, ordered_without_arcs, back_to_back_is_feasible, back_to_back_is_settled, back_to_back_is_within}
 use Rattle.msp_route.specs.Bounds.{IsAnswer}
 use Rattle.msp_single.specs.Moore.{moore_class, IsMooreOrder}
 use Rattle.msp_route.proofs.PlainJobs.{takes_time, is_short}
 use Rattle.msp_route.proofs.BackToBackAnswer.{timed, released, back_to_back_is_answer}
 use Rattle.msp_single.proofs.MooreFacts.{IsMooreInstance, IsMooreInstance-from_class}
 use Rattle.msp_single.proofs.MooreChoice.{choice-permutation, choice-on_time, choice-most}
-use Rattle.msp_schedule.proofs.lists.DateOrder.{dates_rise}
-use Rattle.msp_schedule.proofs.lists.Parts.{All-front}
-use Rattle.msp_schedule.proofs.costs.LateJobs.{due_at, is_late, late_jobs, late_cost, not_late, late_and_on_time, ends_on_time, on_time_back_to_back}
+use Rattle.msp_pieces.proofs.lists.DateOrder.{dates_rise}
+use Rattle.msp_pieces.proofs.lists.Parts.{All-front}
+use Rattle.msp_pieces.proofs.costs.LateJobs.{due_at, is_late, late_jobs, late_cost, not_late, late_and_on_time, ends_on_time, on_time_back_to_back}
 
 pub all_in_order : (i : Instance) (order : List ℕ) → IsMooreOrder i order → IsPermutation (range_with_len 0 (length i.jobs)) order
 all_in_order i order o =

@@ -13,8 +13,8 @@ use Rattle.std.proofs.lemmas.List.Sums.{sum_by-cons, sum_by-append, sum_by-remov
 use Rattle.std.proofs.lemmas.List.Sorted.{IsPermutation-refl, IsPermutation-sym, IsPermutation-trans, IsPermutation-cons, IsPermutation-middle, IsPermutation-to_front}
 use Rattle.std.proofs.lemmas.List.Sorted.{IsPermutation-append_left, IsPermutation-remove, All-permutation}
 use Rattle.msp_class.proofs.IntegerRing.{≤ℤ_trans, pos-le}
-use Rattle.msp_schedule.proofs.costs.LateJobs.{OnTime}
-use Rattle.msp_schedule.proofs.lists.Parts.{All-front, All-back, AllPairs-front, AllPairs-last}
+use Rattle.msp_pieces.proofs.costs.LateJobs.{OnTime}
+use Rattle.msp_pieces.proofs.lists.Parts.{All-front, All-back, AllPairs-front, AllPairs-last}
 use Rattle.msp_single.specs.Moore.{IsLongest, IsChoice, none, kept, overrun}
 
 -- the room that the elements leave below a length

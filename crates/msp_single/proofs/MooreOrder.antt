@@ -9,13 +9,13 @@ use Rattle.msp_class.specs.declared.sizes.TheConstants.{GREATEST}
 use Rattle.msp_class.proofs.Sums.{OnceBelow, OnceBelow-range, OnceBelow-from_permutation, OnceBelow-distinct, length-OnceBelow, AllPairs-tail, sum_by-map, sum_by-same}
 use Rattle.msp_instance.specs.declared.Instance.{Instance}
 use Rattle.msp_instance.specs.Instance.{no_need, no_job, job_at}
-use Rattle.msp_schedule.proofs.changes.Moves.{AllPairs-map}
-use Rattle.msp_schedule.specs.BackToBack.{time_at}
-use Rattle.msp_schedule.proofs.changes.Shrunk.{All-from_map}
+use Rattle.msp_pieces.proofs.changes.Moves.{AllPairs-map}
+use Rattle.msp_pieces.specs.BackToBack.{time_at}
+use Rattle.msp_pieces.proofs.changes.Shrunk.{All-from_map}
 use Rattle.msp_single.specs.declared.moore.Task.{Task}
 use Rattle.msp_route.specs.Dates.{IsDueBefore}
 use Rattle.msp_single.specs.Moore.{IsLongest, IsChoice, none, kept, overrun, IsMooreOrder}
-use Rattle.msp_schedule.proofs.lists.Parts.{All-front, All-back}
+use Rattle.msp_pieces.proofs.lists.Parts.{All-front, All-back}
 use Rattle.msp_single.proofs.MooreChoice.{accepted_of, keeps, drops, choice-permutation}
 use Rattle.msp_single.proofs.MooreSteps.{IsTaskOf, Chooses}
 

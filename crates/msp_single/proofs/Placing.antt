@@ -3,9 +3,9 @@ use Rattle.std.proofs.Common.{◌≡◌, ℕ, ◌-◌, ◌<◌, ◌≤◌, List,
 use Rattle.std.proofs.lemmas.List.Sorted.{IsPermutation-sym, All-permutation, Contains-permutation}
 use Rattle.msp_class.proofs.Sums.{sum_by-IsPermutation}
 use Rattle.msp_instance.specs.declared.Instance.{Instance}
-use Rattle.msp_schedule.specs.BackToBack.{time_at}
-use Rattle.msp_schedule.specs.Blocks.{total_time, HasNoSuccessor}
-use Rattle.msp_schedule.proofs.lists.InTurn.{AreInTurn, put_next}
+use Rattle.msp_pieces.specs.BackToBack.{time_at}
+use Rattle.msp_pieces.specs.Blocks.{total_time, HasNoSuccessor}
+use Rattle.msp_pieces.proofs.lists.InTurn.{AreInTurn, put_next}
 use Rattle.msp_route.specs.LastJob.{CostsLess}
 use Rattle.msp_single.specs.Lawler.{GoesLast}
 

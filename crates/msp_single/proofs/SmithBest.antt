@@ -5,18 +5,18 @@ use Rattle.msp_class.proofs.Sums.{OnceBelow, OnceBelow-from_permutation}
 use Rattle.msp_instance.specs.declared.Instance.{Instance}
 use Rattle.msp_instance.specs.Instance.{job_at}
 use Rattle.msp_instance.specs.Conditions.{Inner}
-use Rattle.msp_schedule.specs.declared.Piece.{Piece}
-use Rattle.msp_schedule.specs.declared.Schedule.{Schedule}
-use Rattle.msp_schedule.specs.Piece.{job_of, start, finish}
-use Rattle.msp_schedule.specs.Feasible.{Feasible}
-use Rattle.msp_schedule.specs.Cost.{cost_of, Best}
-use Rattle.msp_schedule.specs.Settled.{IsSettled}
-use Rattle.msp_schedule.specs.Within.{Within}
-use Rattle.msp_schedule.specs.BackToBack.{back_to_back, weighted_ends, piece, time_at, schedule_in_order}
-use Rattle.msp_schedule.proofs.lists.BackToBack.{back_to_back-jobs, last-weighted_ends_below}
-use Rattle.msp_schedule.proofs.lists.WeightedEnds.{SmithBefore, smith_beats_last}
-use Rattle.msp_schedule.proofs.feasible.OneMachine.{IsPlan-from_feasible, weighted_cost}
-use Rattle.msp_schedule.proofs.feasible.BackToBack.{piece_makes, ordered_without_arcs, back_to_back_is_feasible, back_to_back_is_settled, back_to_back_is_within}
+use Rattle.msp_pieces.specs.declared.Piece.{Piece}
+use Rattle.msp_pieces.specs.declared.Schedule.{Schedule}
+use Rattle.msp_pieces.specs.Piece.{job_of, start, finish}
+use Rattle.msp_pieces.specs.Feasible.{Feasible}
+use Rattle.msp_pieces.specs.Cost.{cost_of, Best}
+use Rattle.msp_pieces.specs.Settled.{IsSettled}
+use Rattle.msp_pieces.specs.Within.{Within}
+use Rattle.msp_pieces.specs.BackToBack.{back_to_back, weighted_ends, piece, time_at, schedule_in_order}
+use Rattle.msp_pieces.proofs.lists.BackToBack.{back_to_back-jobs, last-weighted_ends_below}
+use Rattle.msp_pieces.proofs.lists.WeightedEnds.{SmithBefore, smith_beats_last}
+use Rattle.msp_pieces.proofs.feasible.OneMachine.{IsPlan-from_feasible, weighted_cost}
+use Rattle.msp_pieces.proofs.feasible.BackToBack.{piece_makes, ordered_without_arcs, back_to_back_is_feasible, back_to_back_is_settled, back_to_back_is_within}
 use Rattle.msp_route.specs.Bounds.{IsAnswer}
 use Rattle.msp_single.specs.Smith.{smith_class, GoesBefore, IsSmithOrder}
 use Rattle.msp_route.proofs.PlainJobs.{takes_time, is_short}

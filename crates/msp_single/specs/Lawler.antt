@@ -7,7 +7,7 @@ use Rattle.msp_class.specs.declared.class.Order.TheVariants.{Prec}
 use Rattle.msp_class.specs.declared.class.Times.TheVariants.{General}
 use Rattle.msp_class.specs.declared.class.Crit.TheVariants.{Fmax}
 use Rattle.msp_instance.specs.declared.Instance.{Instance}
-use Rattle.msp_schedule.specs.Blocks.{total_time}
+use Rattle.msp_pieces.specs.Blocks.{total_time}
 use Rattle.msp_route.specs.LastJob.{EndsAt}
 
 -- One machine, precedence, neither preemption nor release dates, any times, and the greatest cost of a job by its curve: `1|prec|fmax`.

@@ -6,22 +6,22 @@
 // In the loop: the jobs behind the place stand in their order, the others are left, and arcs lead from jobs that are left, or to later
 // places.
 //
-// Best (`proofs/LawlerBest.antt`, by the bound of `msp_schedule/proofs/bounds/Certified.antt`): of the jobs left at a place one ends last
+// Best (`proofs/LawlerBest.antt`, by the bound of `msp_pieces/proofs/bounds/Certified.antt`): of the jobs left at a place one ends last
 // in any schedule, no earlier than all of them take together, and none of them must follow it. It costs there at least what the chosen job
 // costs. So each job in that order costs no more than some job of any other schedule.
 ghost use Rattle.std.specs.Prelude.{◌≡◌, length, map, IfOk, IsPermutation};
 ghost use Rattle.std.specs.List.{range_with_len};
 ghost use Rattle.msp_instance.specs.Conditions.{Inner};
-ghost use Rattle.msp_schedule.specs.Cost.{IsBest};
-ghost use Rattle.msp_schedule.specs.Fraction.{IsLowest};
-ghost use Rattle.msp_schedule.specs.Settled.{IsSettled};
+ghost use Rattle.msp_pieces.specs.Cost.{IsBest};
+ghost use Rattle.msp_pieces.specs.Fraction.{IsLowest};
+ghost use Rattle.msp_pieces.specs.Settled.{IsSettled};
 ghost use Rattle.msp_route.specs.Bounds.{IsAnswer};
 ghost use Rattle.msp_single.specs.Lawler.{lawler_class, IsLawlerOrder};
 
 use msp_class::{Class, Crit, Env, NoMemory, Order, Times};
 use msp_instance::Instance;
+use msp_pieces::{Solution, all_jobs};
 use msp_route::{Solver, last_place, solution_in_order, total_time};
-use msp_schedule::{Solution, all_jobs};
 use std::alloc::Global;
 
 /// The class that the rule solves: `1|prec|fmax`.

@@ -12,16 +12,16 @@ ghost use Rattle.std.specs.Ordering.{nat_cmp, ordering_then};
 ghost use Rattle.msp_class.specs.declared.sizes.TheConstants.{MOST_JOBS};
 ghost use Rattle.msp_instance.specs.Instance.{job_at, need_at, no_need};
 ghost use Rattle.msp_instance.specs.Conditions.{Inner};
-ghost use Rattle.msp_schedule.specs.Cost.{IsBest};
-ghost use Rattle.msp_schedule.specs.Fraction.{IsLowest};
-ghost use Rattle.msp_schedule.specs.Settled.{IsSettled};
+ghost use Rattle.msp_pieces.specs.Cost.{IsBest};
+ghost use Rattle.msp_pieces.specs.Fraction.{IsLowest};
+ghost use Rattle.msp_pieces.specs.Settled.{IsSettled};
 ghost use Rattle.msp_route.specs.Bounds.{IsAnswer};
 ghost use Rattle.msp_single.specs.Smith.{smith_class, IsSmithOrder};
 
 use msp_class::{Class, Crit, Env, NoMemory, Order, Times};
 use msp_instance::Instance;
+use msp_pieces::Solution;
 use msp_route::{Solver, first_time, solution_in_order};
-use msp_schedule::Solution;
 use std::alloc::Global;
 use std::cmp::Ordering;
 

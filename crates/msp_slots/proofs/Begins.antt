@@ -15,15 +15,15 @@ use Rattle.msp_class.proofs.Sums.{total_below-same, total_below-range, Contains-
 use Rattle.msp_class.proofs.IntegerRing.{natural, pos-le, le-pos, zero-le-pos, ≤ℤ_refl, ≤ℤ_trans}
 use Rattle.msp_instance.specs.declared.Instance.{Instance}
 use Rattle.msp_instance.specs.Instance.{job_at, need_at}
-use Rattle.msp_schedule.specs.declared.Piece.{Piece}
-use Rattle.msp_schedule.specs.declared.Schedule.{Schedule}
-use Rattle.msp_schedule.specs.Feasible.{Feasible, HasPlace, HasOperation, whole_work}
-use Rattle.msp_schedule.specs.Cost.{end_of}
-use Rattle.msp_schedule.specs.Laws.{time_together, HasRoom, BeginsFrom, floored}
-use Rattle.msp_schedule.proofs.bounds.EndsAndFloors.{law_of_ends, law_of_floors}
-use Rattle.msp_schedule.proofs.bounds.Floored.{FillsUnit, floored-fills}
-use Rattle.msp_schedule.proofs.feasible.LastEnds.{last_end-reached}
-use Rattle.msp_schedule.proofs.feasible.Frames.{frame_of, of_operation, HasWork, IsShaped-from_identical, Fits-from_feasible}
+use Rattle.msp_pieces.specs.declared.Piece.{Piece}
+use Rattle.msp_pieces.specs.declared.Schedule.{Schedule}
+use Rattle.msp_pieces.specs.Feasible.{Feasible, HasPlace, HasOperation, whole_work}
+use Rattle.msp_pieces.specs.Cost.{end_of}
+use Rattle.msp_pieces.specs.Laws.{time_together, HasRoom, BeginsFrom, floored}
+use Rattle.msp_pieces.proofs.bounds.EndsAndFloors.{law_of_ends, law_of_floors}
+use Rattle.msp_pieces.proofs.bounds.Floored.{FillsUnit, floored-fills}
+use Rattle.msp_pieces.proofs.feasible.LastEnds.{last_end-reached}
+use Rattle.msp_pieces.proofs.feasible.Frames.{frame_of, of_operation, HasWork, IsShaped-from_identical, Fits-from_feasible}
 use Rattle.msp_slots.specs.Seating.{one_if, begin_at, IsSeated}
 
 -- the job's release date

@@ -9,9 +9,9 @@ use Rattle.msp_class.proofs.IntegerRing.{pos-lt}
 use Rattle.msp_class.proofs.Sums.{OnceBelow-from_permutation, OnceBelow-contains}
 use Rattle.msp_instance.specs.declared.Instance.{Instance}
 use Rattle.msp_instance.specs.Instance.{job_at}
-use Rattle.msp_schedule.specs.declared.Piece.{Piece}
-use Rattle.msp_schedule.specs.Settled.{IsSettled}
-use Rattle.msp_schedule.proofs.bounds.Certified.{ranked}
+use Rattle.msp_pieces.specs.declared.Piece.{Piece}
+use Rattle.msp_pieces.specs.Settled.{IsSettled}
+use Rattle.msp_pieces.proofs.bounds.Certified.{ranked}
 use Rattle.msp_slots.specs.Pieces.{piece_at}
 use Rattle.msp_slots.specs.ListSchedule.{RunsInOrder, IsListSchedule}
 use Rattle.msp_slots.proofs.Progress.{IsOrdered}

@@ -24,12 +24,12 @@ use Rattle.msp_instance.specs.declared.Arc.{Arc}
 use Rattle.msp_instance.specs.declared.Instance.{Instance}
 use Rattle.msp_instance.specs.Instance.{no_need, no_job, job_at, need_at, common_time}
 use Rattle.msp_instance.specs.Conditions.{Limits, MeetsConditions, HasShape, HasTimes, IsJobOf, least_time}
-use Rattle.msp_schedule.specs.declared.Piece.{Piece}
-use Rattle.msp_schedule.specs.declared.Schedule.{Schedule}
-use Rattle.msp_schedule.specs.Piece.{length_of, pieces_of, IsApart, IsBefore}
-use Rattle.msp_schedule.specs.Feasible.{Feasible, HasPlace, HasOperation, MayRun, IsWholeWork, GetsWork}
-use Rattle.msp_schedule.specs.Cost.{end_of}
-use Rattle.msp_schedule.proofs.feasible.OneMachine.{pieces_of-job, both_true}
+use Rattle.msp_pieces.specs.declared.Piece.{Piece}
+use Rattle.msp_pieces.specs.declared.Schedule.{Schedule}
+use Rattle.msp_pieces.specs.Piece.{length_of, pieces_of, IsApart, IsBefore}
+use Rattle.msp_pieces.specs.Feasible.{Feasible, HasPlace, HasOperation, MayRun, IsWholeWork, GetsWork}
+use Rattle.msp_pieces.specs.Cost.{end_of}
+use Rattle.msp_pieces.proofs.feasible.OneMachine.{pieces_of-job, both_true}
 use Rattle.msp_slots.specs.Seating.{one_if, begin_at}
 use Rattle.msp_slots.specs.Places.{ArePlaces, TakeCommonTime, EndAfterPlaces, LawOfPlaces}
 use Rattle.msp_slots.proofs.Seats.{begin_before, before_next}

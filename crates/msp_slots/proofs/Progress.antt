@@ -15,10 +15,10 @@ use Rattle.msp_instance.specs.declared.Arc.{Arc}
 use Rattle.msp_instance.specs.declared.Instance.{Instance}
 use Rattle.msp_instance.specs.Conditions.{IsAcyclic, Inner}
 use Rattle.msp_instance.proofs.ListingLemmas.{list_any-from_Contains, Contains-from_list_any}
-use Rattle.msp_schedule.specs.declared.Piece.{Piece}
-use Rattle.msp_schedule.proofs.lists.Parts.{All-back, AllPairs-front, AllPairs-back}
-use Rattle.msp_schedule.proofs.feasible.OneMachine.{both_true}
-use Rattle.msp_schedule.proofs.bounds.Certified.{place_in, place_in-is, ranked}
+use Rattle.msp_pieces.specs.declared.Piece.{Piece}
+use Rattle.msp_pieces.proofs.lists.Parts.{All-back, AllPairs-front, AllPairs-back}
+use Rattle.msp_pieces.proofs.feasible.OneMachine.{both_true}
+use Rattle.msp_pieces.proofs.bounds.Certified.{place_in, place_in-is, ranked}
 use Rattle.msp_slots.specs.Pieces.{piece_at}
 use Rattle.msp_slots.specs.ListSchedule.{StandsBefore, RunsAhead, WaitsForJob, IsListSchedule}
 use Rattle.msp_slots.specs.Steps.{is_blocked, IsSlot, seats, IsUnderWay}

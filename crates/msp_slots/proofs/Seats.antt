@@ -3,7 +3,7 @@
 use Rattle.std.proofs.Common.{◌≡◌, ◌≢◌, ℕ, zero, suc, ◌+◌, ◌-◌, ◌*◌, ◌<◌, ◌≤◌, ◌⊎◌, inl, inr, Bool, true, false, cond, eqb, ltb, leb, refl, sym, ap, subst, ◌∙◌, arith}
 use Rattle.std.proofs.lemmas.Bool.{cases_lt, eqb-true, eqb-false, eq-eqb, ne_eqb}
 use Rattle.std.proofs.lemmas.Bool.Decides.{nat_tests}
-use Rattle.msp_schedule.proofs.lists.Places.{total_below-within}
+use Rattle.msp_pieces.proofs.lists.Places.{total_below-within}
 use Rattle.msp_slots.specs.Seating.{one_if, begin_at, IsSeated, IsTight, Rises}
 use Rattle.msp_class.specs.Sums.{total_below}
 use Rattle.msp_class.proofs.Sums.{total_below-mono, total_below-same, total_below-add, total_below-none, total_below-bound, total_below-constant, total_below-split}

@@ -8,7 +8,7 @@ use Rattle.msp_class.specs.Sums.{total_below}
 use Rattle.msp_class.proofs.Sums.{sum_by-map, sum_by-IsPermutation}
 use Rattle.msp_instance.specs.declared.Instance.{Instance}
 use Rattle.msp_instance.specs.Instance.{no_job}
-use Rattle.msp_schedule.proofs.lists.Places.{sum_by-places}
+use Rattle.msp_pieces.proofs.lists.Places.{sum_by-places}
 use Rattle.msp_slots.specs.declared.earliest.Slot.{Slot}
 use Rattle.msp_slots.specs.Seating.{one_if, begin_at, IsSeated, IsTight, Rises}
 use Rattle.msp_slots.specs.Earliest.{start_in, machine_in, head_in, AreSlots}

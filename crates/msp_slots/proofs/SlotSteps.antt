@@ -11,7 +11,7 @@ use Rattle.std.proofs.lemmas.List.Sorted.{list_any-IsPermutation, All-permutatio
 use Rattle.std.proofs.lemmas.List.Sorted.{IsPermutation-append_left, IsPermutation-append_right, IsPermutation-append_comm}
 use Rattle.msp_class.specs.declared.sizes.TheConstants.{MOST_JOBS}
 use Rattle.msp_instance.specs.declared.Arc.{Arc}
-use Rattle.msp_schedule.specs.declared.Piece.{Piece}
+use Rattle.msp_pieces.specs.declared.Piece.{Piece}
 use Rattle.msp_slots.specs.Pieces.{piece_at}
 use Rattle.msp_slots.specs.ListSchedule.{StandsBefore}
 use Rattle.msp_slots.specs.Steps.{is_blocked, IsSlot, seats}

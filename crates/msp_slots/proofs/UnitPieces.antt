@@ -15,15 +15,15 @@ use Rattle.msp_class.proofs.Sums.{OnceBelow, OnceBelow-range, OnceBelow-distinct
 use Rattle.msp_instance.specs.declared.Arc.{Arc}
 use Rattle.msp_instance.specs.declared.Instance.{Instance}
 use Rattle.msp_instance.specs.Instance.{job_at, need_at}
-use Rattle.msp_schedule.specs.declared.Piece.{Piece}
-use Rattle.msp_schedule.specs.declared.Schedule.{Schedule}
-use Rattle.msp_schedule.specs.Piece.{IsApart, IsBefore}
-use Rattle.msp_schedule.specs.Feasible.{Feasible, IsWholeWork}
-use Rattle.msp_schedule.specs.Cost.{end_of}
-use Rattle.msp_schedule.specs.Within.{Within}
-use Rattle.msp_schedule.proofs.lists.OnceEach.{OnceBelow-one}
-use Rattle.msp_schedule.proofs.changes.Moves.{Contains-map}
-use Rattle.msp_schedule.proofs.feasible.OneEach.{early_end, IsUncut, IsUncut-identical, AreOneEach, one_each_is_feasible, one_each_is_within}
+use Rattle.msp_pieces.specs.declared.Piece.{Piece}
+use Rattle.msp_pieces.specs.declared.Schedule.{Schedule}
+use Rattle.msp_pieces.specs.Piece.{IsApart, IsBefore}
+use Rattle.msp_pieces.specs.Feasible.{Feasible, IsWholeWork}
+use Rattle.msp_pieces.specs.Cost.{end_of}
+use Rattle.msp_pieces.specs.Within.{Within}
+use Rattle.msp_pieces.proofs.lists.OnceEach.{OnceBelow-one}
+use Rattle.msp_pieces.proofs.changes.Moves.{Contains-map}
+use Rattle.msp_pieces.proofs.feasible.OneEach.{early_end, IsUncut, IsUncut-identical, AreOneEach, one_each_is_feasible, one_each_is_within}
 use Rattle.msp_slots.specs.Pieces.{piece_at}
 
 -- the instance has jobs of one unit of time on identical machines, which run whole

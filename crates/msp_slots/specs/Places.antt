@@ -5,9 +5,9 @@ use Rattle.msp_class.specs.Env.{kind_of}
 use Rattle.msp_instance.specs.declared.Instance.{Instance}
 use Rattle.msp_instance.specs.Instance.{job_at, common_time}
 use Rattle.msp_instance.specs.Conditions.{Limits, MeetsConditions}
-use Rattle.msp_schedule.specs.declared.Schedule.{Schedule}
-use Rattle.msp_schedule.specs.Feasible.{Feasible}
-use Rattle.msp_schedule.specs.Cost.{end_of}
+use Rattle.msp_pieces.specs.declared.Schedule.{Schedule}
+use Rattle.msp_pieces.specs.Feasible.{Feasible}
+use Rattle.msp_pieces.specs.Cost.{end_of}
 use Rattle.msp_slots.specs.Seating.{begin_at}
 
 -- Each job has a place, from 0: before those of the jobs that it must precede, shared by no more jobs than there are machines, and below the

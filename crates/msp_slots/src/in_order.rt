@@ -7,7 +7,7 @@ ghost use Rattle.msp_slots.specs.ListSchedule.{IsListSchedule};
 use crate::slot::{Split, next_slot, put_pieces};
 use msp_class::{List, NoMemory};
 use msp_instance::{Instance, arcs_by_after};
-use msp_schedule::Piece;
+use msp_pieces::Piece;
 use std::alloc::Global;
 
 /// The pieces of all jobs, each for one unit of time: at each moment, of the jobs that no job left must precede, the first in the order run,

@@ -6,7 +6,7 @@ ghost use Rattle.msp_slots.specs.Steps.{is_blocked, IsSlot, seats};
 
 use msp_class::{List, NoMemory};
 use msp_instance::Arc;
-use msp_schedule::{Piece, flags_of, follows_flagged};
+use msp_pieces::{Piece, flags_of, follows_flagged};
 use std::alloc::Global;
 
 /// The jobs of a slot, and those that are left after it.

@@ -10,8 +10,8 @@ use Rattle.msp_class.proofs.Sums.{total_below-same, total_below-only, sum_by-app
 use Rattle.msp_class.proofs.Sums.{eqb_comm, cond-yes, OnceBelow, OnceBelow-from_permutation}
 use Rattle.msp_instance.specs.declared.Instance.{Instance}
 use Rattle.msp_instance.specs.Instance.{job_at, no_job}
-use Rattle.msp_schedule.specs.declared.Piece.{Piece}
-use Rattle.msp_schedule.specs.BackToBack.{time_at}
+use Rattle.msp_pieces.specs.declared.Piece.{Piece}
+use Rattle.msp_pieces.specs.BackToBack.{time_at}
 use Rattle.msp_srpt.specs.declared.shortest.Task.{Task}
 use Rattle.msp_srpt.specs.declared.shortest.Arrival.{Arrival}
 use Rattle.msp_srpt.specs.Running.{HaveCome, IsUnderWay, GoesOn, IsCarriedOut, brought}

@@ -19,17 +19,17 @@ use Rattle.msp_instance.specs.declared.Arc.{Arc}
 use Rattle.msp_instance.specs.declared.Instance.{Instance}
 use Rattle.msp_instance.specs.Instance.{job_at}
 use Rattle.msp_instance.specs.Conditions.{Inner}
-use Rattle.msp_schedule.specs.declared.Piece.{Piece}
-use Rattle.msp_schedule.specs.declared.Schedule.{Schedule}
-use Rattle.msp_schedule.specs.Piece.{length_of, pieces_of, IsBefore, job_of, start, finish, IsTimed}
-use Rattle.msp_schedule.specs.Feasible.{Feasible, HasPlace, HasOperation, MayRun, FollowsRoute, GetsWork, IsWholeWork, total, whole_work, work_of as part_of}
-use Rattle.msp_schedule.specs.Cost.{cost_of, end_of, job_cost, Best}
-use Rattle.msp_schedule.specs.Settled.{IsSettled}
-use Rattle.msp_schedule.proofs.costs.Charges.{charge_of, cost_of-sum}
-use Rattle.msp_schedule.specs.Intervals.{size_of, work_of}
-use Rattle.msp_schedule.proofs.lists.Intervals.{last_of, last_of-least}
-use Rattle.msp_schedule.proofs.feasible.OneMachine.{IsPlan-from_feasible, last_end-is, pieces_of-job, total_lengths}
-use Rattle.msp_schedule.specs.BackToBack.{time_at}
+use Rattle.msp_pieces.specs.declared.Piece.{Piece}
+use Rattle.msp_pieces.specs.declared.Schedule.{Schedule}
+use Rattle.msp_pieces.specs.Piece.{length_of, pieces_of, IsBefore, job_of, start, finish, IsTimed}
+use Rattle.msp_pieces.specs.Feasible.{Feasible, HasPlace, HasOperation, MayRun, FollowsRoute, GetsWork, IsWholeWork, total, whole_work, work_of as part_of}
+use Rattle.msp_pieces.specs.Cost.{cost_of, end_of, job_cost, Best}
+use Rattle.msp_pieces.specs.Settled.{IsSettled}
+use Rattle.msp_pieces.proofs.costs.Charges.{charge_of, cost_of-sum}
+use Rattle.msp_pieces.specs.Intervals.{size_of, work_of}
+use Rattle.msp_pieces.proofs.lists.Intervals.{last_of, last_of-least}
+use Rattle.msp_pieces.proofs.feasible.OneMachine.{IsPlan-from_feasible, last_end-is, pieces_of-job, total_lengths}
+use Rattle.msp_pieces.specs.BackToBack.{time_at}
 use Rattle.msp_srpt.specs.Shortest.{shortest_class, run_before, IsWaiting, KeepsRule, idle, runs, IsShortestFirst}
 use Rattle.msp_srpt.specs.Running.{IsCarriedOut, IsLaid}
 use Rattle.msp_srpt.proofs.Laying.{run_of, run-settled, run-unborn}

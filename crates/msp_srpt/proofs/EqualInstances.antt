@@ -4,8 +4,8 @@ use Rattle.msp_class.specs.declared.class.Crit.TheVariants.{SumC}
 use Rattle.msp_instance.specs.declared.Instance.{Instance}
 use Rattle.msp_instance.specs.Instance.{no_job, no_need, job_at, common_time}
 use Rattle.msp_instance.specs.Conditions.{HasSameTimes, Inner}
-use Rattle.msp_schedule.specs.BackToBack.{time_at}
-use Rattle.msp_schedule.proofs.feasible.OneEach.{IsUncut, IsUncut-identical}
+use Rattle.msp_pieces.specs.BackToBack.{time_at}
+use Rattle.msp_pieces.proofs.feasible.OneEach.{IsUncut, IsUncut-identical}
 use Rattle.msp_route.proofs.OneInstances.{IsOneInstance, IsOneInstance-from}
 use Rattle.msp_srpt.specs.EqualHeads.{equal_heads_class}
 

@@ -14,16 +14,16 @@ use Rattle.msp_class.proofs.Sums.{total_below-bound, total_below-scale, cond-le}
 use Rattle.msp_instance.specs.declared.Instance.{Instance}
 use Rattle.msp_instance.specs.Instance.{job_at, common_time}
 use Rattle.msp_instance.specs.Conditions.{Inner}
-use Rattle.msp_schedule.specs.declared.Piece.{Piece}
-use Rattle.msp_schedule.specs.declared.Schedule.{Schedule}
-use Rattle.msp_schedule.specs.Cost.{cost_of, Best}
-use Rattle.msp_schedule.specs.Feasible.{Feasible, IsWholeWork}
-use Rattle.msp_schedule.specs.Piece.{IsBefore, job_of, start, finish, IsTimed}
-use Rattle.msp_schedule.specs.BackToBack.{piece, time_at}
-use Rattle.msp_schedule.specs.Within.{Within}
-use Rattle.msp_schedule.proofs.feasible.OneEach.{AreOneEach, one_each_is_feasible, one_each_is_within}
-use Rattle.msp_schedule.proofs.feasible.OneMachine.{IsPlan-from_feasible, last_end-is}
-use Rattle.msp_schedule.proofs.lists.Intervals.{last_of}
+use Rattle.msp_pieces.specs.declared.Piece.{Piece}
+use Rattle.msp_pieces.specs.declared.Schedule.{Schedule}
+use Rattle.msp_pieces.specs.Cost.{cost_of, Best}
+use Rattle.msp_pieces.specs.Feasible.{Feasible, IsWholeWork}
+use Rattle.msp_pieces.specs.Piece.{IsBefore, job_of, start, finish, IsTimed}
+use Rattle.msp_pieces.specs.BackToBack.{piece, time_at}
+use Rattle.msp_pieces.specs.Within.{Within}
+use Rattle.msp_pieces.proofs.feasible.OneEach.{AreOneEach, one_each_is_feasible, one_each_is_within}
+use Rattle.msp_pieces.proofs.feasible.OneMachine.{IsPlan-from_feasible, last_end-is}
+use Rattle.msp_pieces.proofs.lists.Intervals.{last_of}
 use Rattle.msp_heads.specs.Heads.{head_in, AreHeads}
 use Rattle.msp_route.specs.declared.bounds.TheConstants.{GREATEST_ANSWER_MOMENT}
 use Rattle.msp_route.specs.Bounds.{IsAnswer, answer_unit}

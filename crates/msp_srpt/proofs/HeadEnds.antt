@@ -11,16 +11,15 @@ use Rattle.msp_class.proofs.Sums.{OnceBelow, OnceBelow-from_permutation, OnceBel
 use Rattle.msp_class.proofs.Sums.{total_below-same, total_below-add, total_below-scale}
 use Rattle.msp_instance.specs.declared.Instance.{Instance}
 use Rattle.msp_instance.specs.Instance.{common_time}
-use Rattle.msp_schedule.specs.declared.Piece.{Piece}
-use Rattle.msp_schedule.specs.declared.Schedule.{Schedule}
-use Rattle.msp_schedule.specs.Breaks.{no_piece}
-use Rattle.msp_schedule.specs.Feasible.{Feasible}
-use Rattle.msp_schedule.specs.Piece.{job_of, start, finish}
-use Rattle.msp_schedule.specs.BackToBack.{piece, time_at}
-use Rattle.msp_schedule.proofs.feasible.OneMachine.{IsPlan, IsPlan-from_feasible}
-use Rattle.msp_schedule.proofs.bounds.Certified.{after_heads}
-use Rattle.msp_schedule.proofs.lists.Intervals.{last_of, last_of-bound, last_of-least, room_on_one}
-use Rattle.msp_schedule.proofs.lists.Places.{sum_by-places}
+use Rattle.msp_pieces.specs.declared.Piece.{Piece}
+use Rattle.msp_pieces.specs.declared.Schedule.{Schedule}
+use Rattle.msp_pieces.specs.Feasible.{Feasible}
+use Rattle.msp_pieces.specs.Piece.{job_of, start, finish, no_piece}
+use Rattle.msp_pieces.specs.BackToBack.{piece, time_at}
+use Rattle.msp_pieces.proofs.feasible.OneMachine.{IsPlan, IsPlan-from_feasible}
+use Rattle.msp_pieces.proofs.bounds.Certified.{after_heads}
+use Rattle.msp_pieces.proofs.lists.Intervals.{last_of, last_of-bound, last_of-least, room_on_one}
+use Rattle.msp_pieces.proofs.lists.Places.{sum_by-places}
 use Rattle.msp_heads.specs.Heads.{head_in, AreHeads}
 use Rattle.msp_route.proofs.OneInstances.{takes_time}
 use Rattle.msp_srpt.specs.EqualHeads.{piece_number, end_before, RunInOrder}

@@ -7,10 +7,9 @@ use Rattle.std.proofs.lemmas.List.Elements.{All-push}
 use Rattle.msp_class.specs.declared.sizes.TheConstants.{MOST_JOBS, GREATEST}
 use Rattle.msp_class.proofs.Sums.{OnceBelow-from_permutation, length-OnceBelow}
 use Rattle.msp_instance.specs.declared.Instance.{Instance}
-use Rattle.msp_schedule.specs.declared.Piece.{Piece}
-use Rattle.msp_schedule.specs.Breaks.{no_piece}
-use Rattle.msp_schedule.specs.Piece.{start, finish}
-use Rattle.msp_schedule.specs.BackToBack.{piece, time_at}
+use Rattle.msp_pieces.specs.declared.Piece.{Piece}
+use Rattle.msp_pieces.specs.Piece.{start, finish, no_piece}
+use Rattle.msp_pieces.specs.BackToBack.{piece, time_at}
 use Rattle.msp_heads.specs.Heads.{head_in, AreHeads}
 use Rattle.msp_route.proofs.OneInstances.{IsOneInstance, is_short}
 use Rattle.msp_srpt.specs.EqualHeads.{piece_number, end_before, HeadsBefore, RunInOrder}

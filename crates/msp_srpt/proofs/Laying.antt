@@ -7,8 +7,8 @@ use Rattle.std.proofs.lemmas.List.Elements.{All-push}
 use Rattle.msp_class.proofs.Sums.{sum_by-append, sum_by-cons, sum_by-same, sum_by-none}
 use Rattle.msp_instance.specs.declared.Instance.{Instance}
 use Rattle.msp_instance.specs.Instance.{job_at}
-use Rattle.msp_schedule.specs.declared.Piece.{Piece}
-use Rattle.msp_schedule.specs.Piece.{start, finish, IsTimed}
+use Rattle.msp_pieces.specs.declared.Piece.{Piece}
+use Rattle.msp_pieces.specs.Piece.{start, finish, IsTimed}
 use Rattle.msp_srpt.specs.Shortest.{run_before}
 use Rattle.msp_srpt.specs.Running.{IsLaid, IsNew, HasBegun, HasRun, Runs}
 use Rattle.msp_srpt.proofs.Lists.{All-front, All-last, AllPairs-front, AllPairs-last, AllPairs-push}

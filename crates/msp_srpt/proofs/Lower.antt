@@ -8,8 +8,8 @@ use Rattle.std.proofs.lemmas.Bool.{leb-true, leb-false, eqb-true, eq-eqb, cases_
 use Rattle.std.proofs.lemmas.List.Elements.{All-filter, All-contains, filter_passes}
 use Rattle.msp_class.specs.Sums.{total_below}
 use Rattle.msp_class.proofs.Sums.{total_below-mono, total_below-add, total_below-scale, total_below-only, total_below-none, cond-le, sum_by-same, sum_by-add, sum_by-by_key_filter, sum_by-agree}
-use Rattle.msp_schedule.specs.Intervals.{IsApart, size_of, work_of}
-use Rattle.msp_schedule.proofs.lists.Intervals.{overlap_of, overlap-add, overlap-inside, packing, last_of, last_of-bound, piece_of}
+use Rattle.msp_pieces.specs.Intervals.{IsApart, size_of, work_of}
+use Rattle.msp_pieces.proofs.lists.Intervals.{overlap_of, overlap-add, overlap-inside, packing, last_of, last_of-bound, piece_of}
 use Rattle.msp_srpt.proofs.Counts.{at_most, total_from_counts, total_below-carried}
 
 -- ---- what the rule says, in numbers

@@ -7,7 +7,7 @@ use Rattle.std.proofs.lemmas.Bool.Decides.{nat_tests}
 use Rattle.std.proofs.lemmas.List.Elements.{All-nil, All-cons, All-head, All-tail}
 use Rattle.std.proofs.lemmas.List.Sorted.{IsPermutation-map, All-permutation}
 use Rattle.msp_instance.specs.Instance.{job_at}
-use Rattle.msp_schedule.specs.declared.Piece.{Piece}
+use Rattle.msp_pieces.specs.declared.Piece.{Piece}
 use Rattle.msp_srpt.specs.declared.shortest.Task.{Task}
 use Rattle.msp_srpt.specs.Running.{Precedes, tasks_in, IsUnderWay, GoesOn, Runs}
 use Rattle.msp_srpt.proofs.Steps.{IsUnderWay-permuted, IsUnderWay-idle, IsUnderWay-complete, IsUnderWay-cut}

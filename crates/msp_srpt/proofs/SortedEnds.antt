@@ -8,9 +8,9 @@ use Rattle.msp_class.proofs.IntegerRing.{natural, le-pos, zero-le-pos}
 use Rattle.msp_class.specs.Sums.{total_below}
 use Rattle.msp_class.proofs.Sums.{cond-le, cond-yes, cond-no, sum_by-IsPermutation, sum_by-map, total_below-bound, total_below-same, total_below-constant, total_below-range}
 use Rattle.msp_instance.specs.declared.Instance.{Instance}
-use Rattle.msp_schedule.specs.declared.Schedule.{Schedule}
-use Rattle.msp_schedule.specs.Cost.{end_of}
-use Rattle.msp_schedule.proofs.lists.Places.{sum_by-places}
+use Rattle.msp_pieces.specs.declared.Schedule.{Schedule}
+use Rattle.msp_pieces.specs.Cost.{end_of}
+use Rattle.msp_pieces.proofs.lists.Places.{sum_by-places}
 use Rattle.msp_srpt.specs.EqualHeads.{AreSortedEnds, end_number}
 use Rattle.msp_srpt.proofs.Counts.{at_most}
 

@@ -9,8 +9,8 @@ use Rattle.msp_class.specs.declared.sizes.TheConstants.{GREATEST}
 use Rattle.msp_class.proofs.Sums.{sum_by-append, sum_by-cons, sum_by-none, sum_by-some, sum_by-contains, sum_by-IsPermutation, cond-yes, cond-no}
 use Rattle.msp_instance.specs.declared.Instance.{Instance}
 use Rattle.msp_instance.specs.Instance.{job_at}
-use Rattle.msp_schedule.specs.declared.Piece.{Piece}
-use Rattle.msp_schedule.specs.BackToBack.{time_at}
+use Rattle.msp_pieces.specs.declared.Piece.{Piece}
+use Rattle.msp_pieces.specs.BackToBack.{time_at}
 use Rattle.msp_srpt.specs.declared.shortest.Task.{Task}
 use Rattle.msp_srpt.specs.Shortest.{run_before, left_of, IsWaiting, IsAhead, KeepsRule, idle, runs}
 use Rattle.msp_srpt.specs.Running.{Precedes, HasRun, HaveCome, IsUnderWay, waiting, brought}

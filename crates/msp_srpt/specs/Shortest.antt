@@ -7,7 +7,7 @@ use Rattle.msp_class.specs.declared.class.Times.TheVariants.{General}
 use Rattle.msp_class.specs.declared.class.Crit.TheVariants.{SumC}
 use Rattle.msp_instance.specs.declared.Instance.{Instance}
 use Rattle.msp_instance.specs.Instance.{job_at, need_at}
-use Rattle.msp_schedule.specs.declared.Piece.{Piece}
+use Rattle.msp_pieces.specs.declared.Piece.{Piece}
 
 -- One machine, preemption, no precedence, release dates, any times, and the sum of the completion times: `1|pmtn,r|sumC`.
 abbrev pub shortest_class : Class

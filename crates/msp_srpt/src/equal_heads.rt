@@ -13,8 +13,8 @@ ghost use Rattle.std.specs.Prelude.{◌≡◌, length, pos, AllPairs, IfOk, IsPe
 ghost use Rattle.std.specs.List.{range_with_len};
 ghost use Rattle.msp_class.specs.declared.class.Env.TheVariants.{One};
 ghost use Rattle.msp_instance.specs.Conditions.{Inner};
-ghost use Rattle.msp_schedule.specs.Cost.{IsBest};
-ghost use Rattle.msp_schedule.specs.BackToBack.{piece};
+ghost use Rattle.msp_pieces.specs.Cost.{IsBest};
+ghost use Rattle.msp_pieces.specs.BackToBack.{piece};
 ghost use Rattle.msp_route.specs.Bounds.{IsAnswer};
 ghost use Rattle.msp_heads.specs.Heads.{AreHeads};
 ghost use Rattle.msp_srpt.specs.EqualHeads.{equal_heads_class, HeadsBefore, RunInOrder, RunByHeads, EndsFirst};
@@ -22,8 +22,8 @@ ghost use Rattle.msp_srpt.specs.EqualHeads.{equal_heads_class, HeadsBefore, RunI
 use msp_class::{Class, Crit, Env, List, NoMemory, Order, Times};
 use msp_heads::{heads_of, time_of};
 use msp_instance::Instance;
+use msp_pieces::{Piece, Schedule, Solution};
 use msp_route::{Solver, jobs_by_key};
-use msp_schedule::{Piece, Schedule, Solution};
 use std::alloc::Global;
 
 /// The class that the rule solves: `1|prec,r,p=p|sumC`.
@@ -116,7 +116,7 @@ impl Solver for EqualHeads {
     {
         let pieces = pieces_by_head(alloc, inst)?;
         let schedule = Schedule { unit: 1, pieces };
-        let cost = msp_schedule::cost(inst, &schedule);
+        let cost = msp_pieces::cost(inst, &schedule);
         Ok(Solution { schedule, cost })
     }
 }

@@ -5,18 +5,18 @@ ghost use Rattle.std.specs.List.{range_with_len};
 ghost use Rattle.msp_class.specs.declared.sizes.TheConstants.{MOST_JOBS};
 ghost use Rattle.msp_instance.specs.Instance.{job_at};
 ghost use Rattle.msp_instance.specs.Conditions.{Inner};
-ghost use Rattle.msp_schedule.specs.Cost.{IsBest};
-ghost use Rattle.msp_schedule.specs.Fraction.{IsLowest};
-ghost use Rattle.msp_schedule.specs.BackToBack.{time_at};
-ghost use Rattle.msp_schedule.specs.Settled.{IsSettled};
+ghost use Rattle.msp_pieces.specs.Cost.{IsBest};
+ghost use Rattle.msp_pieces.specs.Fraction.{IsLowest};
+ghost use Rattle.msp_pieces.specs.BackToBack.{time_at};
+ghost use Rattle.msp_pieces.specs.Settled.{IsSettled};
 ghost use Rattle.msp_route.specs.Bounds.{IsAnswer};
 ghost use Rattle.msp_srpt.specs.Shortest.{shortest_class, IsShortestFirst};
 ghost use Rattle.msp_srpt.specs.Running.{Precedes, IsQueue, tasks_in, HasBegun, Runs, GoesOn, IsCarriedOut};
 
 use msp_class::{Class, Crit, Env, List, NoMemory, Order, Times};
 use msp_instance::{GREATEST, Instance, MOST_JOBS};
+use msp_pieces::{Piece, Schedule, Solution};
 use msp_route::{Solver, first_time, jobs_by_key};
-use msp_schedule::{Piece, Schedule, Solution};
 use std::alloc::Global;
 use std::cmp::Reverse;
 use std::collections::BinaryHeap;
@@ -279,7 +279,7 @@ impl Solver for Shortest {
     {
         let pieces = shortest_pieces(alloc, inst)?;
         let schedule = Schedule { unit: 1, pieces };
-        let cost = msp_schedule::cost(inst, &schedule);
+        let cost = msp_pieces::cost(inst, &schedule);
         Ok(Solution { schedule, cost })
     }
 }

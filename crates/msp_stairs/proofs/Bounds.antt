@@ -18,14 +18,14 @@ use Rattle.msp_class.proofs.Sums.{OnceBelow, OnceBelow-range, OnceBelow-from_per
 use Rattle.msp_instance.specs.declared.Instance.{Instance}
 use Rattle.msp_instance.specs.Instance.{job_at, no_job, no_need}
 use Rattle.msp_instance.specs.Conditions.{Inner, LiesWithin}
-use Rattle.msp_schedule.specs.declared.Piece.{Piece}
-use Rattle.msp_schedule.specs.declared.Schedule.{Schedule}
-use Rattle.msp_schedule.specs.Feasible.{Feasible}
-use Rattle.msp_schedule.specs.Cost.{cost_of, Best}
-use Rattle.msp_schedule.specs.BackToBack.{time_at}
-use Rattle.msp_schedule.proofs.lists.DateOrder.{dates_rise}
-use Rattle.msp_schedule.proofs.lists.Places.{sum_by-places, total_below-within}
-use Rattle.msp_schedule.proofs.feasible.OfClass.{IsOfClass, IsOfClass-from}
+use Rattle.msp_pieces.specs.declared.Piece.{Piece}
+use Rattle.msp_pieces.specs.declared.Schedule.{Schedule}
+use Rattle.msp_pieces.specs.Feasible.{Feasible}
+use Rattle.msp_pieces.specs.Cost.{cost_of, Best}
+use Rattle.msp_pieces.specs.BackToBack.{time_at}
+use Rattle.msp_pieces.proofs.lists.DateOrder.{dates_rise}
+use Rattle.msp_pieces.proofs.lists.Places.{sum_by-places, total_below-within}
+use Rattle.msp_pieces.proofs.feasible.OfClass.{IsOfClass, IsOfClass-from}
 use Rattle.msp_route.specs.Bounds.{IsAnswer}
 use Rattle.msp_route.specs.Dates.{IsDueBefore}
 use Rattle.msp_route.specs.Halving.{IsLeastBound, IsRange}

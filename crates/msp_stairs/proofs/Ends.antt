@@ -11,14 +11,14 @@ use Rattle.msp_class.proofs.IntegerRing.{natural, le-pos, ≤ℤ_trans, ≤ℤ_t
 use Rattle.msp_class.proofs.Sums.{OnceBelow}
 use Rattle.msp_instance.specs.declared.Instance.{Instance}
 use Rattle.msp_instance.specs.Instance.{job_at}
-use Rattle.msp_schedule.specs.declared.Schedule.{Schedule}
-use Rattle.msp_schedule.specs.Feasible.{Feasible}
-use Rattle.msp_schedule.specs.Cost.{end_of, cost_of}
-use Rattle.msp_schedule.specs.BackToBack.{time_at}
-use Rattle.msp_schedule.proofs.bounds.Room.{end_at}
-use Rattle.msp_schedule.proofs.feasible.LastEnds.{last_end-natural}
-use Rattle.msp_schedule.proofs.feasible.OfClass.{IsOfClass}
-use Rattle.msp_schedule.proofs.lists.Parts.{All-front}
+use Rattle.msp_pieces.specs.declared.Schedule.{Schedule}
+use Rattle.msp_pieces.specs.Feasible.{Feasible}
+use Rattle.msp_pieces.specs.Cost.{end_of, cost_of}
+use Rattle.msp_pieces.specs.BackToBack.{time_at}
+use Rattle.msp_pieces.proofs.bounds.Room.{end_at}
+use Rattle.msp_pieces.proofs.feasible.LastEnds.{last_end-natural}
+use Rattle.msp_pieces.proofs.feasible.OfClass.{IsOfClass}
+use Rattle.msp_pieces.proofs.lists.Parts.{All-front}
 use Rattle.msp_stairs.specs.Stairs.{stairs_class, makespan, AreDueLast}
 use Rattle.msp_stairs.specs.Bounds.{at, ended_by, work_at, last_moment, deadline}
 use Rattle.msp_stairs.specs.Steps.{of_all, of_first, IsBelow, IsTooLate}

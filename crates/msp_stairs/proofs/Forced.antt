@@ -14,20 +14,20 @@ use Rattle.msp_class.proofs.IntegerRing.{*ℤ_comm, *ℤ-zero, zero-*ℤ}
 use Rattle.msp_class.proofs.Sums.{OnceBelow, OnceBelow-distinct}
 use Rattle.msp_instance.specs.declared.Instance.{Instance}
 use Rattle.msp_instance.specs.Instance.{job_at}
-use Rattle.msp_schedule.specs.declared.Schedule.{Schedule}
-use Rattle.msp_schedule.specs.Feasible.{Feasible}
-use Rattle.msp_schedule.specs.Cost.{end_of, cost_of, job_cost}
-use Rattle.msp_schedule.specs.BackToBack.{time_at}
-use Rattle.msp_schedule.proofs.changes.Moves.{AllPairs-map}
-use Rattle.msp_schedule.proofs.costs.Charges.{cost_of-bound}
-use Rattle.msp_schedule.proofs.feasible.LastEnds.{last_end-natural}
-use Rattle.msp_schedule.proofs.feasible.OfClass.{IsOfClass}
-use Rattle.msp_schedule.proofs.lists.Parts.{All-front, All-back}
+use Rattle.msp_pieces.specs.declared.Schedule.{Schedule}
+use Rattle.msp_pieces.specs.Feasible.{Feasible}
+use Rattle.msp_pieces.specs.Cost.{end_of, cost_of, job_cost}
+use Rattle.msp_pieces.specs.BackToBack.{time_at}
+use Rattle.msp_pieces.proofs.changes.Moves.{AllPairs-map}
+use Rattle.msp_pieces.proofs.costs.Charges.{cost_of-bound}
+use Rattle.msp_pieces.proofs.feasible.LastEnds.{last_end-natural}
+use Rattle.msp_pieces.proofs.feasible.OfClass.{IsOfClass}
+use Rattle.msp_pieces.proofs.lists.Parts.{All-front, All-back}
 use Rattle.msp_stairs.specs.declared.climb.Limits.{Limits}
 use Rattle.msp_stairs.specs.Stairs.{stairs_class, dates_together, AreDueLast, IsForced}
 use Rattle.msp_stairs.specs.Bounds.{at, no_later, work_at, last_moment, deadline}
 use Rattle.msp_stairs.specs.Steps.{of_all, of_first, IsBelow, IsTooLate}
-use Rattle.msp_schedule.proofs.bounds.Room.{end_at}
+use Rattle.msp_pieces.proofs.bounds.Room.{end_at}
 use Rattle.msp_stairs.proofs.Room.{room_for, room_by_limits}
 
 -- ---- lists

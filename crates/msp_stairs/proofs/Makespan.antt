@@ -2,10 +2,10 @@
 use Rattle.std.proofs.Common.{ℕ, List, All, map, get_or, inl, inr, ℤ, pos, ◌≤ℤ◌, refl, sym, subst}
 use Rattle.std.proofs.lemmas.Int.{fold-int_max_bounds, fold-int_max_reached}
 use Rattle.std.proofs.lemmas.List.Elements.{All-contains, All-map}
-use Rattle.msp_schedule.specs.declared.Schedule.{Schedule}
-use Rattle.msp_schedule.specs.Cost.{end_of}
-use Rattle.msp_schedule.proofs.changes.Moves.{Contains-map}
-use Rattle.msp_schedule.proofs.feasible.LastEnds.{last_end-least}
+use Rattle.msp_pieces.specs.declared.Schedule.{Schedule}
+use Rattle.msp_pieces.specs.Cost.{end_of}
+use Rattle.msp_pieces.proofs.changes.Moves.{Contains-map}
+use Rattle.msp_pieces.proofs.feasible.LastEnds.{last_end-least}
 use Rattle.std.proofs.lemmas.List.Elements.{Contains-get_or}
 use Rattle.msp_stairs.specs.Stairs.{makespan}
 

@@ -11,11 +11,11 @@ use Rattle.std.proofs.lemmas.List.Sums.{sum_by-append, sum_by-cons, length-filte
 use Rattle.msp_class.proofs.Sums.{OnceBelow, OnceBelow-distinct, OnceBelow-permutation, AllPairs-head, sum_by-filter, sum_by-none, sum_by-same, cond-no, cond-yes}
 use Rattle.msp_instance.specs.declared.Instance.{Instance}
 use Rattle.msp_instance.proofs.ArcLemmas.{filter_none}
-use Rattle.msp_schedule.specs.declared.Piece.{Piece}
-use Rattle.msp_schedule.specs.Intervals.{IsApartOn, size_of, work_of}
-use Rattle.msp_schedule.specs.Piece.{job_of, start, finish, IsTimed}
-use Rattle.msp_schedule.proofs.feasible.Series.{AllPairs-append}
-use Rattle.msp_schedule.proofs.lists.Parts.{All-front, All-back, AllPairs-front, AllPairs-back, AllPairs-last}
+use Rattle.msp_pieces.specs.declared.Piece.{Piece}
+use Rattle.msp_pieces.specs.Intervals.{IsApartOn, size_of, work_of}
+use Rattle.msp_pieces.specs.Piece.{job_of, start, finish, IsTimed}
+use Rattle.msp_pieces.proofs.feasible.Series.{AllPairs-append}
+use Rattle.msp_pieces.proofs.lists.Parts.{All-front, All-back, AllPairs-front, AllPairs-back, AllPairs-last}
 use Rattle.msp_stairs.specs.declared.climb.Limits.{Limits}
 use Rattle.msp_stairs.specs.declared.climb.Stair.{Stair}
 use Rattle.msp_stairs.specs.Bounds.{at, work_at, deadline}

@@ -5,11 +5,11 @@ use Rattle.msp_class.specs.declared.environments.EnvKind.TheVariants.{Identical}
 use Rattle.msp_class.specs.Env.{kind_of}
 use Rattle.msp_class.proofs.Sums.{sum_by-none, sum_by-mono, sum_by-same, sum_by-add, sum_by-constant}
 use Rattle.msp_instance.specs.declared.Instance.{Instance}
-use Rattle.msp_schedule.specs.declared.Schedule.{Schedule}
-use Rattle.msp_schedule.specs.Feasible.{Feasible}
-use Rattle.msp_schedule.specs.BackToBack.{time_at}
-use Rattle.msp_schedule.proofs.bounds.LastEnds.{law_of_last_ends}
-use Rattle.msp_schedule.proofs.bounds.Room.{end_at, room_in_list}
+use Rattle.msp_pieces.specs.declared.Schedule.{Schedule}
+use Rattle.msp_pieces.specs.Feasible.{Feasible}
+use Rattle.msp_pieces.specs.BackToBack.{time_at}
+use Rattle.msp_pieces.proofs.bounds.LastEnds.{law_of_last_ends}
+use Rattle.msp_pieces.proofs.bounds.Room.{end_at, room_in_list}
 
 module _ (i : Instance) (kind : kind_of i.class.env ≡ Identical) (t : Schedule) (f : Feasible i t) where
   abbrev n : ℕ

@@ -18,19 +18,19 @@ use Rattle.msp_class.proofs.Sums.{OnceBelow-contains, length-OnceBelow}
 use Rattle.msp_instance.specs.declared.Instance.{Instance}
 use Rattle.msp_instance.specs.Instance.{job_at, no_job}
 use Rattle.msp_instance.specs.Conditions.{LiesWithin}
-use Rattle.msp_schedule.specs.declared.Piece.{Piece}
-use Rattle.msp_schedule.specs.declared.Schedule.{Schedule}
-use Rattle.msp_schedule.specs.Piece.{job_of, length_of, pieces_of, start, finish, IsTimed}
-use Rattle.msp_schedule.specs.Feasible.{Feasible, HasPlace, HasOperation, MayRun, FollowsRoute, GetsWork, IsWholeWork, total, whole_work, work_of as part_of}
-use Rattle.msp_schedule.specs.Intervals.{work_of}
-use Rattle.msp_schedule.specs.Cost.{end_of, cost_of, job_cost}
-use Rattle.msp_schedule.specs.BackToBack.{time_at}
-use Rattle.msp_schedule.proofs.lists.Intervals.{piece_of}
-use Rattle.msp_schedule.proofs.feasible.LastEnds.{last_end-least}
-use Rattle.msp_schedule.proofs.feasible.OfClass.{IsOfClass}
-use Rattle.msp_schedule.proofs.feasible.OneMachine.{apart_in_int, pieces_of-job, total_lengths}
-use Rattle.msp_schedule.proofs.feasible.BackToBack.{ordered_without_arcs}
-use Rattle.msp_schedule.proofs.costs.Charges.{cost_of-least}
+use Rattle.msp_pieces.specs.declared.Piece.{Piece}
+use Rattle.msp_pieces.specs.declared.Schedule.{Schedule}
+use Rattle.msp_pieces.specs.Piece.{job_of, length_of, pieces_of, start, finish, IsTimed}
+use Rattle.msp_pieces.specs.Feasible.{Feasible, HasPlace, HasOperation, MayRun, FollowsRoute, GetsWork, IsWholeWork, total, whole_work, work_of as part_of}
+use Rattle.msp_pieces.specs.Intervals.{work_of}
+use Rattle.msp_pieces.specs.Cost.{end_of, cost_of, job_cost}
+use Rattle.msp_pieces.specs.BackToBack.{time_at}
+use Rattle.msp_pieces.proofs.lists.Intervals.{piece_of}
+use Rattle.msp_pieces.proofs.feasible.LastEnds.{last_end-least}
+use Rattle.msp_pieces.proofs.feasible.OfClass.{IsOfClass}
+use Rattle.msp_pieces.proofs.feasible.OneMachine.{apart_in_int, pieces_of-job, total_lengths}
+use Rattle.msp_pieces.proofs.feasible.BackToBack.{ordered_without_arcs}
+use Rattle.msp_pieces.proofs.costs.Charges.{cost_of-least}
 use Rattle.msp_route.specs.Bounds.{IsAnswer, answer_unit}
 use Rattle.msp_stairs.specs.declared.climb.Limits.{Limits}
 use Rattle.msp_stairs.specs.declared.climb.Stair.{Stair}

@@ -8,7 +8,7 @@ use Rattle.msp_instance.specs.declared.Instance.{Instance}
 use Rattle.msp_instance.specs.declared.Job.{Job}
 use Rattle.msp_instance.specs.Instance.{job_at, no_job, no_need}
 use Rattle.msp_instance.specs.Conditions.{LiesWithin}
-use Rattle.msp_schedule.proofs.feasible.OfClass.{IsOfClass}
+use Rattle.msp_pieces.proofs.feasible.OfClass.{IsOfClass}
 use Rattle.msp_stairs.specs.Stairs.{stairs_class}
 use Rattle.msp_stairs.specs.declared.climb.Limits.{Limits}
 use Rattle.msp_stairs.specs.Bounds.{greatest_bound, greatest_date, latest_deadline, capped}

@@ -9,12 +9,12 @@ use Rattle.msp_class.specs.declared.class.Times.TheVariants.{General}
 use Rattle.msp_class.specs.declared.class.Crit.TheVariants.{Lmax}
 use Rattle.msp_instance.specs.declared.Instance.{Instance}
 use Rattle.msp_instance.specs.Instance.{job_at}
-use Rattle.msp_schedule.specs.declared.Frac.{Frac}
-use Rattle.msp_schedule.specs.declared.Schedule.{Schedule}
-use Rattle.msp_schedule.specs.Feasible.{Feasible}
-use Rattle.msp_schedule.specs.Cost.{cost_of}
-use Rattle.msp_schedule.specs.Fraction.{IsOver}
-use Rattle.msp_schedule.specs.BackToBack.{time_at}
+use Rattle.msp_pieces.specs.declared.Frac.{Frac}
+use Rattle.msp_pieces.specs.declared.Schedule.{Schedule}
+use Rattle.msp_pieces.specs.Feasible.{Feasible}
+use Rattle.msp_pieces.specs.Cost.{cost_of}
+use Rattle.msp_pieces.specs.Fraction.{IsOver}
+use Rattle.msp_pieces.specs.BackToBack.{time_at}
 
 -- Identical machines, preemption, neither precedence nor release dates, any times, and the greatest lateness: `P|pmtn|Lmax`.
 abbrev pub stairs_class : Class

@@ -4,9 +4,9 @@ use Rattle.std.specs.Prelude.{slice_index_or, slice_set, remove}
 use Rattle.std.specs.List.{range_with_len, count_by}
 use Rattle.msp_class.proofs.Sums.{OnceBelow}
 use Rattle.msp_instance.specs.declared.Instance.{Instance}
-use Rattle.msp_schedule.specs.declared.Piece.{Piece}
-use Rattle.msp_schedule.specs.Intervals.{IsApartOn, work_of}
-use Rattle.msp_schedule.specs.Piece.{job_of, start, finish, IsTimed}
+use Rattle.msp_pieces.specs.declared.Piece.{Piece}
+use Rattle.msp_pieces.specs.Intervals.{IsApartOn, work_of}
+use Rattle.msp_pieces.specs.Piece.{job_of, start, finish, IsTimed}
 use Rattle.msp_stairs.specs.Bounds.{work_at, deadline, at}
 use Rattle.msp_stairs.specs.declared.climb.Limits.{Limits}
 use Rattle.msp_stairs.specs.declared.climb.Stair.{Stair}

@@ -9,7 +9,7 @@ ghost use Rattle.msp_stairs.specs.Steps.{task_for, level, no_stair, ends_of, Fal
 
 use msp_class::{List, NoMemory};
 use msp_instance::{Instance, first_time};
-use msp_schedule::Piece;
+use msp_pieces::Piece;
 use std::alloc::Global;
 
 /// A machine, and the moment up to which it is busy.

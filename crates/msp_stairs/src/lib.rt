@@ -9,11 +9,11 @@
 //!
 //! What stays true: for each number l some of the jobs laid take at least as long as all machines but the first l are busy and the l greatest
 //! deadlines among them together (`AreBacked` in `specs/Steps.antt`). So where a job fits on no machine, some jobs take longer than their m
-//! greatest deadlines for m machines (`found_late` in `proofs/Climbing.antt`), and by the law of last ends of `msp_schedule` no schedule
+//! greatest deadlines for m machines (`found_late` in `proofs/Climbing.antt`), and by the law of last ends of `msp_pieces` no schedule
 //! does better: up to the m-th last end of these jobs the machines have that much time each, and behind it each of the last m only its end
 //! (`proofs/Forced.antt`). By the same law no schedule that costs no more ends by an end that cannot be met (`proofs/Ends.antt`).
 //!
-//! It stands on `msp_schedule` and `msp_route`. The layers above use the clauses of `Solver`: the answers are best; and what they cost, and
+//! It stands on `msp_pieces` and `msp_route`. The layers above use the clauses of `Solver`: the answers are best; and what they cost, and
 //! that none that costs no more ends a whole part sooner.
 #![tactic(auto)]
 

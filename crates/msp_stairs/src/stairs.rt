@@ -1,7 +1,7 @@
 // The solver.
 ghost use Rattle.std.specs.Prelude.{◌≡◌, IfOk};
 ghost use Rattle.msp_instance.specs.Conditions.{Inner};
-ghost use Rattle.msp_schedule.specs.Cost.{IsBest};
+ghost use Rattle.msp_pieces.specs.Cost.{IsBest};
 ghost use Rattle.msp_route.specs.Bounds.{IsAnswer};
 ghost use Rattle.msp_stairs.specs.Stairs.{stairs_class, IsStairsCost, HasTwoPiecesAtMost, EndsSoonest};
 
@@ -9,8 +9,8 @@ use crate::climb::climbed;
 use crate::search::least_limits;
 use msp_class::{Class, Crit, Env, NoMemory, Order, Times};
 use msp_instance::Instance;
+use msp_pieces::{Frac, Schedule, Solution};
 use msp_route::{Solver, jobs_by_date};
-use msp_schedule::{Frac, Schedule, Solution};
 use std::alloc::Global;
 
 /// The class that the rule solves: `P|pmtn|Lmax`.

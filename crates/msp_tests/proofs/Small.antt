@@ -2,9 +2,9 @@
 use Rattle.std.proofs.Common.{◌≡◌, ◌≤◌, length, All, inr, ℤ, pos, ◌≤ℤ◌, arith}
 use Rattle.std.proofs.lemmas.Int.{ints}
 use Rattle.msp_instance.specs.declared.Instance.{Instance}
-use Rattle.msp_schedule.specs.declared.Piece.{Piece}
-use Rattle.msp_schedule.specs.declared.Schedule.{Schedule}
-use Rattle.msp_schedule.specs.Within.{IsMoment, Within}
+use Rattle.msp_pieces.specs.declared.Piece.{Piece}
+use Rattle.msp_pieces.specs.declared.Schedule.{Schedule}
+use Rattle.msp_pieces.specs.Within.{IsMoment, Within}
 
 abbrev pub IsEarly : Piece → Type 0
 IsEarly p = (pos 0 ≤ℤ p.from) × (p.from ≤ℤ pos 9) × (pos 0 ≤ℤ p.to) × (p.to ≤ℤ pos 9)

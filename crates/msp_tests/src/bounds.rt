@@ -3,7 +3,7 @@ ghost use Rattle.std.specs.Prelude.{◌≡◌, pos, ◌+ℤ◌, IfSome, IsTrue, 
 ghost use Rattle.msp_class.specs.declared.class.Env.TheVariants.{One};
 ghost use Rattle.msp_class.specs.declared.class.Crit.TheVariants.{Lmax};
 ghost use Rattle.msp_instance.specs.Conditions.{Inner, LiesWithin};
-ghost use Rattle.msp_schedule.specs.Within.{Within};
+ghost use Rattle.msp_pieces.specs.Within.{Within};
 
 use msp_class::{Crit, Env, Order};
 use msp_due::{TreeDue, can_meet};

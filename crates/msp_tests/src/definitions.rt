@@ -1,10 +1,10 @@
 // The definitions hold where they should, and fail where they should.
 ghost use Rattle.std.specs.Prelude.{◌≡◌, pos, [], ◌∷◌};
-ghost use Rattle.msp_schedule.specs.Cost.{cost_of};
-ghost use Rattle.msp_schedule.specs.Feasible.{Feasible};
-ghost use Rattle.msp_schedule.specs.Loads.{machine_load, job_length};
-ghost use Rattle.msp_schedule.specs.Segments.{segments_bound};
-ghost use Rattle.msp_schedule.specs.Speeds.{speed_above};
+ghost use Rattle.msp_pieces.specs.Cost.{cost_of};
+ghost use Rattle.msp_pieces.specs.Feasible.{Feasible};
+ghost use Rattle.msp_pieces.specs.Loads.{machine_load, job_length};
+ghost use Rattle.msp_pieces.specs.Segments.{segments_bound};
+ghost use Rattle.msp_pieces.specs.Speeds.{speed_above};
 ghost use Rattle.msp_tests.specs.Examples.{Costs, three_speeds, weighted, by_ratio, no_span, no_place, at_once, half_done, parallel, on_both, released, too_early, ordered};
 ghost use Rattle.msp_tests.specs.Examples.{backward, flow, second_first, back_again};
 

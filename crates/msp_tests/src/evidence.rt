@@ -1,5 +1,5 @@
 // Evidence: the kind that shows a cost, a cost that none shows, and evidence without its schedule.
-ghost use Rattle.msp_schedule.specs.Fraction.{IsComparable};
+ghost use Rattle.msp_pieces.specs.Fraction.{IsComparable};
 
 use msp_blocks::{Blocks, binding};
 use msp_cert::{Proof, find};

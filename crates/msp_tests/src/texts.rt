@@ -1,6 +1,6 @@
 // Instances and schedules that are read and printed again.
 ghost use Rattle.std.specs.Prelude.{IsTrue};
-ghost use Rattle.msp_schedule.specs.Fraction.{IsLowest};
+ghost use Rattle.msp_pieces.specs.Fraction.{IsLowest};
 
 use msp_file::{
     Filed, Names, Stated, print_instance, print_schedule, read_instance, read_schedule,

@@ -16,19 +16,19 @@ use Rattle.msp_class.proofs.Sums.{OnceBelow, sum_by-map}
 use Rattle.msp_instance.specs.declared.Instance.{Instance}
 use Rattle.msp_instance.specs.Instance.{no_job, job_at, need_at}
 use Rattle.msp_instance.specs.Conditions.{LiesWithin}
-use Rattle.msp_schedule.specs.declared.Piece.{Piece}
-use Rattle.msp_schedule.specs.declared.Schedule.{Schedule}
-use Rattle.msp_schedule.specs.Piece.{pieces_of, IsApart}
-use Rattle.msp_schedule.specs.Feasible.{Feasible, HasPlace, IsWholeWork}
-use Rattle.msp_schedule.specs.Cost.{cost_of, end_of}
-use Rattle.msp_schedule.specs.Laws.{floored, floored_piece}
-use Rattle.msp_schedule.proofs.bounds.EndsAndFloors.{law_of_floors}
-use Rattle.msp_schedule.proofs.costs.InTime.{EndsInTime, meets_jobs, free_jobs}
-use Rattle.msp_schedule.proofs.changes.Moves.{AllPairs-map}
-use Rattle.msp_schedule.proofs.feasible.LastEnds.{last_end-bound, last_end-least}
-use Rattle.msp_schedule.proofs.feasible.OneMachine.{pieces_of-job}
-use Rattle.msp_schedule.proofs.feasible.BackToBack.{ordered_without_arcs}
-use Rattle.msp_schedule.proofs.feasible.OneEach.{IsUncut, IsUncut-identical, AreOneEach, one_each_is_feasible}
+use Rattle.msp_pieces.specs.declared.Piece.{Piece}
+use Rattle.msp_pieces.specs.declared.Schedule.{Schedule}
+use Rattle.msp_pieces.specs.Piece.{pieces_of, IsApart}
+use Rattle.msp_pieces.specs.Feasible.{Feasible, HasPlace, IsWholeWork}
+use Rattle.msp_pieces.specs.Cost.{cost_of, end_of}
+use Rattle.msp_pieces.specs.Laws.{floored, floored_piece}
+use Rattle.msp_pieces.proofs.bounds.EndsAndFloors.{law_of_floors}
+use Rattle.msp_pieces.proofs.costs.InTime.{EndsInTime, meets_jobs, free_jobs}
+use Rattle.msp_pieces.proofs.changes.Moves.{AllPairs-map}
+use Rattle.msp_pieces.proofs.feasible.LastEnds.{last_end-bound, last_end-least}
+use Rattle.msp_pieces.proofs.feasible.OneMachine.{pieces_of-job}
+use Rattle.msp_pieces.proofs.feasible.BackToBack.{ordered_without_arcs}
+use Rattle.msp_pieces.proofs.feasible.OneEach.{IsUncut, IsUncut-identical, AreOneEach, one_each_is_feasible}
 use Rattle.msp_route.specs.declared.bounds.TheConstants.{GREATEST_ANSWER_MOMENT}
 use Rattle.msp_slots.proofs.UnitPieces.{HasUnitJobs}
 use Rattle.msp_threshold.specs.Squeezed.{greatest_bound, AreKept, HasTime, squeezed_due, squeezed_by, CanMeet, CanBeFree}

@@ -14,14 +14,14 @@ use Rattle.msp_class.proofs.IntegerRing.{≤ℤ_antisym, ≤ℤ_total, ≤ℤ_tr
 use Rattle.msp_instance.specs.declared.Job.{Job}
 use Rattle.msp_instance.specs.declared.Instance.{Instance}
 use Rattle.msp_instance.specs.Conditions.{LiesWithin}
-use Rattle.msp_schedule.specs.declared.Piece.{Piece}
-use Rattle.msp_schedule.specs.declared.Schedule.{Schedule}
-use Rattle.msp_schedule.specs.declared.Frac.{Frac}
-use Rattle.msp_schedule.specs.Fraction.{IsOver}
-use Rattle.msp_schedule.specs.Feasible.{Feasible}
-use Rattle.msp_schedule.specs.Cost.{cost_of, Best}
-use Rattle.msp_schedule.proofs.costs.LateJobs.{late_jobs, late_cost}
-use Rattle.msp_schedule.proofs.feasible.OneEach.{IsUncut-identical}
+use Rattle.msp_pieces.specs.declared.Piece.{Piece}
+use Rattle.msp_pieces.specs.declared.Schedule.{Schedule}
+use Rattle.msp_pieces.specs.declared.Frac.{Frac}
+use Rattle.msp_pieces.specs.Fraction.{IsOver}
+use Rattle.msp_pieces.specs.Feasible.{Feasible}
+use Rattle.msp_pieces.specs.Cost.{cost_of, Best}
+use Rattle.msp_pieces.proofs.costs.LateJobs.{late_jobs, late_cost}
+use Rattle.msp_pieces.proofs.feasible.OneEach.{IsUncut-identical}
 use Rattle.msp_route.specs.Bounds.{IsAnswer, answer_unit}
 use Rattle.msp_route.proofs.OneEach.{one_each_is_answer}
 use Rattle.msp_threshold.specs.Squeezed.{greatest_bound, AreKept, HasTime, squeezed_by, CanMeet, CanBeFree}

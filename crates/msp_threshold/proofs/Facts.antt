@@ -12,8 +12,8 @@ use Rattle.msp_instance.specs.declared.Job.{Job}
 use Rattle.msp_instance.specs.declared.Instance.{Instance}
 use Rattle.msp_instance.specs.Instance.{no_need, no_job, job_at, need_at}
 use Rattle.msp_instance.specs.Conditions.{LiesWithin, IsJobOf, Inner, InClass, text_limits, inner_limits}
-use Rattle.msp_schedule.proofs.feasible.OfClass.{IsOfClass, IsOfClass-from}
-use Rattle.msp_schedule.proofs.feasible.Frames.{job_at-map}
+use Rattle.msp_pieces.proofs.feasible.OfClass.{IsOfClass, IsOfClass-from}
+use Rattle.msp_pieces.proofs.feasible.Frames.{job_at-map}
 use Rattle.msp_slots.proofs.UnitPieces.{HasUnitJobs}
 use Rattle.msp_threshold.specs.Squeezed.{lateness_class, greatest_bound, squeezed_release, squeezed_due, squeezed_job, squeezed_by}
 use Rattle.msp_threshold.proofs.Rising.{count_by-most}

@@ -6,10 +6,10 @@ use Rattle.msp_class.specs.declared.sizes.TheConstants.{GREATEST, MOST_JOBS}
 use Rattle.msp_class.proofs.IntegerRing.{pos-le, one-*ℤ, +ℤ_idr, ≤ℤ_trans}
 use Rattle.msp_instance.specs.declared.Instance.{Instance}
 use Rattle.msp_instance.specs.Instance.{job_at}
-use Rattle.msp_schedule.specs.declared.Schedule.{Schedule}
-use Rattle.msp_schedule.specs.Feasible.{Feasible}
-use Rattle.msp_schedule.proofs.costs.InTime.{EndsInTime, free_jobs}
-use Rattle.msp_schedule.proofs.bounds.Certified.{place_in, place_in-is}
+use Rattle.msp_pieces.specs.declared.Schedule.{Schedule}
+use Rattle.msp_pieces.specs.Feasible.{Feasible}
+use Rattle.msp_pieces.proofs.costs.InTime.{EndsInTime, free_jobs}
+use Rattle.msp_pieces.proofs.bounds.Certified.{place_in, place_in-is}
 use Rattle.msp_slots.specs.Earliest.{no_slot, start_in, machine_in}
 use Rattle.msp_slots.proofs.Seats.{HasSeats}
 use Rattle.msp_slots.proofs.Begins.{head_at}

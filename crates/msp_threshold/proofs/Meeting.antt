@@ -7,12 +7,12 @@ use Rattle.msp_class.specs.Crit.{is_greatest}
 use Rattle.msp_class.proofs.IntegerRing.{natural, pos-le, one-*ℤ, *ℤ_comm, *ℤ-add, *ℤ-cancel_pos, *ℤ-cancel_lt, ≤ℤ_trans}
 use Rattle.msp_instance.specs.declared.Instance.{Instance}
 use Rattle.msp_instance.specs.Instance.{job_at}
-use Rattle.msp_schedule.specs.declared.Piece.{Piece}
-use Rattle.msp_schedule.specs.declared.Schedule.{Schedule}
-use Rattle.msp_schedule.specs.Feasible.{Feasible}
-use Rattle.msp_schedule.specs.Cost.{cost_of, end_of, job_cost}
-use Rattle.msp_schedule.proofs.costs.Charges.{cost_of-bound}
-use Rattle.msp_schedule.proofs.costs.InTime.{meets_jobs}
+use Rattle.msp_pieces.specs.declared.Piece.{Piece}
+use Rattle.msp_pieces.specs.declared.Schedule.{Schedule}
+use Rattle.msp_pieces.specs.Feasible.{Feasible}
+use Rattle.msp_pieces.specs.Cost.{cost_of, end_of, job_cost}
+use Rattle.msp_pieces.proofs.costs.Charges.{cost_of-bound}
+use Rattle.msp_pieces.proofs.costs.InTime.{meets_jobs}
 use Rattle.msp_slots.specs.declared.earliest.Slot.{Slot}
 use Rattle.msp_slots.specs.Seating.{IsSeated}
 use Rattle.msp_slots.specs.Earliest.{start_in, machine_in, AreSlots}

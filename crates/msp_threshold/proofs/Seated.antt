@@ -17,7 +17,7 @@ use Rattle.msp_instance.specs.declared.Job.{Job}
 use Rattle.msp_instance.specs.declared.Instance.{Instance}
 use Rattle.msp_instance.specs.Instance.{no_job}
 use Rattle.msp_instance.specs.Conditions.{LiesWithin}
-use Rattle.msp_schedule.proofs.bounds.Certified.{place_in, place_in-is}
+use Rattle.msp_pieces.proofs.bounds.Certified.{place_in, place_in-is}
 use Rattle.msp_slots.specs.declared.earliest.Slot.{Slot}
 use Rattle.msp_slots.specs.Earliest.{start_in, AreSlots}
 use Rattle.msp_threshold.specs.Squeezed.{CanMeet}

@@ -3,7 +3,7 @@ ghost use Rattle.std.specs.Prelude.{◌≡◌, ◌<◌, length, All, pos, ◌≤
 ghost use Rattle.msp_threshold.specs.Search.{number_of, piece_back, pieces_back};
 
 use msp_class::{List, NoMemory};
-use msp_schedule::{Piece, Schedule};
+use msp_pieces::{Piece, Schedule};
 use std::alloc::Global;
 
 /// The piece for one unit of time from the kept moment whose number is that of its unit of time.

@@ -2,7 +2,7 @@
 ghost use Rattle.std.specs.Prelude.{◌≡◌, ◌*◌, ◌+◌, ◌<◌, ◌≤◌, length, pos, ◌-ℤ◌, All, IfOk};
 ghost use Rattle.msp_class.specs.declared.sizes.TheConstants.{GREATEST};
 ghost use Rattle.msp_instance.specs.Conditions.{Inner, LiesWithin};
-ghost use Rattle.msp_schedule.specs.Cost.{IsBest, Best, cost_of};
+ghost use Rattle.msp_pieces.specs.Cost.{IsBest, Best, cost_of};
 ghost use Rattle.msp_route.specs.Bounds.{IsAnswer};
 ghost use Rattle.msp_threshold.specs.Squeezed.{lateness_class, late_count_class, greatest_bound, CanMeet, HoldsSqueezed};
 ghost use Rattle.msp_threshold.specs.Search.{CanAsk, IsLowest};
@@ -15,8 +15,8 @@ use crate::kept::kept_moments;
 use crate::squeezing::{squeezed, squeezed_at};
 use msp_class::{Class, Crit, Env, NoMemory, Order, Times};
 use msp_instance::{Instance, Job};
+use msp_pieces::{Frac, Schedule, Solution};
 use msp_route::{Question, Range, Solver, least_in};
-use msp_schedule::{Frac, Schedule, Solution};
 use std::alloc::Global;
 
 /// The class that the search solves: `P|r,p=1|Lmax`.

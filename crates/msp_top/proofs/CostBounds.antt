@@ -12,16 +12,16 @@ use Rattle.msp_instance.specs.declared.Instance.{Instance}
 use Rattle.msp_instance.specs.declared.Job.{Job}
 use Rattle.msp_instance.specs.Instance.{no_job}
 use Rattle.msp_instance.specs.Conditions.{LiesWithin, Inner}
-use Rattle.msp_schedule.specs.declared.limits.TheConstants.{GREATEST_MOMENT}
-use Rattle.msp_schedule.specs.declared.Piece.{Piece}
-use Rattle.msp_schedule.specs.declared.Schedule.{Schedule}
-use Rattle.msp_schedule.specs.Cost.{last_end, end_of, jumps, job_cost, job_costs, greatest, cost_of}
-use Rattle.msp_schedule.specs.Feasible.{total}
-use Rattle.msp_schedule.specs.Within.{IsMoment, IsUnit, HasSmallCost, Within, greatest_scaled, greatest_level, greatest_lateness, greatest_cost, greatest_total}
-use Rattle.msp_schedule.proofs.costs.Costs.{length-job_costs, get_or-job_costs}
-use Rattle.msp_schedule.proofs.costs.Jumps.{jumps_le}
-use Rattle.msp_schedule.proofs.feasible.LastEnds.{last_end-natural, last_end-least}
-use Rattle.msp_schedule.proofs.costs.Small.{small_costs, product_within}
+use Rattle.msp_pieces.specs.declared.limits.TheConstants.{GREATEST_MOMENT}
+use Rattle.msp_pieces.specs.declared.Piece.{Piece}
+use Rattle.msp_pieces.specs.declared.Schedule.{Schedule}
+use Rattle.msp_pieces.specs.Cost.{last_end, end_of, jumps, job_cost, job_costs, greatest, cost_of}
+use Rattle.msp_pieces.specs.Feasible.{total}
+use Rattle.msp_pieces.specs.Within.{IsMoment, IsUnit, HasSmallCost, Within, greatest_scaled, greatest_level, greatest_lateness, greatest_cost, greatest_total}
+use Rattle.msp_pieces.proofs.costs.Costs.{length-job_costs, get_or-job_costs}
+use Rattle.msp_pieces.proofs.costs.Jumps.{jumps_le}
+use Rattle.msp_pieces.proofs.feasible.LastEnds.{last_end-natural, last_end-least}
+use Rattle.msp_pieces.proofs.costs.Small.{small_costs, product_within}
 
 -- ---- one job
 moment_within : (x : ℤ) → IsMoment x → LiesWithin greatest_cost x

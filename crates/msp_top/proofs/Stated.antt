@@ -13,12 +13,12 @@ use Rattle.msp_instance.specs.declared.Instance.{Instance}
 use Rattle.msp_instance.specs.Instance.{no_need, no_job, job_at}
 use Rattle.msp_instance.specs.Conditions.{LiesWithin, HasShape, InClass}
 use Rattle.msp_instance.proofs.Limits.{Inner-from_class}
-use Rattle.msp_schedule.specs.declared.Frac.{Frac}
-use Rattle.msp_schedule.specs.declared.Solution.{Solution}
-use Rattle.msp_schedule.specs.Cost.{cost_of}
-use Rattle.msp_schedule.specs.Feasible.{HasOperation, MayRun, HasPlace}
-use Rattle.msp_schedule.specs.Fraction.{IsOver, IsLowest}
-use Rattle.msp_schedule.specs.Within.{IsUnit, greatest_total}
+use Rattle.msp_pieces.specs.declared.Frac.{Frac}
+use Rattle.msp_pieces.specs.declared.Solution.{Solution}
+use Rattle.msp_pieces.specs.Cost.{cost_of}
+use Rattle.msp_pieces.specs.Feasible.{HasOperation, MayRun, HasPlace}
+use Rattle.msp_pieces.specs.Fraction.{IsOver, IsLowest}
+use Rattle.msp_pieces.specs.Within.{IsUnit, greatest_total}
 use Rattle.msp_grammar.specs.ScheduleText.{IsStatedCost, IsStated}
 use Rattle.msp_dispatch.specs.Dispatch.{IsReported}
 use Rattle.msp_report.proofs.Divided.{IsPrimeTo-from_gcd, lowest_is_least}

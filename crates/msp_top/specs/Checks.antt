@@ -6,7 +6,7 @@ use Rattle.msp_name.specs.Names.{name_of}
 use Rattle.msp_text.specs.Bytes.{line_feed_byte}
 use Rattle.msp_instance.specs.declared.Instance.{Instance}
 use Rattle.msp_schedule.specs.declared.breaks.Break.{Break}
-use Rattle.msp_schedule.specs.Feasible.{Feasible}
+use Rattle.msp_pieces.specs.Feasible.{Feasible}
 use Rattle.msp_schedule.specs.Breaks.{IsDecision}
 use Rattle.msp_grammar.specs.declared.filed.Filed.{Filed}
 use Rattle.msp_grammar.specs.InstanceText.{IsInstanceText}

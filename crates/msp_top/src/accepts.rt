@@ -1,7 +1,7 @@
 // The answer to `accept`.
 ghost use Rattle.std.specs.Prelude.{◌≡◌, ◌≤◌, length, IfOk, if◌then◌else◌};
 ghost use Rattle.msp_instance.specs.Conditions.{InClass};
-ghost use Rattle.msp_schedule.specs.Fraction.{IsComparable};
+ghost use Rattle.msp_pieces.specs.Fraction.{IsComparable};
 ghost use Rattle.msp_cert.specs.Certificates.{KeepsLimits};
 ghost use Rattle.msp_cert_text.specs.CertificateText.{IsStatedBound};
 ghost use Rattle.msp_grammar.specs.declared.lines.limits.TheConstants.{LAST_LINE};

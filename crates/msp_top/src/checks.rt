@@ -2,7 +2,7 @@
 ghost use Rattle.std.specs.Prelude.{◌≤◌, ◌↔◌, IsTrue, length, IsNone, IfOk};
 ghost use Rattle.msp_class.specs.Env.{IsCutOnUnrelated};
 ghost use Rattle.msp_instance.specs.Conditions.{InClass};
-ghost use Rattle.msp_schedule.specs.Feasible.{Feasible};
+ghost use Rattle.msp_pieces.specs.Feasible.{Feasible};
 ghost use Rattle.msp_grammar.specs.ScheduleText.{IsStated};
 ghost use Rattle.msp_grammar.specs.declared.lines.limits.TheConstants.{LAST_LINE};
 ghost use Rattle.msp_top.specs.Checks.{HasCheckStatus, IsCheckReport, CheckIsRight};

@@ -4,8 +4,8 @@ use Rattle.std.proofs.Math.Nat.{mul-le-mul_right}
 use Rattle.msp_class.specs.Sums.{total_below}
 use Rattle.msp_class.proofs.FallingWeights.{abel}
 use Rattle.msp_class.proofs.Sums.{total_below-mono, total_below-same, total_below-add, total_below-constant, total_below-none, total_below-only, total_below-split, total_below-bound, cond-le}
-use Rattle.msp_schedule.proofs.lists.Places.{total_below-within}
-use Rattle.msp_schedule.proofs.lists.Positions.{distinct_pairs}
+use Rattle.msp_pieces.proofs.lists.Places.{total_below-within}
+use Rattle.msp_pieces.proofs.lists.Positions.{distinct_pairs}
 use Rattle.msp_total.specs.Turns.{multiplier}
 use Rattle.msp_total.specs.Multipliers.{seats}
 

@@ -2,7 +2,7 @@
 use Rattle.std.proofs.Common.{◌≡◌, ℕ, ◌+◌, ◌-◌, inl, inr, List, [], ◌∷◌, ◌++◌, get_or, refl, sym, ap, subst, ◌∙◌, arith}
 use Rattle.std.proofs.lemmas.Bool.{cases_lt}
 use Rattle.std.proofs.lemmas.List.{length-append, get_or_append_left, get_or-append_right}
-use Rattle.msp_schedule.specs.declared.Piece.{Piece}
+use Rattle.msp_pieces.specs.declared.Piece.{Piece}
 use Rattle.msp_slots.specs.declared.earliest.Slot.{Slot}
 use Rattle.msp_slots.specs.Earliest.{piece_in}
 use Rattle.msp_total.specs.SlotSteps.{AreLaid}

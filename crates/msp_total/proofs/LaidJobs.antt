@@ -10,10 +10,10 @@ use Rattle.msp_class.specs.Sums.{total_below}
 use Rattle.msp_class.proofs.Sums.{cond-yes, cond-le, sum_by-mono, sum_by-constant, sum_by-map, sum_by-OnceBelow, total_below-same, total_below-add, total_below-none}
 use Rattle.msp_class.proofs.Sums.{total_below-only, OnceBelow, OnceBelow-distinct}
 use Rattle.std.proofs.lemmas.Int.{ints}
-use Rattle.msp_schedule.specs.declared.Piece.{Piece}
-use Rattle.msp_schedule.specs.Piece.{length_of, job_of, start, finish, IsTimed}
-use Rattle.msp_schedule.specs.Intervals.{IsApart}
-use Rattle.msp_schedule.proofs.lists.Intervals.{last_of, last_of-least}
+use Rattle.msp_pieces.specs.declared.Piece.{Piece}
+use Rattle.msp_pieces.specs.Piece.{length_of, job_of, start, finish, IsTimed}
+use Rattle.msp_pieces.specs.Intervals.{IsApart}
+use Rattle.msp_pieces.proofs.lists.Intervals.{last_of, last_of-least}
 use Rattle.msp_total.specs.declared.lay.Place.{Place}
 use Rattle.msp_total.specs.Places.{no_place, time_on, piece_until, laid}
 use Rattle.msp_total.specs.Turns.{machine_at}

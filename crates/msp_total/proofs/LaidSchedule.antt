@@ -14,17 +14,17 @@ use Rattle.msp_class.proofs.Sums.{int_total_below-natural, OnceBelow, length-Onc
 use Rattle.msp_instance.specs.declared.Arc.{Arc}
 use Rattle.msp_instance.specs.declared.Instance.{Instance}
 use Rattle.msp_instance.specs.Instance.{job_at}
-use Rattle.msp_schedule.specs.declared.Piece.{Piece}
-use Rattle.msp_schedule.specs.declared.Schedule.{Schedule}
-use Rattle.msp_schedule.specs.Piece.{IsBefore, job_of, finish, IsTimed}
-use Rattle.msp_schedule.specs.Feasible.{Feasible, IsWholeWork}
-use Rattle.msp_schedule.specs.Cost.{cost_of, end_of, job_cost}
-use Rattle.msp_schedule.specs.Within.{Within}
-use Rattle.msp_schedule.proofs.feasible.OneMachine.{apart_in_int, last_end-is}
-use Rattle.msp_schedule.proofs.lists.Intervals.{last_of}
-use Rattle.msp_schedule.proofs.changes.Moves.{Contains-map}
-use Rattle.msp_schedule.proofs.costs.Charges.{cost_of-sum, charge_of}
-use Rattle.msp_schedule.specs.declared.limits.TheConstants.{GREATEST_CARRIED_UNIT}
+use Rattle.msp_pieces.specs.declared.Piece.{Piece}
+use Rattle.msp_pieces.specs.declared.Schedule.{Schedule}
+use Rattle.msp_pieces.specs.Piece.{IsBefore, job_of, finish, IsTimed}
+use Rattle.msp_pieces.specs.Feasible.{Feasible, IsWholeWork}
+use Rattle.msp_pieces.specs.Cost.{cost_of, end_of, job_cost}
+use Rattle.msp_pieces.specs.Within.{Within}
+use Rattle.msp_pieces.proofs.feasible.OneMachine.{apart_in_int, last_end-is}
+use Rattle.msp_pieces.proofs.lists.Intervals.{last_of}
+use Rattle.msp_pieces.proofs.changes.Moves.{Contains-map}
+use Rattle.msp_pieces.proofs.costs.Charges.{cost_of-sum, charge_of}
+use Rattle.msp_pieces.specs.declared.limits.TheConstants.{GREATEST_CARRIED_UNIT}
 use Rattle.msp_route.specs.declared.bounds.TheConstants.{GREATEST_ANSWER_MOMENT}
 use Rattle.msp_route.specs.Bounds.{IsAnswer, answer_unit}
 use Rattle.msp_route.proofs.OneEach.{IsUncut, AreOneEach, one_each_is_feasible, one_each_is_within, one_each_is_answer}

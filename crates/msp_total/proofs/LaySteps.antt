@@ -7,7 +7,7 @@ use Rattle.std.proofs.lemmas.List.{drop_more, drop_all, append-nil, get_or-set_o
 use Rattle.std.proofs.lemmas.List.Elements.{All-take}
 use Rattle.msp_class.specs.declared.sizes.TheConstants.{MOST_JOBS, MOST_MACHINES}
 use Rattle.msp_class.proofs.Sums.{cond-yes, cond-no, sum_by-take_more}
-use Rattle.msp_schedule.specs.declared.Piece.{Piece}
+use Rattle.msp_pieces.specs.declared.Piece.{Piece}
 use Rattle.msp_total.specs.declared.lay.Place.{Place}
 use Rattle.msp_total.specs.Places.{no_place, ArePlaces, time_on, piece_until, laid}
 use Rattle.msp_total.proofs.LaidJobs.{time_on-cons, time_on-own, time_on-most}

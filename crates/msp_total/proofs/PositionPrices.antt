@@ -12,10 +12,10 @@ use Rattle.msp_class.proofs.IntegerRing.{pos-le, ≤ℤ_trans, *ℤ_comm, *ℤ-m
 use Rattle.msp_instance.specs.declared.Instance.{Instance}
 use Rattle.msp_instance.specs.Instance.{need_at}
 use Rattle.msp_instance.proofs.PathBitLemmas.{row_inside}
-use Rattle.msp_schedule.specs.declared.Schedule.{Schedule}
-use Rattle.msp_schedule.specs.Cost.{cost_of, Best}
-use Rattle.msp_schedule.specs.Prices.{ArePrices, all_prices}
-use Rattle.msp_schedule.proofs.bounds.PriceBounds.{law_of_prices}
+use Rattle.msp_pieces.specs.declared.Schedule.{Schedule}
+use Rattle.msp_pieces.specs.Cost.{cost_of, Best}
+use Rattle.msp_pieces.specs.Prices.{ArePrices, all_prices}
+use Rattle.msp_pieces.proofs.bounds.PriceBounds.{law_of_prices}
 use Rattle.msp_assign.specs.declared.assignment.Assignment.{Assignment}
 use Rattle.msp_assign.specs.Prices.{IsAssigned, IsPriced, IsLeast, HasFreeColumn, column_of, price_at}
 use Rattle.msp_assign.proofs.Least.{IsLeast-from_prices}

@@ -16,13 +16,13 @@ use Rattle.msp_instance.specs.declared.Arc.{Arc}
 use Rattle.msp_instance.specs.declared.Instance.{Instance}
 use Rattle.msp_instance.specs.Instance.{no_job, job_at}
 use Rattle.msp_instance.specs.Conditions.{Inner}
-use Rattle.msp_schedule.specs.declared.Piece.{Piece}
-use Rattle.msp_schedule.specs.declared.Schedule.{Schedule}
-use Rattle.msp_schedule.specs.Feasible.{Feasible}
-use Rattle.msp_schedule.specs.Cost.{cost_of, end_of, job_cost, Best}
-use Rattle.msp_schedule.specs.Within.{Within}
-use Rattle.msp_schedule.proofs.costs.Charged.{sum_when, best_by_moments}
-use Rattle.msp_schedule.proofs.costs.Charges.{charge_of, cost_of-sum}
+use Rattle.msp_pieces.specs.declared.Piece.{Piece}
+use Rattle.msp_pieces.specs.declared.Schedule.{Schedule}
+use Rattle.msp_pieces.specs.Feasible.{Feasible}
+use Rattle.msp_pieces.specs.Cost.{cost_of, end_of, job_cost, Best}
+use Rattle.msp_pieces.specs.Within.{Within}
+use Rattle.msp_pieces.proofs.costs.Charged.{sum_when, best_by_moments}
+use Rattle.msp_pieces.proofs.costs.Charges.{charge_of, cost_of-sum}
 use Rattle.msp_route.specs.Bounds.{IsAnswer, answer_unit}
 use Rattle.msp_route.proofs.OneEach.{one_each_is_answer}
 use Rattle.msp_assign.specs.Prices.{column_of}

@@ -15,16 +15,16 @@ use Rattle.msp_class.specs.Sums.{total_below}
 use Rattle.msp_class.proofs.Sums.{sum_by-map, sum_by-OnceBelow, total_below-same, total_below-scale, OnceBelow, OnceBelow-from_permutation, OnceBelow-distinct, length-OnceBelow}
 use Rattle.msp_instance.specs.declared.Instance.{Instance}
 use Rattle.msp_instance.specs.Instance.{no_job, need_at}
-use Rattle.msp_schedule.specs.declared.Schedule.{Schedule}
-use Rattle.msp_schedule.specs.Piece.{length_of, start, finish, IsTimed}
-use Rattle.msp_schedule.specs.Feasible.{Feasible, HasOperation, MayRun, IsWholeWork}
-use Rattle.msp_schedule.specs.Cost.{cost_of, Best}
-use Rattle.msp_schedule.specs.Intervals.{IsApart}
-use Rattle.msp_schedule.proofs.lists.Positions.{position_of, position_of-some, position_of-few, position_of-once, sum_of_ends}
-use Rattle.msp_schedule.proofs.feasible.SolePieces.{only_piece, IsOnly, is_only, only_timed, only_placed, only_apart, sum_of_only_ends}
+use Rattle.msp_pieces.specs.declared.Schedule.{Schedule}
+use Rattle.msp_pieces.specs.Piece.{length_of, start, finish, IsTimed}
+use Rattle.msp_pieces.specs.Feasible.{Feasible, HasOperation, MayRun, IsWholeWork}
+use Rattle.msp_pieces.specs.Cost.{cost_of, Best}
+use Rattle.msp_pieces.specs.Intervals.{IsApart}
+use Rattle.msp_pieces.proofs.lists.Positions.{position_of, position_of-some, position_of-few, position_of-once, sum_of_ends}
+use Rattle.msp_pieces.proofs.feasible.SolePieces.{only_piece, IsOnly, is_only, only_timed, only_placed, only_apart, sum_of_only_ends}
 use Rattle.msp_route.specs.Bounds.{answer_unit}
-use Rattle.msp_schedule.proofs.lists.Places.{sum_by-places}
-use Rattle.msp_schedule.proofs.feasible.OneEach.{IsUncut-uniform}
+use Rattle.msp_pieces.proofs.lists.Places.{sum_by-places}
+use Rattle.msp_pieces.proofs.feasible.OneEach.{IsUncut-uniform}
 use Rattle.msp_route.specs.declared.keyed.Keyed.{Keyed}
 use Rattle.msp_total.specs.declared.lay.Place.{Place}
 use Rattle.msp_instance.specs.Multiples.{IsLeastOfAll}

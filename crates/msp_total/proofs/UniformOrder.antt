@@ -11,8 +11,8 @@ use Rattle.msp_class.proofs.IntegerRing.{pos-le, ≤ℤ_trans}
 use Rattle.msp_class.proofs.Sums.{total_below-same, OnceBelow-distinct}
 use Rattle.msp_instance.specs.declared.Instance.{Instance}
 use Rattle.msp_instance.specs.Instance.{need_at}
-use Rattle.msp_schedule.specs.declared.Piece.{Piece}
-use Rattle.msp_schedule.specs.Breaks.{no_piece}
+use Rattle.msp_pieces.specs.declared.Piece.{Piece}
+use Rattle.msp_pieces.specs.Piece.{no_piece}
 use Rattle.msp_route.specs.declared.keyed.Keyed.{Keyed}
 use Rattle.msp_total.specs.declared.lay.Place.{Place}
 use Rattle.msp_instance.specs.Multiples.{IsLeastOfAll}

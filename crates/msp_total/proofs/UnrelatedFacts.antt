@@ -4,7 +4,7 @@ use Rattle.msp_class.specs.declared.sizes.TheConstants.{GREATEST, GREATEST_MULTI
 use Rattle.msp_instance.specs.declared.Instance.{Instance}
 use Rattle.msp_instance.specs.Instance.{no_need, no_job, job_at, need_at}
 use Rattle.msp_instance.specs.Conditions.{Inner}
-use Rattle.msp_schedule.proofs.feasible.OfClass.{IsOfClass, IsOfClass-from}
+use Rattle.msp_pieces.proofs.feasible.OfClass.{IsOfClass, IsOfClass-from}
 use Rattle.msp_total.specs.Classes.{unrelated_class}
 
 abbrev pub IsUnrelatedInstance : Instance → Type 0

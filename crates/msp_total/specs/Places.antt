@@ -1,7 +1,7 @@
 -- Jobs on machines, listed from the last to the first of each machine. No public contract cites this file.
 use Rattle.std.specs.Prelude.{ℕ, ◌*◌, ◌-◌, ◌<◌, ◌≤◌, List, [], ◌∷◌, length, pos, sum_by, ◌==◌, if◌then◌else◌, slice_index_or, All}
 use Rattle.msp_class.specs.declared.sizes.TheConstants.{MOST_JOBS, MOST_MACHINES, GREATEST, GREATEST_MULTIPLE}
-use Rattle.msp_schedule.specs.declared.Piece.{Piece}
+use Rattle.msp_pieces.specs.declared.Piece.{Piece}
 use Rattle.msp_total.specs.declared.lay.Place.{Place}
 
 -- What is read where there is no place.

@@ -2,9 +2,9 @@
 use Rattle.std.specs.Prelude.{◌≡◌, ℕ, ◌+◌, ◌*◌, ◌/◌, ◌%◌, ◌<◌, ◌≤◌, ℤ, pos, length, ◌+ℤ◌, ◌*ℤ◌, unsigned_abs, Contains}
 use Rattle.msp_instance.specs.declared.Instance.{Instance}
 use Rattle.msp_instance.specs.Instance.{need_at}
-use Rattle.msp_schedule.specs.declared.Schedule.{Schedule}
-use Rattle.msp_schedule.specs.Cost.{cost_of, Best}
-use Rattle.msp_schedule.specs.Prices.{ArePrices, all_prices}
+use Rattle.msp_pieces.specs.declared.Schedule.{Schedule}
+use Rattle.msp_pieces.specs.Cost.{cost_of, Best}
+use Rattle.msp_pieces.specs.Prices.{ArePrices, all_prices}
 use Rattle.msp_assign.specs.declared.assignment.Assignment.{Assignment}
 use Rattle.msp_assign.specs.Prices.{IsAssigned, IsLeast, HasFreeColumn, column_of, price_at}
 

@@ -5,7 +5,7 @@ ghost use Rattle.msp_total.specs.Places.{ArePlaces, time_on, laid, piece_until};
 
 use msp_class::{List, NoMemory};
 use msp_instance::MOST_MACHINES;
-use msp_schedule::Piece;
+use msp_pieces::Piece;
 use std::alloc::Global;
 
 const MACHINES: usize = MOST_MACHINES as usize;

@@ -7,14 +7,14 @@
 // In the loop (`proofs/Greedy.antt`): the positions taken are the last ones of each machine, and no other one has a lesser multiplier.
 //
 // Best (`proofs/UniformBest.antt`): in any schedule the jobs stand at positions of their own, counted from the end of each machine
-// (`law_of_prices` of `msp_schedule` stands on the same count), and cost at least their times by the multipliers. Any q positions have
+// (`law_of_prices` of `msp_pieces` stands on the same count), and cost at least their times by the multipliers. Any q positions have
 // multipliers that add up to at least those of the first q taken, so the longest times at the least multipliers add up to the least.
 ghost use Rattle.std.specs.Prelude.{◌≡◌, ◌+◌, ◌*◌, ◌/◌, ◌<◌, ◌≤◌, length, map, slice_set, All, IfOk};
 ghost use Rattle.std.specs.List.{range_with_len};
 ghost use Rattle.msp_class.specs.declared.sizes.TheConstants.{MOST_JOBS, MOST_MACHINES, GREATEST, GREATEST_MULTIPLE};
 ghost use Rattle.msp_instance.specs.Instance.{need_at};
 ghost use Rattle.msp_instance.specs.Conditions.{Inner};
-ghost use Rattle.msp_schedule.specs.Cost.{IsBest};
+ghost use Rattle.msp_pieces.specs.Cost.{IsBest};
 ghost use Rattle.msp_route.specs.Bounds.{IsAnswer};
 ghost use Rattle.msp_total.specs.Classes.{uniform_class};
 ghost use Rattle.msp_total.specs.Multipliers.{IsByMultipliers};
@@ -23,8 +23,8 @@ ghost use Rattle.msp_total.specs.Turns.{IsByTime, IsFirstLeast, AreTurns, number
 use crate::lay::{Place, lay};
 use msp_class::{Class, Crit, Env, NoMemory, Order, Times};
 use msp_instance::{Instance, first_time, multiple_of_all};
+use msp_pieces::{Schedule, Solution};
 use msp_route::{Keyed, Solver, sort_by_falling_key};
-use msp_schedule::{Schedule, Solution};
 use std::alloc::Global;
 
 /// The class that the rule solves: `Q||sumC`.
@@ -154,7 +154,7 @@ fn schedule_by_multipliers(alloc: Global, inst: &Instance) -> Result<Solution, N
         unit: i128::from(unit),
         pieces,
     };
-    let cost = msp_schedule::cost(inst, &schedule);
+    let cost = msp_pieces::cost(inst, &schedule);
     Ok(Solution { schedule, cost })
 }
 

@@ -8,12 +8,12 @@
 //
 // Best (`proofs/SlotBest.antt`): whatever the whole moments at which the jobs of a schedule begin, each job has a slot of its own that
 // begins no later and not before its release date (`msp_slots/proofs/SlotPlaces.antt`); fractions are no help, as begins may be rounded
-// down (`law_of_floors` of `msp_schedule`). Costs do not fall with ends, so the assignment costs no more; and it never takes a slot before
+// down (`law_of_floors` of `msp_pieces`). Costs do not fall with ends, so the assignment costs no more; and it never takes a slot before
 // a release date, since the jobs fit without.
 ghost use Rattle.std.specs.Prelude.{◌≡◌, ◌<◌, ◌≤◌, length, map, All, IfOk};
 ghost use Rattle.msp_class.specs.declared.sizes.TheConstants.{MOST_JOBS, GREATEST};
 ghost use Rattle.msp_instance.specs.Conditions.{Inner};
-ghost use Rattle.msp_schedule.specs.Cost.{IsBest};
+ghost use Rattle.msp_pieces.specs.Cost.{IsBest};
 ghost use Rattle.msp_route.specs.Bounds.{IsAnswer};
 ghost use Rattle.msp_total.specs.Slots.{tardiness_class, late_jobs_class};
 ghost use Rattle.msp_slots.specs.Earliest.{slot_piece};
@@ -24,8 +24,8 @@ use crate::slot_table::Slots;
 use msp_assign::Assignment;
 use msp_class::{Class, Crit, Env, List, NoMemory, Order, Times};
 use msp_instance::{Instance, Job};
+use msp_pieces::{Piece, Schedule, Solution};
 use msp_route::Solver;
-use msp_schedule::{Piece, Schedule, Solution};
 use msp_slots::{Slot, earliest_slots, releases_of, sorted_releases, starts_of};
 use std::alloc::Global;
 
@@ -125,7 +125,7 @@ fn schedule_in_slots(alloc: Global, inst: &Instance, late: bool) -> Result<Solut
 {
     let pieces = least_pieces(alloc, inst, late)?;
     let schedule = Schedule { unit: 1, pieces };
-    let cost = msp_schedule::cost(inst, &schedule);
+    let cost = msp_pieces::cost(inst, &schedule);
     Ok(Solution { schedule, cost })
 }
 

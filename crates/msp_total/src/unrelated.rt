@@ -8,12 +8,12 @@
 // there; the assignment is least, as its prices show.
 //
 // The prices (`prices`, `solve_with_prices`) are evidence of the cost: they are together what a best schedule costs
-// (`proofs/PositionPrices.antt`, `law_of_prices` of `msp_schedule`).
+// (`proofs/PositionPrices.antt`, `law_of_prices` of `msp_pieces`).
 ghost use Rattle.std.specs.Prelude.{◌≡◌, ◌++◌, ◌*◌, ◌/◌, ◌<◌, ◌≤◌, length, map, All, IfOk, OnOk};
 ghost use Rattle.std.specs.List.{range_with_len};
 ghost use Rattle.msp_class.specs.declared.sizes.TheConstants.{MOST_JOBS, MOST_MACHINES};
 ghost use Rattle.msp_instance.specs.Conditions.{Inner};
-ghost use Rattle.msp_schedule.specs.Cost.{IsBest};
+ghost use Rattle.msp_pieces.specs.Cost.{IsBest};
 ghost use Rattle.msp_route.specs.Bounds.{IsAnswer};
 ghost use Rattle.msp_assign.specs.Prices.{column_of};
 ghost use Rattle.msp_total.specs.Classes.{unrelated_class};
@@ -25,8 +25,8 @@ use crate::positions::{Positions, time_at};
 use msp_assign::{Assignment, assign_on_lines};
 use msp_class::{Class, Crit, Env, List, NoMemory, Order, Times};
 use msp_instance::{Instance, Need};
+use msp_pieces::{Schedule, Solution};
 use msp_route::Solver;
-use msp_schedule::{Schedule, Solution};
 use std::alloc::Global;
 
 /// The class that the assignment solves: `R||sumC`.
@@ -156,7 +156,7 @@ fn solution_at(
     let places = places_of(alloc, table, chosen.as_slice())?;
     let pieces = lay(alloc, places.as_slice())?;
     let schedule = Schedule { unit: 1, pieces };
-    let cost = msp_schedule::cost(inst, &schedule);
+    let cost = msp_pieces::cost(inst, &schedule);
     Ok(Solution { schedule, cost })
 }
 

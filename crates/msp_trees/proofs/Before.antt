@@ -12,7 +12,7 @@ use Rattle.msp_instance.specs.declared.Instance.{Instance}
 use Rattle.msp_instance.specs.Conditions.{IsSequence, GoesForward, entering}
 use Rattle.msp_instance.specs.Paths.{HasStep}
 use Rattle.msp_instance.proofs.CycleLemmas.{same_place}
-use Rattle.msp_schedule.proofs.feasible.Series.{MayPrecede}
+use Rattle.msp_pieces.proofs.feasible.Series.{MayPrecede}
 use Rattle.msp_trees.specs.Horn.{first_before, before}
 use Rattle.msp_trees.specs.Joining.{IsForward}
 

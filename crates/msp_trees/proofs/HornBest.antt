@@ -11,20 +11,20 @@ use Rattle.msp_instance.specs.Instance.{no_job, no_need}
 use Rattle.msp_instance.specs.Conditions.{Inner, HasDegree, entering}
 use Rattle.msp_instance.specs.Paths.{HasStep}
 use Rattle.msp_instance.proofs.CycleLemmas.{OnceBelow-from_sequence}
-use Rattle.msp_schedule.specs.declared.Piece.{Piece}
-use Rattle.msp_schedule.specs.declared.Schedule.{Schedule}
-use Rattle.msp_schedule.specs.Feasible.{Feasible}
-use Rattle.msp_schedule.specs.Cost.{cost_of, Best}
-use Rattle.msp_schedule.specs.Settled.{IsSettled}
-use Rattle.msp_schedule.specs.Within.{Within}
-use Rattle.msp_schedule.specs.BackToBack.{back_to_back, weighted_ends, piece, time_at, schedule_in_order}
-use Rattle.msp_schedule.proofs.lists.BackToBack.{last-weighted_ends_below}
-use Rattle.msp_schedule.proofs.costs.Charges.{SameCharges-from_jobs}
-use Rattle.msp_schedule.proofs.feasible.OneMachine.{weighted_cost}
-use Rattle.msp_schedule.proofs.feasible.BackToBack.{piece_makes, back_to_back_is_settled, back_to_back_is_within}
-use Rattle.msp_schedule.specs.LineUp.{order_of_ends}
-use Rattle.msp_schedule.proofs.changes.LineUp.{IsLine as IsOneLine, IsLine-from_conditions, SameLine-refl, cost-lined_up, forward_by_ends, order_of_ends-once, order_of_ends-rises}
-use Rattle.msp_schedule.proofs.changes.Exchange.{cost_of-lined_up}
+use Rattle.msp_pieces.specs.declared.Piece.{Piece}
+use Rattle.msp_pieces.specs.declared.Schedule.{Schedule}
+use Rattle.msp_pieces.specs.Feasible.{Feasible}
+use Rattle.msp_pieces.specs.Cost.{cost_of, Best}
+use Rattle.msp_pieces.specs.Settled.{IsSettled}
+use Rattle.msp_pieces.specs.Within.{Within}
+use Rattle.msp_pieces.specs.BackToBack.{back_to_back, weighted_ends, piece, time_at, schedule_in_order}
+use Rattle.msp_pieces.proofs.lists.BackToBack.{last-weighted_ends_below}
+use Rattle.msp_pieces.proofs.costs.Charges.{SameCharges-from_jobs}
+use Rattle.msp_pieces.proofs.feasible.OneMachine.{weighted_cost}
+use Rattle.msp_pieces.proofs.feasible.BackToBack.{piece_makes, back_to_back_is_settled, back_to_back_is_within}
+use Rattle.msp_pieces.specs.LineUp.{order_of_ends}
+use Rattle.msp_pieces.proofs.changes.LineUp.{IsLine as IsOneLine, IsLine-from_conditions, SameLine-refl, cost-lined_up, forward_by_ends, order_of_ends-once, order_of_ends-rises}
+use Rattle.msp_pieces.proofs.changes.Exchange.{cost_of-lined_up}
 use Rattle.msp_route.specs.Bounds.{IsAnswer}
 use Rattle.msp_trees.specs.Horn.{horn_class}
 use Rattle.msp_trees.specs.Horn.{before, weight_at}

@@ -9,9 +9,9 @@ use Rattle.std.proofs.lemmas.List.Elements.{All-nil, All-cons, All-head, All-tai
 use Rattle.std.proofs.lemmas.List.Sorted.{IsPermutation-refl, IsPermutation-sym, IsPermutation-trans, IsPermutation-cons, IsPermutation-swap, IsPermutation-middle}
 use Rattle.std.proofs.lemmas.List.Sorted.{IsPermutation-append_left, IsPermutation-append_right, IsPermutation-append_comm}
 use Rattle.std.proofs.lemmas.List.Kept.{AllPairs-cons}
-use Rattle.msp_schedule.proofs.feasible.Series.{AllPairs-append}
+use Rattle.msp_pieces.proofs.feasible.Series.{AllPairs-append}
 use Rattle.msp_class.proofs.Sums.{AllPairs-head, AllPairs-tail, sum_by-some, cond-yes}
-use Rattle.msp_schedule.proofs.lists.Permuted.{permuted}
+use Rattle.msp_pieces.proofs.lists.Permuted.{permuted}
 
 -- ---- what holds of an append
 module _ {X : Type 0} where

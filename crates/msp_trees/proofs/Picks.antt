@@ -17,10 +17,10 @@ use Rattle.msp_instance.specs.declared.Job.{Job}
 use Rattle.msp_instance.specs.Instance.{no_job, no_need}
 use Rattle.msp_instance.specs.Conditions.{Inner}
 use Rattle.msp_instance.proofs.ListingLemmas.{list_any-from_Contains}
-use Rattle.msp_schedule.specs.BackToBack.{time_at, schedule_in_order, piece, back_to_back}
-use Rattle.msp_schedule.proofs.feasible.BackToBack.{piece_makes}
-use Rattle.msp_schedule.specs.Piece.{job_of}
-use Rattle.msp_schedule.proofs.lists.BackToBack.{back_to_back-jobs}
+use Rattle.msp_pieces.specs.BackToBack.{time_at, schedule_in_order, piece, back_to_back}
+use Rattle.msp_pieces.proofs.feasible.BackToBack.{piece_makes}
+use Rattle.msp_pieces.specs.Piece.{job_of}
+use Rattle.msp_pieces.proofs.lists.BackToBack.{back_to_back-jobs}
 use Rattle.msp_trees.specs.declared.joining.Load.{Load}
 use Rattle.msp_trees.specs.Horn.{horn_class}
 use Rattle.msp_trees.specs.Horn.{first_before, before, weight_at, time_of, weight_of, GoesNext, Joins, JoinTo, nothing_joined, one_more, single_blocks, IsHornOrder}

@@ -1,17 +1,17 @@
 // Horn's rule: the solver.
 ghost use Rattle.std.specs.Prelude.{◌≡◌, map, IfOk};
 ghost use Rattle.msp_instance.specs.Conditions.{Inner};
-ghost use Rattle.msp_schedule.specs.Cost.{IsBest};
-ghost use Rattle.msp_schedule.specs.Fraction.{IsLowest};
-ghost use Rattle.msp_schedule.specs.Settled.{IsSettled};
+ghost use Rattle.msp_pieces.specs.Cost.{IsBest};
+ghost use Rattle.msp_pieces.specs.Fraction.{IsLowest};
+ghost use Rattle.msp_pieces.specs.Settled.{IsSettled};
 ghost use Rattle.msp_route.specs.Bounds.{IsAnswer};
 ghost use Rattle.msp_trees.specs.Horn.{horn_class, IsHornOrder};
 
 use crate::joining::joined_jobs;
 use msp_class::{Class, Crit, Env, NoMemory, Order, Times};
 use msp_instance::Instance;
+use msp_pieces::Solution;
 use msp_route::{Solver, solution_in_order};
-use msp_schedule::Solution;
 use std::alloc::Global;
 
 /// The class that the rule solves: `1|outtree|sumwC`.

@@ -3,7 +3,7 @@ ghost use Rattle.std.specs.Prelude.{◌≡◌, ◌*◌, ◌+◌, ◌<◌, ◌≤
 ghost use Rattle.std.specs.List.{concat};
 ghost use Rattle.msp_class.specs.declared.sizes.TheConstants.{MOST_JOBS, GREATEST};
 ghost use Rattle.msp_instance.specs.Conditions.{Inner};
-ghost use Rattle.msp_schedule.specs.BackToBack.{time_at};
+ghost use Rattle.msp_pieces.specs.BackToBack.{time_at};
 ghost use Rattle.msp_trees.specs.Horn.{horn_class, before, weight_at, time_of, weight_of, GoesNext, Joins, JoinTo, single_blocks};
 ghost use Rattle.msp_trees.specs.Joining.{AreJoined, GoesNoLater};
 

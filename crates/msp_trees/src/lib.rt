@@ -10,7 +10,7 @@
 //! Best (`proofs/HornBest.antt`): the last block costs no more than any order that keeps the arcs, and the order in which any feasible
 //! schedule ends its jobs costs no more than that schedule.
 //!
-//! It stands on `msp_schedule` and `msp_route`. The layers above use the clauses of `Solver`: the answers are best. The jobs run one after
+//! It stands on `msp_pieces` and `msp_route`. The layers above use the clauses of `Solver`: the answers are best. The jobs run one after
 //! another from moment 0 on, by `solution_in_order` of `msp_route`.
 #![tactic(auto)]
 

@@ -13,13 +13,13 @@ use Rattle.msp_class.proofs.IntegerRing.{natural}
 use Rattle.msp_class.proofs.Sums.{OnceBelow-from_permutation}
 use Rattle.msp_instance.specs.declared.Instance.{Instance}
 use Rattle.msp_instance.specs.Conditions.{Inner}
-use Rattle.msp_schedule.specs.declared.Schedule.{Schedule}
-use Rattle.msp_schedule.specs.declared.Solution.{Solution}
-use Rattle.msp_schedule.specs.Feasible.{Feasible}
-use Rattle.msp_schedule.specs.Cost.{end_of, cost_of, IsSolution}
+use Rattle.msp_pieces.specs.declared.Schedule.{Schedule}
+use Rattle.msp_pieces.specs.declared.Solution.{Solution}
+use Rattle.msp_pieces.specs.Feasible.{Feasible}
+use Rattle.msp_pieces.specs.Cost.{end_of, cost_of, IsSolution}
 use Rattle.msp_class.specs.declared.sizes.TheConstants.{GREATEST_UNIT}
-use Rattle.msp_schedule.specs.LineUp.{lined_up, order_of_ends}
-use Rattle.msp_schedule.proofs.changes.LineUp.{order_of_ends-only}
+use Rattle.msp_pieces.specs.LineUp.{lined_up, order_of_ends}
+use Rattle.msp_pieces.proofs.changes.LineUp.{order_of_ends-only}
 use Rattle.msp_route.specs.Law.{IsBack, IsReordered}
 use Rattle.msp_route.specs.Bounds.{EndsBy, IsBounded, KeepsBounds, greatest_unit, keeps_schedule, trades_dates, moment_after}
 use Rattle.msp_route.specs.declared.bounds.TheConstants.{GREATEST_LINED_UP}

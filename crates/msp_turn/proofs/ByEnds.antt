@@ -3,11 +3,11 @@ use Rattle.std.proofs.Common.{◌<◌, length, get_or, ℤ, nat_abs, refl, arith
 use Rattle.msp_class.proofs.IntegerRing.{≤ℤ_trans}
 use Rattle.msp_instance.specs.declared.Instance.{Instance}
 use Rattle.msp_instance.specs.Conditions.{Inner}
-use Rattle.msp_schedule.specs.declared.Schedule.{Schedule}
-use Rattle.msp_schedule.specs.Feasible.{Feasible}
-use Rattle.msp_schedule.specs.LineUp.{lined_up, order_of_ends}
-use Rattle.msp_schedule.proofs.feasible.LastEnds.{last_end-bound}
-use Rattle.msp_schedule.proofs.changes.LineUp.{IsLine, SameLine, order_of_ends-once, order_of_ends-rises, end_of-by_ends}
+use Rattle.msp_pieces.specs.declared.Schedule.{Schedule}
+use Rattle.msp_pieces.specs.Feasible.{Feasible}
+use Rattle.msp_pieces.specs.LineUp.{lined_up, order_of_ends}
+use Rattle.msp_pieces.proofs.feasible.LastEnds.{last_end-bound}
+use Rattle.msp_pieces.proofs.changes.LineUp.{IsLine, SameLine, order_of_ends-once, order_of_ends-rises, end_of-by_ends}
 use Rattle.msp_route.specs.Law.{Applies}
 use Rattle.msp_route.specs.Bounds.{EndsBy}
 use Rattle.msp_route.specs.Changes.{led}

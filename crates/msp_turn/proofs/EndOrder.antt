@@ -14,11 +14,11 @@ use Rattle.std.proofs.lemmas.List.{length-set, get_or-set_same, get_or-set_other
 use Rattle.std.proofs.lemmas.List.FromFn.{fill_by_all, length-map-range_with_len, get_or-map-range_with_len}
 use Rattle.std.proofs.lemmas.List.Elements.{All-map}
 use Rattle.std.proofs.lemmas.List.Sorted.{IsPermutation-map, All-permutation, sorted_far}
-use Rattle.msp_schedule.specs.declared.Piece.{Piece}
-use Rattle.msp_schedule.proofs.changes.Moves.{AllPairs-map}
-use Rattle.msp_schedule.specs.Cost.{last_end}
-use Rattle.msp_schedule.proofs.costs.Ends.{last_end-more}
-use Rattle.msp_schedule.proofs.changes.SettledSchedules.{piece_less, piece_less-order}
+use Rattle.msp_pieces.specs.declared.Piece.{Piece}
+use Rattle.msp_pieces.proofs.changes.Moves.{AllPairs-map}
+use Rattle.msp_pieces.specs.Cost.{last_end}
+use Rattle.msp_pieces.proofs.costs.Ends.{last_end-more}
+use Rattle.msp_pieces.proofs.changes.SettledSchedules.{piece_less, piece_less-order}
 use Rattle.msp_turn.specs.declared.ends.End.{End}
 
 abbrev pub no_piece : Piece

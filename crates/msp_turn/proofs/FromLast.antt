@@ -6,12 +6,12 @@ use Rattle.std.proofs.lemmas.List.Sorted.{IsPermutation-reverse, IsPermutation-t
 use Rattle.std.proofs.lemmas.List.{reverse-reverse}
 use Rattle.msp_instance.specs.declared.Instance.{Instance}
 use Rattle.msp_instance.specs.Conditions.{Inner}
-use Rattle.msp_schedule.specs.declared.Schedule.{Schedule}
-use Rattle.msp_schedule.specs.declared.Solution.{Solution}
-use Rattle.msp_schedule.specs.Feasible.{Feasible}
-use Rattle.msp_schedule.specs.Cost.{end_of}
-use Rattle.msp_schedule.specs.LineUp.{lined_up}
-use Rattle.msp_schedule.proofs.changes.Exchange.{AllPairs-reverse}
+use Rattle.msp_pieces.specs.declared.Schedule.{Schedule}
+use Rattle.msp_pieces.specs.declared.Solution.{Solution}
+use Rattle.msp_pieces.specs.Feasible.{Feasible}
+use Rattle.msp_pieces.specs.Cost.{end_of}
+use Rattle.msp_pieces.specs.LineUp.{lined_up}
+use Rattle.msp_pieces.proofs.changes.Exchange.{AllPairs-reverse}
 use Rattle.msp_route.specs.Bounds.{IsBounded}
 use Rattle.msp_turn.specs.LinedUp.{from_last, IsLinedUp}
 use Rattle.msp_turn.specs.laws.ExchangeRows.{IsExchange, IsBack-exchanged, from_last-below}

@@ -6,12 +6,12 @@ use Rattle.msp_class.specs.Env.{kind_of}
 use Rattle.msp_class.proofs.Sums.{total_below-mono, total_below-constant, sum_by-constant, sum_by-contains, sum_by-by_key, cond-yes}
 use Rattle.msp_instance.specs.declared.Instance.{Instance}
 use Rattle.msp_instance.specs.Conditions.{Inner, inner_limits}
-use Rattle.msp_schedule.specs.declared.Piece.{Piece}
-use Rattle.msp_schedule.specs.declared.Schedule.{Schedule}
-use Rattle.msp_schedule.specs.Feasible.{Feasible}
-use Rattle.msp_schedule.specs.Cost.{end_of}
-use Rattle.msp_schedule.proofs.feasible.Frames.{frame_of, Fits, HasWork, IsShaped-from_conditions, HasWork-from_conditions, Fits-from_feasible, piece_of}
-use Rattle.msp_schedule.proofs.feasible.LastEnds.{last_end-reached}
+use Rattle.msp_pieces.specs.declared.Piece.{Piece}
+use Rattle.msp_pieces.specs.declared.Schedule.{Schedule}
+use Rattle.msp_pieces.specs.Feasible.{Feasible}
+use Rattle.msp_pieces.specs.Cost.{end_of}
+use Rattle.msp_pieces.proofs.feasible.Frames.{frame_of, Fits, HasWork, IsShaped-from_conditions, HasWork-from_conditions, Fits-from_feasible, piece_of}
+use Rattle.msp_pieces.proofs.feasible.LastEnds.{last_end-reached}
 use Rattle.msp_route.specs.Bounds.{EndsBy}
 
 -- numbers below n, each of which is that of some item

@@ -13,15 +13,15 @@ use Rattle.msp_class.proofs.Sums.{sum_by-mono, sum_by-constant, OnceBelow, OnceB
 use Rattle.msp_instance.specs.declared.Instance.{Instance}
 use Rattle.msp_instance.specs.Instance.{no_need, no_job}
 use Rattle.msp_instance.specs.Conditions.{HasShape, HasTimes, Inner, inner_limits, least_time, greatest_time}
-use Rattle.msp_schedule.specs.declared.Piece.{Piece}
-use Rattle.msp_schedule.specs.Feasible.{Feasible}
-use Rattle.msp_schedule.specs.Within.{IsMoment, Within}
-use Rattle.msp_schedule.specs.BackToBack.{back_to_back, piece, time_at}
-use Rattle.msp_schedule.proofs.lists.BackToBack.{back_to_back-to, length-back_to_back}
-use Rattle.msp_schedule.specs.Piece.{finish, IsTimed}
-use Rattle.msp_schedule.proofs.feasible.OneMachine.{timed_pieces}
-use Rattle.msp_schedule.proofs.feasible.BackToBack.{piece_makes}
-use Rattle.msp_schedule.specs.LineUp.{lined_up}
+use Rattle.msp_pieces.specs.declared.Piece.{Piece}
+use Rattle.msp_pieces.specs.Feasible.{Feasible}
+use Rattle.msp_pieces.specs.Within.{IsMoment, Within}
+use Rattle.msp_pieces.specs.BackToBack.{back_to_back, piece, time_at}
+use Rattle.msp_pieces.proofs.lists.BackToBack.{back_to_back-to, length-back_to_back}
+use Rattle.msp_pieces.specs.Piece.{finish, IsTimed}
+use Rattle.msp_pieces.proofs.feasible.OneMachine.{timed_pieces}
+use Rattle.msp_pieces.proofs.feasible.BackToBack.{piece_makes}
+use Rattle.msp_pieces.specs.LineUp.{lined_up}
 use Rattle.msp_route.specs.declared.bounds.TheConstants.{GREATEST_LINED_UP}
 use Rattle.msp_route.proofs.BackToBackSteps.{short_length, greatest_length}
 

@@ -5,7 +5,7 @@ use Rattle.std.proofs.lemmas.Int.{ints, to_z-of_z, to_z_pos}
 use Rattle.std.proofs.lemmas.Nat.{mul-le}
 use Rattle.msp_class.specs.declared.sizes.TheConstants.{GREATEST_UNIT}
 use Rattle.msp_class.proofs.IntegerRing.{natural_some}
-use Rattle.msp_schedule.specs.Within.{IsMoment, IsUnit}
+use Rattle.msp_pieces.specs.Within.{IsMoment, IsUnit}
 
 -- a number as the type reads it
 abbrev read : ℤ → ℤ

@@ -2,8 +2,8 @@
 use Rattle.std.specs.Prelude.{ℕ, List, map, slice_index_or, slice_set, ℤ, ◌≤ℤ◌, AllPairs}
 use Rattle.std.specs.Int.{int_max}
 use Rattle.std.specs.List.{range_with_len}
-use Rattle.msp_schedule.specs.declared.Schedule.{Schedule}
-use Rattle.msp_schedule.specs.Cost.{end_of}
+use Rattle.msp_pieces.specs.declared.Schedule.{Schedule}
+use Rattle.msp_pieces.specs.Cost.{end_of}
 use Rattle.msp_turn.specs.declared.ends.End.{End}
 
 -- So many jobs with their moments, by number.

@@ -1,11 +1,11 @@
 -- The jobs of one machine in the order in which a schedule ends them, one after another without gaps.
 use Rattle.std.specs.Prelude.{◌≡◌, ℕ, List, reverse, nat_abs}
 use Rattle.msp_instance.specs.declared.Instance.{Instance}
-use Rattle.msp_schedule.specs.declared.Schedule.{Schedule}
-use Rattle.msp_schedule.specs.declared.Solution.{Solution}
-use Rattle.msp_schedule.specs.Cost.{cost_of}
-use Rattle.msp_schedule.specs.Fraction.{IsOver}
-use Rattle.msp_schedule.specs.LineUp.{lined_up, order_of_ends}
+use Rattle.msp_pieces.specs.declared.Schedule.{Schedule}
+use Rattle.msp_pieces.specs.declared.Solution.{Solution}
+use Rattle.msp_pieces.specs.Cost.{cost_of}
+use Rattle.msp_pieces.specs.Fraction.{IsOver}
+use Rattle.msp_pieces.specs.LineUp.{lined_up, order_of_ends}
 
 -- The jobs in the order of their ends, ties by number, from moment 0 without gaps.
 abbrev pub by_ends : Instance → Schedule → Schedule

@@ -4,10 +4,10 @@ use Rattle.std.specs.Int.{int_max}
 use Rattle.msp_instance.specs.declared.Job.{Job}
 use Rattle.msp_instance.specs.declared.Instance.{Instance}
 use Rattle.msp_instance.specs.Instance.{job_at}
-use Rattle.msp_schedule.specs.declared.Piece.{Piece}
-use Rattle.msp_schedule.specs.declared.Schedule.{Schedule}
-use Rattle.msp_schedule.specs.Feasible.{Feasible}
-use Rattle.msp_schedule.specs.Within.{Within, IsUnit, IsMoment}
+use Rattle.msp_pieces.specs.declared.Piece.{Piece}
+use Rattle.msp_pieces.specs.declared.Schedule.{Schedule}
+use Rattle.msp_pieces.specs.Feasible.{Feasible}
+use Rattle.msp_pieces.specs.Within.{Within, IsUnit, IsMoment}
 use Rattle.msp_route.specs.Changes.{led}
 use Rattle.msp_route.specs.Rates.{greatest_due}
 use Rattle.msp_turn.specs.Turned.{turned_arcs}

@@ -1,6 +1,6 @@
 // The rows by reversal in which release dates and due dates take each other's places.
 ghost use Rattle.std.specs.Prelude.{◌≡◌, ◌≤◌, pos, All, map, refl};
-ghost use Rattle.msp_schedule.specs.Cost.{greatest};
+ghost use Rattle.msp_pieces.specs.Cost.{greatest};
 ghost use Rattle.msp_route.specs.Changes.{same_costs};
 ghost use Rattle.msp_route.specs.Sizes.{greatest_row_date};
 ghost use Rattle.msp_route.specs.Rates.{greatest_due, raised_costs};
@@ -12,8 +12,8 @@ use crate::arcs::led_turned;
 use crate::reversal::reversed;
 use msp_class::{List, NoMemory};
 use msp_instance::{Instance, Job};
+use msp_pieces::Solution;
 use msp_route::Reduction;
-use msp_schedule::Solution;
 use msp_table::Row;
 use std::alloc::Global;
 

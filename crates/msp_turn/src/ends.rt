@@ -2,12 +2,12 @@
 ghost use Rattle.std.specs.Prelude.{◌≡◌, ◌<◌, ◌≤◌, length, map, pos, ◌≤ℤ◌, All, AllPairs, IfOk, IsPermutation};
 ghost use Rattle.std.specs.List.{range_with_len};
 ghost use Rattle.std.specs.Ordering.{int_cmp, nat_cmp, ordering_then};
-ghost use Rattle.msp_schedule.specs.Cost.{last_end};
+ghost use Rattle.msp_pieces.specs.Cost.{last_end};
 ghost use Rattle.msp_turn.specs.declared.ends.End.{End as EndOf};
 ghost use Rattle.msp_turn.specs.Ends.{ends_at, raised_to, EndsRise};
 
 use msp_class::NoMemory;
-use msp_schedule::{Piece, Schedule};
+use msp_pieces::{Piece, Schedule};
 use std::alloc::Global;
 use std::cmp::Ordering;
 

@@ -14,8 +14,8 @@ use crate::ends::order_of_ends;
 use crate::line_up::line_up;
 use msp_class::{List, NoMemory};
 use msp_instance::{Instance, Job};
+use msp_pieces::{Schedule, Solution};
 use msp_route::Reduction;
-use msp_schedule::{Schedule, Solution};
 use msp_table::Row;
 use std::alloc::Global;
 

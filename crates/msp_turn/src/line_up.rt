@@ -4,14 +4,14 @@ ghost use Rattle.std.specs.List.{range_with_len};
 ghost use Rattle.msp_class.specs.declared.class.Env.TheVariants.{One};
 ghost use Rattle.msp_instance.specs.Conditions.{Inner};
 ghost use Rattle.msp_class.specs.declared.sizes.TheConstants.{GREATEST_UNIT};
-ghost use Rattle.msp_schedule.specs.Feasible.{Feasible};
-ghost use Rattle.msp_schedule.specs.LineUp.{lined_up};
+ghost use Rattle.msp_pieces.specs.Feasible.{Feasible};
+ghost use Rattle.msp_pieces.specs.LineUp.{lined_up};
 ghost use Rattle.msp_turn.specs.LinedUp.{IsLinedUp};
 
 use msp_class::NoMemory;
 use msp_instance::Instance;
+use msp_pieces::{Schedule, Solution};
 use msp_route::pieces_back_to_back;
-use msp_schedule::{Schedule, Solution};
 use std::alloc::Global;
 
 /// The solution in which the jobs run one after another from moment 0 on.
@@ -33,6 +33,6 @@ pub(crate) fn line_up(
         unit: unit as i128,
         pieces,
     };
-    let cost = msp_schedule::cost(inst, &schedule);
+    let cost = msp_pieces::cost(inst, &schedule);
     Ok(Solution { schedule, cost })
 }

@@ -9,8 +9,8 @@ use crate::ends::order_of_ends;
 use crate::line_up::line_up;
 use msp_class::NoMemory;
 use msp_instance::Instance;
+use msp_pieces::Solution;
 use msp_route::{Reduction, led};
-use msp_schedule::Solution;
 use msp_table::Row;
 use std::alloc::Global;
 

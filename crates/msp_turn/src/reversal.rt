@@ -1,13 +1,13 @@
 // Schedules that are read from their end.
 ghost use Rattle.std.specs.Prelude.{◌≡◌, ◌<◌, ℤ, pos, ◌+ℤ◌, ◌*ℤ◌, ◌≤ℤ◌, length, All, map};
 ghost use Rattle.msp_instance.specs.Conditions.{Inner};
-ghost use Rattle.msp_schedule.specs.Within.{IsUnit, IsMoment};
-ghost use Rattle.msp_schedule.specs.Cost.{IsSolution};
+ghost use Rattle.msp_pieces.specs.Within.{IsUnit, IsMoment};
+ghost use Rattle.msp_pieces.specs.Cost.{IsSolution};
 ghost use Rattle.msp_turn.specs.Reversal.{IsReversible, reversed_piece, turning_moment, reversed_for};
 
 use msp_class::List;
 use msp_instance::{Instance, Job};
-use msp_schedule::{Piece, Schedule, Solution, cost};
+use msp_pieces::{Piece, Schedule, Solution, cost};
 
 /// The moment up to which the piece reaches with the release date of its job after it.
 fn reach(job: &Job, s: &Schedule, piece: &Piece) -> i128

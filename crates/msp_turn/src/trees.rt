@@ -9,8 +9,8 @@ use crate::arcs::led_turned;
 use crate::reversal::reversed;
 use msp_class::NoMemory;
 use msp_instance::Instance;
+use msp_pieces::Solution;
 use msp_route::Reduction;
-use msp_schedule::Solution;
 use msp_table::Row;
 use std::alloc::Global;
 

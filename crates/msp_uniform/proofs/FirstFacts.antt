@@ -9,7 +9,7 @@ use Rattle.msp_class.proofs.Sums.{sum_by-cons, sum_by-OnceBelow, OnceBelow-from_
 use Rattle.msp_uniform.specs.declared.unit.TheConstants.{GREATEST_PRODUCT}
 use Rattle.msp_uniform.specs.declared.segments.Segment.{Segment}
 use Rattle.msp_uniform.specs.declared.task.Task.{Task}
-use Rattle.msp_schedule.proofs.lists.Places.{sum_by-places}
+use Rattle.msp_pieces.proofs.lists.Places.{sum_by-places}
 use Rattle.msp_uniform.specs.Uniform.{gap, sum, IsByFalling}
 use Rattle.msp_uniform.specs.Quotients.{IsGreatest}
 use Rattle.msp_uniform.specs.Prefixes.{DoFit}

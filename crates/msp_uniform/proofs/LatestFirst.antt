@@ -7,7 +7,7 @@ use Rattle.std.proofs.lemmas.List.Elements.{All-head, All-tail}
 use Rattle.std.proofs.lemmas.List.Sorted.{IsPermutation-refl, IsPermutation-sym, IsPermutation-trans, IsPermutation-append, IsPermutation-append_left, IsPermutation-append_right}
 use Rattle.std.proofs.lemmas.List.Sorted.{IsPermutation-append_comm}
 use Rattle.msp_class.proofs.Sums.{sum_by-cons, sum_by-take_more}
-use Rattle.msp_schedule.specs.declared.Piece.{Piece}
+use Rattle.msp_pieces.specs.declared.Piece.{Piece}
 use Rattle.msp_uniform.specs.declared.segments.Segment.{Segment}
 use Rattle.msp_uniform.specs.Runs.{piece_on, part_on, runs_from, runs, begun, jobs_before, IsNextEnds}
 use Rattle.msp_uniform.specs.Segments.{at, job_on}

@@ -9,14 +9,14 @@ use Rattle.msp_class.specs.Env.{kind_of}
 use Rattle.msp_class.proofs.Sums.{sum_by-append, sum_by-same, sum_by-add, sum_by-constant, sum_by-none, sum_by-IsPermutation, sum_by_counts, count_by-distinct, total_below-same}
 use Rattle.msp_class.proofs.Sums.{total_below-range, OnceBelow-from_permutation, OnceBelow-distinct, length-OnceBelow}
 use Rattle.msp_instance.specs.declared.Instance.{Instance}
-use Rattle.msp_schedule.specs.declared.Schedule.{Schedule}
-use Rattle.msp_schedule.specs.Cost.{cost_of}
-use Rattle.msp_schedule.specs.Feasible.{Feasible}
-use Rattle.msp_schedule.specs.Laws.{time_together, jobs_together}
-use Rattle.msp_schedule.specs.BackToBack.{time_at}
-use Rattle.msp_schedule.specs.Speeds.{HaveSpeeds, HasSpeedFor, speed_of, speed_above}
-use Rattle.msp_schedule.proofs.costs.Makespan.{ends_by_cost, cost_natural}
-use Rattle.msp_schedule.proofs.bounds.SpeedBound.{law_of_speeds}
+use Rattle.msp_pieces.specs.declared.Schedule.{Schedule}
+use Rattle.msp_pieces.specs.Cost.{cost_of}
+use Rattle.msp_pieces.specs.Feasible.{Feasible}
+use Rattle.msp_pieces.specs.Laws.{time_together, jobs_together}
+use Rattle.msp_pieces.specs.BackToBack.{time_at}
+use Rattle.msp_pieces.specs.Speeds.{HaveSpeeds, HasSpeedFor, speed_of, speed_above}
+use Rattle.msp_pieces.proofs.costs.Makespan.{ends_by_cost, cost_natural}
+use Rattle.msp_pieces.proofs.bounds.SpeedBound.{law_of_speeds}
 use Rattle.msp_class.proofs.IntegerRing.{zero-le-pos, *ℤ_comm}
 use Rattle.msp_uniform.specs.Uniform.{cut_class, IsByFalling, work, speed, IsAfter, LawOfLeastEnd}
 

@@ -7,10 +7,10 @@ use Rattle.std.proofs.lemmas.List.Elements.{All-nil, All-cons, All-append, All-h
 use Rattle.std.proofs.lemmas.List.Kept.{AllPairs-cons}
 use Rattle.msp_class.specs.Sums.{total_below}
 use Rattle.msp_class.proofs.Sums.{sum_by-cons, sum_by-append, sum_by-same, sum_by-agree, sum_by-total_below, total_below-scale}
-use Rattle.msp_schedule.specs.declared.Piece.{Piece}
-use Rattle.msp_schedule.specs.Piece.{start, finish, job_of, IsTimed}
-use Rattle.msp_schedule.specs.Intervals.{IsApartOn, size_of}
-use Rattle.msp_schedule.proofs.feasible.Series.{AllPairs-append}
+use Rattle.msp_pieces.specs.declared.Piece.{Piece}
+use Rattle.msp_pieces.specs.Piece.{start, finish, job_of, IsTimed}
+use Rattle.msp_pieces.specs.Intervals.{IsApartOn, size_of}
+use Rattle.msp_pieces.proofs.feasible.Series.{AllPairs-append}
 use Rattle.msp_uniform.specs.declared.segments.Segment.{Segment}
 use Rattle.msp_uniform.specs.Runs.{piece_on, part_on, runs_from, runs, IsSliceOf}
 use Rattle.msp_uniform.specs.Segments.{job_on}

@@ -14,17 +14,17 @@ use Rattle.msp_class.proofs.IntegerRing.{natural, pos-le, le-pos, pos-*ℤ-pos, 
 use Rattle.msp_instance.specs.declared.Arc.{Arc}
 use Rattle.msp_instance.specs.declared.Instance.{Instance}
 use Rattle.msp_instance.specs.Instance.{job_at, no_job}
-use Rattle.msp_schedule.specs.declared.Piece.{Piece}
-use Rattle.msp_schedule.specs.declared.Schedule.{Schedule}
-use Rattle.msp_schedule.specs.Piece.{pieces_of, IsBefore, start, finish, IsTimed}
-use Rattle.msp_schedule.specs.Intervals.{size_of}
-use Rattle.msp_schedule.specs.Feasible.{Feasible, HasPlace, HasOperation, MayRun, FollowsRoute, GetsWork, IsWholeWork, total, whole_work, work_of as part_of}
-use Rattle.msp_schedule.specs.Cost.{cost_of, Best}
-use Rattle.msp_schedule.specs.BackToBack.{time_at}
-use Rattle.msp_schedule.proofs.feasible.OfClass.{IsOfClass}
-use Rattle.msp_schedule.proofs.feasible.OneMachine.{apart_in_int, pieces_of-job}
-use Rattle.msp_schedule.proofs.bounds.SpeedBound.{size_share, total_shares}
-use Rattle.msp_schedule.proofs.costs.Makespan.{cost_by_ends, cost_natural}
+use Rattle.msp_pieces.specs.declared.Piece.{Piece}
+use Rattle.msp_pieces.specs.declared.Schedule.{Schedule}
+use Rattle.msp_pieces.specs.Piece.{pieces_of, IsBefore, start, finish, IsTimed}
+use Rattle.msp_pieces.specs.Intervals.{size_of}
+use Rattle.msp_pieces.specs.Feasible.{Feasible, HasPlace, HasOperation, MayRun, FollowsRoute, GetsWork, IsWholeWork, total, whole_work, work_of as part_of}
+use Rattle.msp_pieces.specs.Cost.{cost_of, Best}
+use Rattle.msp_pieces.specs.BackToBack.{time_at}
+use Rattle.msp_pieces.proofs.feasible.OfClass.{IsOfClass}
+use Rattle.msp_pieces.proofs.feasible.OneMachine.{apart_in_int, pieces_of-job}
+use Rattle.msp_pieces.proofs.bounds.SpeedBound.{size_share, total_shares}
+use Rattle.msp_pieces.proofs.costs.Makespan.{cost_by_ends, cost_natural}
 use Rattle.msp_uniform.specs.declared.segments.Segment.{Segment}
 use Rattle.msp_uniform.specs.Uniform.{cut_class}
 use Rattle.msp_uniform.specs.Segments.{at, job_rate, amount}

@@ -2,7 +2,7 @@
 use Rattle.std.specs.Prelude.{◌≡◌, ℕ, List, length, map, pos, slice_index_or, IsPermutation}
 use Rattle.msp_instance.specs.declared.Instance.{Instance}
 use Rattle.msp_instance.specs.Instance.{no_need}
-use Rattle.msp_schedule.specs.declared.Schedule.{Schedule}
+use Rattle.msp_pieces.specs.declared.Schedule.{Schedule}
 use Rattle.msp_uniform.specs.declared.segments.Segment.{Segment}
 use Rattle.msp_uniform.specs.declared.task.Task.{Task}
 use Rattle.msp_uniform.specs.Runs.{runs}

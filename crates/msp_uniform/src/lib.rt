@@ -18,9 +18,9 @@
 //! Segments one after another are then the pieces (`pieces.rt`); `fill.rt` does all of it, and `unit.rt` says whether the unit stays small.
 //!
 //! Best (`proofs/UniformBest.antt`): no schedule ends before the least end (`proofs/LeastEnd.antt`, from `law_of_speeds` of
-//! `msp_schedule`).
+//! `msp_pieces`).
 //!
-//! It stands on `msp_schedule` and `msp_route`. The layers above use the clauses of `Solver`: the answers are best wherever the unit stays
+//! It stands on `msp_pieces` and `msp_route`. The layers above use the clauses of `Solver`: the answers are best wherever the unit stays
 //! small (`fits`); that of `UniformCut`: the cost is the greatest of the total work over the total speed and of the k longest works over
 //! the k greatest speeds; and `law_of_least_end`: no feasible schedule ends before any of these.
 #![tactic(auto)]

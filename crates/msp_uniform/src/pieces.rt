@@ -6,7 +6,7 @@ ghost use Rattle.msp_uniform.specs.Runs.{part_on, runs, begun, jobs_before as jo
 use crate::numbers::Numbers;
 use crate::segments::Segment;
 use msp_class::{List, NoMemory};
-use msp_schedule::Piece;
+use msp_pieces::Piece;
 use std::alloc::Global;
 
 /// Puts the piece of the job at the end, if it is one.

@@ -1,7 +1,7 @@
 // Uniform machines with preemption.
 ghost use Rattle.std.specs.Prelude.{◌≡◌, IfOk};
 ghost use Rattle.msp_instance.specs.Conditions.{Inner};
-ghost use Rattle.msp_schedule.specs.Cost.{IsBest};
+ghost use Rattle.msp_pieces.specs.Cost.{IsBest};
 ghost use Rattle.msp_route.specs.Bounds.{IsAnswer};
 ghost use Rattle.msp_uniform.specs.Uniform.{cut_class, HasSmallUnit, IsUniformCost};
 ghost use Rattle.msp_uniform.specs.Answers.{AreTimes, IsCutPlan, IsLaidOut};
@@ -14,8 +14,8 @@ use crate::task::{Filled, Task};
 use crate::unit::has_small_unit;
 use msp_class::{Class, Crit, Env, NoMemory, Order, Times};
 use msp_instance::{Instance, first_time, multiple_of_all};
+use msp_pieces::{Schedule, Solution};
 use msp_route::Solver;
-use msp_schedule::{Schedule, Solution};
 use std::alloc::Global;
 
 /// The class that is solved: `Q|pmtn|Cmax`.
@@ -111,7 +111,7 @@ impl Solver for UniformCut {
         ensures cost { IfOk result (λ s. IsUniformCost inst.now s.cost) }
     {
         let schedule = schedule_of(alloc, inst)?;
-        let cost = msp_schedule::cost(inst, &schedule);
+        let cost = msp_pieces::cost(inst, &schedule);
         Ok(Solution { schedule, cost })
     }
 }

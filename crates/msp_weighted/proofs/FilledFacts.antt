@@ -9,8 +9,8 @@ use Rattle.msp_class.specs.declared.sizes.TheConstants.{MOST_JOBS, GREATEST}
 use Rattle.msp_instance.specs.declared.Job.{Job}
 use Rattle.msp_instance.specs.declared.Instance.{Instance}
 use Rattle.msp_instance.specs.Instance.{no_job}
-use Rattle.msp_schedule.specs.BackToBack.{time_at}
-use Rattle.msp_schedule.proofs.costs.LateJobs.{due_at}
+use Rattle.msp_pieces.specs.BackToBack.{time_at}
+use Rattle.msp_pieces.proofs.costs.LateJobs.{due_at}
 use Rattle.msp_weighted.specs.Values.{weight_at, first_value, values_of, is_taken, is_flagged, IsPut, IsFilled}
 use Rattle.msp_weighted.proofs.ValueFacts.{gains-same, value_with-same, values-more, values_small}
 

@@ -7,10 +7,10 @@ use Rattle.std.proofs.lemmas.List.Elements.{All-nil, All-cons, All-head, All-tai
 use Rattle.std.proofs.lemmas.List.Sums.{sum_by-cons}
 use Rattle.msp_class.proofs.Sums.{AllPairs-head, AllPairs-tail, sum_by-mono}
 use Rattle.msp_instance.specs.declared.Instance.{Instance}
-use Rattle.msp_schedule.specs.BackToBack.{time_at}
-use Rattle.msp_schedule.proofs.costs.LateJobs.{due_at}
-use Rattle.msp_schedule.proofs.lists.Parts.{All-back}
-use Rattle.msp_schedule.proofs.lists.BackToBack.{end_in}
+use Rattle.msp_pieces.specs.BackToBack.{time_at}
+use Rattle.msp_pieces.proofs.costs.LateJobs.{due_at}
+use Rattle.msp_pieces.proofs.lists.Parts.{All-back}
+use Rattle.msp_pieces.proofs.lists.BackToBack.{end_in}
 use Rattle.msp_weighted.specs.Late.{EndLate}
 
 -- what is nowhere greater, and together no less, is the same everywhere

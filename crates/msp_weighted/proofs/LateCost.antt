@@ -9,10 +9,10 @@ use Rattle.msp_class.proofs.Sums.{total_below-scale, int_total_below-natural}
 use Rattle.msp_instance.specs.declared.Instance.{Instance}
 use Rattle.msp_instance.specs.Instance.{job_at}
 use Rattle.msp_instance.specs.Conditions.{HasArcs, HasWeight, Inner}
-use Rattle.msp_schedule.specs.declared.Schedule.{Schedule}
-use Rattle.msp_schedule.specs.Cost.{job_cost, end_of, cost_of}
-use Rattle.msp_schedule.proofs.costs.Charges.{charge_of, cost_of-sum}
-use Rattle.msp_schedule.proofs.costs.LateJobs.{is_late}
+use Rattle.msp_pieces.specs.declared.Schedule.{Schedule}
+use Rattle.msp_pieces.specs.Cost.{job_cost, end_of, cost_of}
+use Rattle.msp_pieces.proofs.costs.Charges.{charge_of, cost_of-sum}
+use Rattle.msp_pieces.proofs.costs.LateJobs.{is_late}
 use Rattle.msp_route.proofs.PlainJobs.{IsPlain, IsPlain-from}
 use Rattle.msp_weighted.specs.Late.{late_class}
 use Rattle.msp_weighted.specs.Values.{weight_at}

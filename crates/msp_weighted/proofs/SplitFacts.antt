@@ -3,7 +3,7 @@ use Rattle.std.proofs.Common.{List, ◌++◌, ℕ, AllPairs, IsPermutation}
 use Rattle.std.proofs.lemmas.List.Sorted.{IsPermutation-refl, IsPermutation-sym, IsPermutation-trans, IsPermutation-cons, IsPermutation-middle, All-permutation}
 use Rattle.std.proofs.lemmas.List.Kept.{AllPairs-cons}
 use Rattle.msp_class.proofs.Sums.{AllPairs-head, AllPairs-tail}
-use Rattle.msp_schedule.proofs.lists.Parts.{All-front}
+use Rattle.msp_pieces.proofs.lists.Parts.{All-front}
 use Rattle.msp_weighted.specs.Values.{IsSplit, empty, first, second}
 
 pub split-permutation : {xs ys zs : List ℕ} → IsSplit xs ys zs → IsPermutation xs (ys ++ zs)

@@ -7,8 +7,8 @@ use Rattle.std.proofs.lemmas.List.Sorted.{IsPermutation-reverse, IsPermutation-s
 use Rattle.msp_class.proofs.Sums.{OnceBelow, OnceBelow-from_permutation, length-OnceBelow, sum_by-OnceBelow, sum_by-filter, sum_by-mono, cond-le}
 use Rattle.msp_instance.specs.declared.Instance.{Instance}
 use Rattle.msp_instance.specs.Instance.{no_job}
-use Rattle.msp_schedule.specs.BackToBack.{time_at}
-use Rattle.msp_schedule.proofs.lists.Places.{sum_by-places}
+use Rattle.msp_pieces.specs.BackToBack.{time_at}
+use Rattle.msp_pieces.proofs.lists.Places.{sum_by-places}
 use Rattle.msp_route.specs.Dates.{IsDueBefore}
 use Rattle.msp_weighted.specs.Late.{time_of, total_time, EndInTime}
 use Rattle.msp_weighted.specs.Values.{weight_at, first_value, values_of, IsFilled, IsChosen, IsTableOrder}

@@ -8,8 +8,8 @@ use Rattle.std.proofs.lemmas.List.{take_more}
 use Rattle.std.proofs.lemmas.List.Elements.{All-head, All-tail}
 use Rattle.std.proofs.lemmas.List.Sums.{sum_by-cons}
 use Rattle.msp_instance.specs.declared.Instance.{Instance}
-use Rattle.msp_schedule.specs.BackToBack.{time_at}
-use Rattle.msp_schedule.proofs.costs.LateJobs.{not_late, due_at}
+use Rattle.msp_pieces.specs.BackToBack.{time_at}
+use Rattle.msp_pieces.proofs.costs.LateJobs.{not_late, due_at}
 use Rattle.msp_weighted.specs.Late.{EndInTime}
 use Rattle.msp_weighted.specs.Values.{weight_at, is_better, gains, value_with, values_after, first_value, values_of}
 

@@ -4,8 +4,8 @@ use Rattle.std.proofs.Common.{subst₂, ◌∙◌, arith, drop-cons}
 use Rattle.std.proofs.lemmas.List.{take_all, reverse-append}
 use Rattle.std.proofs.lemmas.List.Sums.{sum_by-cons}
 use Rattle.msp_instance.specs.declared.Instance.{Instance}
-use Rattle.msp_schedule.specs.BackToBack.{time_at}
-use Rattle.msp_schedule.proofs.costs.LateJobs.{due_at}
+use Rattle.msp_pieces.specs.BackToBack.{time_at}
+use Rattle.msp_pieces.proofs.costs.LateJobs.{due_at}
 use Rattle.msp_weighted.specs.Late.{EndInTime}
 use Rattle.msp_weighted.specs.Values.{weight_at, value_with, values_of, is_taken, IsSplit, empty, first, second, IsChosen}
 use Rattle.msp_weighted.proofs.ValueFacts.{gains-yes, gains-no, values-more, first_is}

@@ -9,7 +9,7 @@ use Rattle.msp_class.specs.declared.class.Crit.TheVariants.{SumWU}
 use Rattle.msp_instance.specs.declared.Job.{Job}
 use Rattle.msp_instance.specs.declared.Instance.{Instance}
 use Rattle.msp_instance.specs.Instance.{no_need, job_at}
-use Rattle.msp_schedule.specs.BackToBack.{time_at}
+use Rattle.msp_pieces.specs.BackToBack.{time_at}
 use Rattle.msp_route.specs.Dates.{IsDueBefore}
 
 -- One machine, neither preemption nor precedence nor release dates, any times, and the weight of late jobs: `1||sumwU`.

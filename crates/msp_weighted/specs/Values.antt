@@ -7,7 +7,7 @@ use Rattle.std.specs.Int.{bit_at}
 use Rattle.std.specs.List.{range_with_len}
 use Rattle.msp_instance.specs.declared.Instance.{Instance}
 use Rattle.msp_instance.specs.Instance.{job_at}
-use Rattle.msp_schedule.specs.BackToBack.{time_at}
+use Rattle.msp_pieces.specs.BackToBack.{time_at}
 use Rattle.msp_route.specs.Dates.{IsDueBefore}
 use Rattle.msp_weighted.specs.Late.{EndInTime}
 

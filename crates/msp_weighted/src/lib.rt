@@ -10,7 +10,7 @@
 //! Best (`proofs/LateBest.antt`): the jobs that are on time in any schedule are a choice that is on time back to back, since the machine has
 //! done those due by a date when it comes; so they weigh no more than the best value.
 //!
-//! It stands on `msp_schedule` and `msp_route`. The layers above use the clauses of `Solver`: where all jobs together take at most a
+//! It stands on `msp_pieces` and `msp_route`. The layers above use the clauses of `Solver`: where all jobs together take at most a
 //! million, the answer is best.
 #![tactic(auto)]
 

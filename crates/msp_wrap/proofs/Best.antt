@@ -10,19 +10,19 @@ use Rattle.msp_class.proofs.IntegerRing.{≤ℤ_antisym, *ℤ_comm, *ℤ-cancel}
 use Rattle.msp_instance.specs.declared.Instance.{Instance}
 use Rattle.msp_instance.specs.Instance.{job_at, no_job}
 use Rattle.msp_instance.specs.Conditions.{Inner}
-use Rattle.msp_schedule.specs.declared.Piece.{Piece}
-use Rattle.msp_schedule.specs.declared.Schedule.{Schedule}
-use Rattle.msp_schedule.specs.declared.Frac.{Frac}
-use Rattle.msp_schedule.specs.Piece.{length_of, pieces_of, finish, IsTimed}
-use Rattle.msp_schedule.specs.Feasible.{Feasible, HasPlace, HasOperation, MayRun, FollowsRoute, GetsWork, IsWholeWork, total, whole_work, work_of as part_of}
-use Rattle.msp_schedule.specs.Cost.{cost_of, Best}
-use Rattle.msp_schedule.specs.Fraction.{IsOver}
-use Rattle.msp_schedule.specs.Within.{IsMoment, Within}
-use Rattle.msp_schedule.proofs.feasible.OneMachine.{apart_in_int, pieces_of-job, total_lengths}
-use Rattle.msp_schedule.proofs.feasible.BackToBack.{ordered_without_arcs}
-use Rattle.msp_schedule.specs.BackToBack.{time_at}
-use Rattle.msp_schedule.proofs.bounds.Groups.{job_is_over, jobs_are_over}
-use Rattle.msp_schedule.proofs.costs.Makespan.{ends_by_whole_cost, cost_by_ends, cost_above}
+use Rattle.msp_pieces.specs.declared.Piece.{Piece}
+use Rattle.msp_pieces.specs.declared.Schedule.{Schedule}
+use Rattle.msp_pieces.specs.declared.Frac.{Frac}
+use Rattle.msp_pieces.specs.Piece.{length_of, pieces_of, finish, IsTimed}
+use Rattle.msp_pieces.specs.Feasible.{Feasible, HasPlace, HasOperation, MayRun, FollowsRoute, GetsWork, IsWholeWork, total, whole_work, work_of as part_of}
+use Rattle.msp_pieces.specs.Cost.{cost_of, Best}
+use Rattle.msp_pieces.specs.Fraction.{IsOver}
+use Rattle.msp_pieces.specs.Within.{IsMoment, Within}
+use Rattle.msp_pieces.proofs.feasible.OneMachine.{apart_in_int, pieces_of-job, total_lengths}
+use Rattle.msp_pieces.proofs.feasible.BackToBack.{ordered_without_arcs}
+use Rattle.msp_pieces.specs.BackToBack.{time_at}
+use Rattle.msp_pieces.proofs.bounds.Groups.{job_is_over, jobs_are_over}
+use Rattle.msp_pieces.proofs.costs.Makespan.{ends_by_whole_cost, cost_by_ends, cost_above}
 use Rattle.std.proofs.lemmas.List.Elements.{All-filter}
 use Rattle.msp_class.specs.declared.sizes.TheConstants.{MOST_JOBS, GREATEST}
 use Rattle.msp_route.specs.Bounds.{IsAnswer, answer_unit}

@@ -10,9 +10,9 @@ use Rattle.msp_class.proofs.Sums.{sum_by-mono, sum_by-constant}
 use Rattle.msp_instance.specs.declared.Instance.{Instance}
 use Rattle.msp_instance.specs.Instance.{no_need, no_job}
 use Rattle.msp_instance.specs.Conditions.{Inner}
-use Rattle.msp_schedule.proofs.feasible.OfClass.{IsOfClass, IsOfClass-from}
-use Rattle.msp_schedule.specs.BackToBack.{time_at}
-use Rattle.msp_schedule.proofs.lists.Places.{sum_by-places, total_below-within}
+use Rattle.msp_pieces.proofs.feasible.OfClass.{IsOfClass, IsOfClass-from}
+use Rattle.msp_pieces.specs.BackToBack.{time_at}
+use Rattle.msp_pieces.proofs.lists.Places.{sum_by-places, total_below-within}
 use Rattle.msp_wrap.specs.Wrap.{wrap_class, time_of, longest_time, total_time, least_end}
 
 abbrev pub IsWrapInstance : Instance → Type 0

@@ -12,11 +12,11 @@ use Rattle.msp_class.proofs.Sums.{sum_by-filter, sum_by-none}
 use Rattle.msp_instance.specs.declared.Instance.{Instance}
 use Rattle.msp_instance.specs.declared.Job.{Job}
 use Rattle.msp_instance.specs.Instance.{no_job}
-use Rattle.msp_schedule.specs.declared.Piece.{Piece}
-use Rattle.msp_schedule.specs.Intervals.{IsApartOn, size_of, work_of}
-use Rattle.msp_schedule.specs.Piece.{job_of, start, finish, IsTimed}
-use Rattle.msp_schedule.specs.BackToBack.{time_at}
-use Rattle.msp_schedule.proofs.feasible.Series.{AllPairs-append}
+use Rattle.msp_pieces.specs.declared.Piece.{Piece}
+use Rattle.msp_pieces.specs.Intervals.{IsApartOn, size_of, work_of}
+use Rattle.msp_pieces.specs.Piece.{job_of, start, finish, IsTimed}
+use Rattle.msp_pieces.specs.BackToBack.{time_at}
+use Rattle.msp_pieces.proofs.feasible.Series.{AllPairs-append}
 use Rattle.msp_wrap.specs.Wrap.{time_of, least_end}
 use Rattle.msp_wrap.specs.Laying.{part, machine_of, IsLaid, IsWrapped, HasOpened}
 use Rattle.msp_wrap.proofs.Facts.{IsWrapInstance, job_fits, jobs_fit, least_end-short, work_positive}

@@ -2,10 +2,10 @@
 use Rattle.std.specs.Prelude.{◌≡◌, ◌≢◌, ℕ, ◌+◌, ◌*◌, ◌<◌, ◌≤◌, ◌⊎◌, List, length, pos, All, AllPairs}
 use Rattle.msp_class.specs.Sums.{total_below}
 use Rattle.msp_instance.specs.declared.Instance.{Instance}
-use Rattle.msp_schedule.specs.declared.Piece.{Piece}
-use Rattle.msp_schedule.specs.Intervals.{IsApartOn, work_of}
-use Rattle.msp_schedule.specs.Piece.{job_of, start, finish, IsTimed}
-use Rattle.msp_schedule.specs.BackToBack.{time_at}
+use Rattle.msp_pieces.specs.declared.Piece.{Piece}
+use Rattle.msp_pieces.specs.Intervals.{IsApartOn, work_of}
+use Rattle.msp_pieces.specs.Piece.{job_of, start, finish, IsTimed}
+use Rattle.msp_pieces.specs.BackToBack.{time_at}
 
 -- A piece of a job's one operation.
 abbrev pub part : ℕ → ℕ → ℕ → ℕ → Piece

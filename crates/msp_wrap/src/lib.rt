@@ -8,9 +8,9 @@
 //! least end, and those of one machine do not overlap. The two parts of a cut job are apart, since no job is longer than the least end.
 //!
 //! Best (`proofs/Best.antt`): no job ends before its time is over, and the machines together have no more time than their number times the
-//! end (`law_of_ends` of `msp_schedule`).
+//! end (`law_of_ends` of `msp_pieces`).
 //!
-//! It stands on `msp_schedule` and `msp_route`. The layers above use the clauses of `Solver`: the answers are best; and that of `Wrap`:
+//! It stands on `msp_pieces` and `msp_route`. The layers above use the clauses of `Solver`: the answers are best; and that of `Wrap`:
 //! the cost is the greater of the longest time and the total time over the number of machines.
 #![tactic(auto)]
 

@@ -2,15 +2,15 @@
 ghost use Rattle.std.specs.Prelude.{◌≡◌, ◌+◌, ◌*◌, ◌<◌, ◌≤◌, ◌++◌, [], ◌∷◌, max, fold, length, map, sum_by, All, IfOk, OnOk};
 ghost use Rattle.msp_class.specs.declared.sizes.TheConstants.{MOST_JOBS, MOST_MACHINES, GREATEST};
 ghost use Rattle.msp_instance.specs.Conditions.{Inner};
-ghost use Rattle.msp_schedule.specs.Cost.{IsBest};
+ghost use Rattle.msp_pieces.specs.Cost.{IsBest};
 ghost use Rattle.msp_route.specs.Bounds.{IsAnswer};
 ghost use Rattle.msp_wrap.specs.Wrap.{wrap_class, time_of, least_end, IsWrapCost};
 ghost use Rattle.msp_wrap.specs.Laying.{part, HasOpened, IsWrapped, IsWhollyWrapped};
 
 use msp_class::{Class, Crit, Env, List, NoMemory, Order, Times};
 use msp_instance::{Instance, Job};
+use msp_pieces::{Piece, Schedule, Solution};
 use msp_route::{Solver, first_time};
-use msp_schedule::{Piece, Schedule, Solution};
 use std::alloc::Global;
 
 /// The class that the rule solves: `P|pmtn|Cmax`.
@@ -164,7 +164,7 @@ fn wrapped(alloc: Global, inst: &Instance) -> Result<Solution, NoMemory>
         unit: i128::from(inst.machines),
         pieces,
     };
-    let cost = msp_schedule::cost(inst, &schedule);
+    let cost = msp_pieces::cost(inst, &schedule);
     Ok(Solution { schedule, cost })
 }
 

@@ -10,13 +10,13 @@ use Rattle.msp_class.specs.Env.{kind_of}
 use Rattle.msp_class.proofs.IntegerRing.{natural, le-pos}
 use Rattle.msp_instance.specs.declared.Instance.{Instance}
 use Rattle.msp_instance.specs.Conditions.{InClass, LiesWithin}
-use Rattle.msp_schedule.specs.declared.Frac.{Frac}
-use Rattle.msp_schedule.specs.declared.Schedule.{Schedule}
-use Rattle.msp_schedule.specs.declared.limits.TheConstants.{GREATEST_COMPARED_DENOMINATOR}
-use Rattle.msp_schedule.specs.declared.Solution.{Solution}
-use Rattle.msp_schedule.specs.Feasible.{Feasible}
-use Rattle.msp_schedule.specs.Fraction.{IsLowest, IsSameFraction, IsComparable}
-use Rattle.msp_schedule.specs.Within.{Within}
+use Rattle.msp_pieces.specs.declared.Frac.{Frac}
+use Rattle.msp_pieces.specs.declared.Schedule.{Schedule}
+use Rattle.msp_pieces.specs.declared.limits.TheConstants.{GREATEST_COMPARED_DENOMINATOR}
+use Rattle.msp_pieces.specs.declared.Solution.{Solution}
+use Rattle.msp_pieces.specs.Feasible.{Feasible}
+use Rattle.msp_pieces.specs.Fraction.{IsLowest, IsSameFraction, IsComparable}
+use Rattle.msp_pieces.specs.Within.{Within}
 use Rattle.msp_route.specs.Bounds.{IsAnswer, answer_unit}
 use Rattle.msp_uniform.specs.Uniform.{cut_class}
 use Rattle.msp_cert.specs.declared.Proof.{Proof}

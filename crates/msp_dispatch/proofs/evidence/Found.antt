@@ -3,7 +3,7 @@ use Rattle.std.proofs.Common.{None, pos, arith}
 use Rattle.std.proofs.lemmas.List.Elements.{All-contains}
 use Rattle.msp_instance.specs.declared.Instance.{Instance}
 use Rattle.msp_instance.specs.Conditions.{InClass}
-use Rattle.msp_schedule.specs.declared.Frac.{Frac}
+use Rattle.msp_pieces.specs.declared.Frac.{Frac}
 use Rattle.msp_cert.specs.declared.Proof.{Proof}
 use Rattle.msp_cert.specs.declared.Proof.TheVariants.{Group, Machine, Line, Levels, Segments, Block, Prices}
 use Rattle.msp_cert.specs.Certificates.{KeepsLimits}

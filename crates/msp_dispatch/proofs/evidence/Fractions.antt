@@ -6,11 +6,11 @@ use Rattle.std.proofs.lemmas.Bool.{cases_lt}
 use Rattle.std.proofs.lemmas.Nat.Gcd.{dvd_refl, dvd-zero}
 use Rattle.std.proofs.lemmas.Int.{ints}
 use Rattle.msp_class.proofs.IntegerRing.{natural, pos-same, le-pos, zero-le-pos, ≤ℤ_of_same, ≤ℤ_trans, ≤ℤ_antisym, *ℤ_comm, *ℤ_assoc, *ℤ_exchange, *ℤ-cancel_same, *ℤ-zero, *ℤ-one, *ℤ-cancel}
-use Rattle.msp_schedule.specs.declared.Frac.{Frac}
-use Rattle.msp_schedule.specs.declared.Schedule.{Schedule}
-use Rattle.msp_schedule.specs.declared.Solution.{Solution}
-use Rattle.msp_schedule.specs.Fraction.{IsOver, IsLowest, IsSameFraction}
-use Rattle.msp_schedule.specs.Cost.{cost_of, Best, IsBest}
+use Rattle.msp_pieces.specs.declared.Frac.{Frac}
+use Rattle.msp_pieces.specs.declared.Schedule.{Schedule}
+use Rattle.msp_pieces.specs.declared.Solution.{Solution}
+use Rattle.msp_pieces.specs.Fraction.{IsOver, IsLowest, IsSameFraction}
+use Rattle.msp_pieces.specs.Cost.{cost_of, Best, IsBest}
 use Rattle.msp_instance.specs.declared.Instance.{Instance}
 
 pub some_product : (u r : ℕ) → 1 ≤ u → 1 ≤ r → 1 ≤ u * r

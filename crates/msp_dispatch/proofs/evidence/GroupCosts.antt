@@ -22,12 +22,12 @@ use Rattle.msp_instance.specs.declared.Instance.{Instance}
 use Rattle.msp_instance.specs.Instance.{no_job, no_need}
 use Rattle.msp_instance.specs.Conditions.{InClass}
 use Rattle.msp_instance.proofs.Limits.{Inner-from_class}
-use Rattle.msp_schedule.specs.declared.Frac.{Frac}
-use Rattle.msp_schedule.specs.Fraction.{IsOver}
-use Rattle.msp_schedule.specs.BackToBack.{time_at}
-use Rattle.msp_schedule.specs.Speeds.{HaveSpeeds, speed_by, speed_of}
-use Rattle.msp_schedule.specs.Blocks.{total_time}
-use Rattle.msp_schedule.proofs.feasible.OfClass.{IsOfClass-from}
+use Rattle.msp_pieces.specs.declared.Frac.{Frac}
+use Rattle.msp_pieces.specs.Fraction.{IsOver}
+use Rattle.msp_pieces.specs.BackToBack.{time_at}
+use Rattle.msp_pieces.specs.Speeds.{HaveSpeeds, speed_by, speed_of}
+use Rattle.msp_pieces.specs.Blocks.{total_time}
+use Rattle.msp_pieces.proofs.feasible.OfClass.{IsOfClass-from}
 use Rattle.msp_cert.specs.declared.Proof.TheVariants.{Group}
 use Rattle.msp_cert.specs.Certificates.{IsGroup, IsSpeedOfFastest}
 use Rattle.msp_cert.specs.Search.{AreLongestFirst, tried}

@@ -8,9 +8,9 @@ use Rattle.std.proofs.lemmas.List.Sums.{sum_by-cons, sum-map}
 use Rattle.std.proofs.lemmas.List.Sorted.{IsPermutation-map, IsPermutation-sym, IsPermutation-trans, sum_by-IsPermutation}
 use Rattle.msp_class.proofs.Sums.{AllPairs-head}
 use Rattle.msp_instance.specs.declared.Instance.{Instance}
-use Rattle.msp_schedule.specs.BackToBack.{time_at}
-use Rattle.msp_schedule.specs.Speeds.{speed_of}
-use Rattle.msp_schedule.specs.Blocks.{total_time}
+use Rattle.msp_pieces.specs.BackToBack.{time_at}
+use Rattle.msp_pieces.specs.Speeds.{speed_of}
+use Rattle.msp_pieces.specs.Blocks.{total_time}
 use Rattle.msp_cert.specs.Certificates.{IsSpeedOfFastest}
 use Rattle.msp_cert.specs.Search.{AreLongestFirst}
 use Rattle.msp_cert.proofs.Fastest.{some_threshold}

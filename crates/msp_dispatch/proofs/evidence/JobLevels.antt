@@ -10,11 +10,11 @@ use Rattle.msp_class.proofs.Sums.{total_below-range, total_below-same}
 use Rattle.msp_class.specs.Env.{kind_of}
 use Rattle.msp_instance.specs.declared.Instance.{Instance}
 use Rattle.msp_instance.specs.Conditions.{InClass}
-use Rattle.msp_schedule.specs.declared.Frac.{Frac}
-use Rattle.msp_schedule.specs.Levels.{IsLevel, jobs_from, level_bound}
+use Rattle.msp_pieces.specs.declared.Frac.{Frac}
+use Rattle.msp_pieces.specs.Levels.{IsLevel, jobs_from, level_bound}
 use Rattle.msp_cert.specs.declared.Proof.TheVariants.{Levels}
 use Rattle.msp_cert.specs.Certificates.{HasUnitJobs, of_job}
-use Rattle.msp_schedule.proofs.bounds.LevelBound.{StepsDown-levels}
+use Rattle.msp_pieces.proofs.bounds.LevelBound.{StepsDown-levels}
 use Rattle.msp_cert.proofs.Tails.{level_few}
 use Rattle.msp_levels.specs.Levels.{levels_class, IsLevelCost}
 use Rattle.msp_dispatch.specs.Shown.{IsTriedValue}

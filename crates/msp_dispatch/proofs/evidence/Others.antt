@@ -16,14 +16,14 @@ use Rattle.msp_instance.specs.Instance.{no_job, no_need, need_at}
 use Rattle.msp_instance.specs.Conditions.{InClass, LiesWithin, HasShape}
 use Rattle.msp_instance.proofs.ListingLemmas.{length-once}
 use Rattle.msp_instance.proofs.PathBitLemmas.{row_inside}
-use Rattle.msp_schedule.specs.declared.Solution.{Solution}
-use Rattle.msp_schedule.specs.Fraction.{IsOver}
-use Rattle.msp_schedule.specs.Cost.{IsBest}
-use Rattle.msp_schedule.specs.Blocks.{IsBlock, IsBlockValue, total_time}
-use Rattle.msp_schedule.specs.Prices.{all_prices, prices_of_jobs, prices_on_machine}
-use Rattle.msp_schedule.specs.Segments.{AreSegments, segments_bound}
-use Rattle.msp_schedule.specs.Feasible.{total}
-use Rattle.msp_schedule.proofs.bounds.PriceBounds.{total_over_range}
+use Rattle.msp_pieces.specs.declared.Solution.{Solution}
+use Rattle.msp_pieces.specs.Fraction.{IsOver}
+use Rattle.msp_pieces.specs.Cost.{IsBest}
+use Rattle.msp_pieces.specs.Blocks.{IsBlock, IsBlockValue, total_time}
+use Rattle.msp_pieces.specs.Prices.{all_prices, prices_of_jobs, prices_on_machine}
+use Rattle.msp_pieces.specs.Segments.{AreSegments, segments_bound}
+use Rattle.msp_pieces.specs.Feasible.{total}
+use Rattle.msp_pieces.proofs.bounds.PriceBounds.{total_over_range}
 use Rattle.msp_assign.specs.Prices.{price_at}
 use Rattle.msp_assign.specs.declared.assignment.Assignment.{Assignment}
 use Rattle.msp_cert.specs.declared.Proof.{Proof}

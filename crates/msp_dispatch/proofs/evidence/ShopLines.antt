@@ -4,9 +4,9 @@ use Rattle.std.specs.Prelude.{⊤, MatchOption}
 use Rattle.msp_class.specs.Env.{is_shop, fixed_machines}
 use Rattle.msp_instance.specs.declared.Instance.{Instance}
 use Rattle.msp_instance.specs.Conditions.{InClass}
-use Rattle.msp_schedule.specs.declared.Frac.{Frac}
-use Rattle.msp_schedule.specs.Fraction.{IsOver}
-use Rattle.msp_schedule.specs.Loads.{machine_load, job_length}
+use Rattle.msp_pieces.specs.declared.Frac.{Frac}
+use Rattle.msp_pieces.specs.Fraction.{IsOver}
+use Rattle.msp_pieces.specs.Loads.{machine_load, job_length}
 use Rattle.msp_cert.specs.declared.Proof.TheVariants.{Machine, Line}
 use Rattle.msp_cert.specs.Certificates.{IsShop}
 use Rattle.msp_shops.specs.Open.{open_class, IsOpenCost}

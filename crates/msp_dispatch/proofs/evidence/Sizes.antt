@@ -7,8 +7,8 @@ use Rattle.msp_instance.specs.declared.Job.{Job}
 use Rattle.msp_instance.specs.declared.Instance.{Instance}
 use Rattle.msp_instance.specs.Instance.{no_job, job_at}
 use Rattle.msp_instance.specs.Conditions.{InClass}
-use Rattle.msp_schedule.specs.Loads.{machine_load, job_length}
-use Rattle.msp_schedule.specs.BackToBack.{time_at}
+use Rattle.msp_pieces.specs.Loads.{machine_load, job_length}
+use Rattle.msp_pieces.specs.BackToBack.{time_at}
 use Rattle.msp_cert.specs.Small.{HasSmallNeeds, time_there}
 use Rattle.msp_cert.proofs.Facts.{small_needs}
 use Rattle.msp_cert.proofs.Tried.{time_small}

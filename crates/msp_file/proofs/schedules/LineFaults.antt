@@ -1,7 +1,7 @@
 -- The faults of the lines of a schedule.
 use Rattle.std.proofs.Common.{◌≡◌, ◌⊎◌, inl, inr, ℕ, ap, sym, ◌==◌, List, [], length, Result, Ok, Err, bytes_eq, codes, ℤ, nat_lt, subst}
 use Rattle.msp_class.specs.declared.sizes.TheConstants.{MOST_MACHINES, MOST_OPERATIONS, MOST_PIECES}
-use Rattle.msp_schedule.specs.declared.Piece.{Piece}
+use Rattle.msp_pieces.specs.declared.Piece.{Piece}
 use Rattle.msp_grammar.specs.declared.filed.Stated.{Stated}
 use Rattle.msp_file.specs.schedule.Reading.{title_at, cost_at, unit_at, moment_at, span_at, place_at, piece_at, piece_line_at, piece_step, IsStatedAs, ReadsPieces, ReadsStated, ReadsSchedule}
 use Rattle.msp_file.specs.schedule.Answers.{IsScheduleFault}

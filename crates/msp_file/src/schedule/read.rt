@@ -1,8 +1,8 @@
 // The reader of schedule texts.
 ghost use Rattle.std.specs.Prelude.{◌≡◌, ◌<◌, ◌≤◌, [], length, OnOk, IfOk, IfErr, Ok};
 ghost use Rattle.msp_class.specs.declared.list.TheConstants.{PLACES};
-ghost use Rattle.msp_schedule.specs.declared.Schedule.{Schedule as ScheduleValue};
-ghost use Rattle.msp_schedule.specs.declared.Frac.{Frac as FracValue};
+ghost use Rattle.msp_pieces.specs.declared.Schedule.{Schedule as ScheduleValue};
+ghost use Rattle.msp_pieces.specs.declared.Frac.{Frac as FracValue};
 ghost use Rattle.msp_grammar.specs.ScheduleText.{IsScheduleText};
 ghost use Rattle.msp_grammar.specs.declared.lines.limits.TheConstants.{MOST_BYTES, LAST_LINE};
 ghost use Rattle.msp_grammar.specs.lines.Reading.{ReadsMore};
@@ -19,7 +19,7 @@ use msp_grammar::{
 };
 use msp_instance::MOST_MACHINES;
 use msp_job_name::Names;
-use msp_schedule::{GREATEST_MOMENT, GREATEST_UNIT, MOST_PIECES, Piece, Schedule};
+use msp_pieces::{GREATEST_MOMENT, GREATEST_UNIT, MOST_PIECES, Piece, Schedule};
 use std::alloc::Global;
 
 #[tactic(auto, unfolding(crate::specs::schedule::Reading::unit_at))]

@@ -6,7 +6,7 @@ use Rattle.msp_grammar.specs.lines.Answers.{Fails}
 use Rattle.msp_grammar.specs.declared.lines.fault.FileFault.{FileFault}
 use Rattle.msp_grammar.specs.declared.lines.fault.FileFault.TheVariants.{Memory, After}
 use Rattle.msp_grammar.specs.lines.Reading.{◌>>=◌, Place, LineRead, job_read, more_read, end_read, ReadsMore, more_then, more_end, more_fault, Then, ReadsBy, all_of}
-use Rattle.msp_schedule.specs.declared.Frac.{Frac}
+use Rattle.msp_pieces.specs.declared.Frac.{Frac}
 use Rattle.msp_grammar.specs.lines.Steps.{FailsBy, MovesBy}
 use Rattle.msp_grammar.proofs.reading.LineLaws.{reads}
 

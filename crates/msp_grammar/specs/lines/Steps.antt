@@ -4,7 +4,7 @@ use Rattle.std.specs.List.{slice_split}
 use Rattle.msp_grammar.specs.declared.lines.fault.FileFault.{FileFault}
 use Rattle.msp_grammar.specs.declared.lines.fault.FileFault.TheVariants.{Memory}
 use Rattle.msp_grammar.specs.lines.Answers.{Fails}
-use Rattle.msp_schedule.specs.declared.Frac.{Frac}
+use Rattle.msp_pieces.specs.declared.Frac.{Frac}
 use Rattle.msp_text.specs.declared.number.Spelled.{Spelled}
 use Rattle.msp_text.specs.Bytes.{space_byte}
 use Rattle.msp_text.specs.Numbers.{capped}

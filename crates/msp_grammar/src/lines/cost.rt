@@ -13,7 +13,7 @@ use crate::lines::fault::{FileFault, What};
 use crate::lines::line::{field_line_at, split_first};
 use crate::lines::number::with_sign;
 use crate::lines::place::Lines;
-use msp_schedule::Frac;
+use msp_pieces::Frac;
 use msp_text::{Spelled, read_number};
 
 fn number_at(at: u32, field: &[u8]) -> Result<Spelled, FileFault>

@@ -1,7 +1,7 @@
 // The numbers of fields.
 ghost use Rattle.std.specs.Prelude.{◌≡◌, ◌≢◌, ◌<◌, ◌≤◌, IfOk, IfErr, pos, neg_ℤ, if◌then◌else◌};
 ghost use Rattle.msp_instance.specs.Conditions.{LiesWithin};
-ghost use Rattle.msp_schedule.specs.Within.{i128_limit};
+ghost use Rattle.msp_pieces.specs.Within.{i128_limit};
 ghost use Rattle.msp_grammar.specs.declared.lines.fault.FileFault.TheVariants.{Memory};
 ghost use Rattle.msp_grammar.specs.lines.Reading.{natural_at, ordinal_at, integer_at};
 

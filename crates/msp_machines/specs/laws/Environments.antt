@@ -10,8 +10,8 @@ use Rattle.msp_class.proofs.EnvNumbers.{env_number-injective}
 use Rattle.msp_instance.specs.declared.Need.{Need}
 use Rattle.msp_instance.specs.declared.Instance.{Instance}
 use Rattle.msp_instance.specs.Conditions.{IsRoute, HasShape, HasSpeeds, HasTimes, Inner, least_time, greatest_time, inner_limits}
-use Rattle.msp_schedule.proofs.costs.Charges.{SameCharges-from_class}
-use Rattle.msp_schedule.proofs.changes.Serves.{SameWork-from_class}
+use Rattle.msp_pieces.proofs.costs.Charges.{SameCharges-from_class}
+use Rattle.msp_pieces.proofs.changes.Serves.{SameWork-from_class}
 use Rattle.msp_table.specs.Rows.{goes_of, table}
 use Rattle.msp_route.specs.Law.{Applies}
 use Rattle.msp_route.specs.Changes.{led}

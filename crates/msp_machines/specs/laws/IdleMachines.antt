@@ -19,10 +19,10 @@ use Rattle.msp_instance.specs.declared.Need.{Need}
 use Rattle.msp_instance.specs.declared.Instance.{Instance}
 use Rattle.msp_instance.specs.Instance.{no_need, no_job, job_at, need_at, common_time}
 use Rattle.msp_instance.specs.Conditions.{Limits, HasSpeeds, HasShape, HasTimes, HasNeeds, HasSameTimes, IsSingleNeed, IsNeedPerMachine, Inner, inner_limits, inner_factor, least_time, greatest_time}
-use Rattle.msp_schedule.specs.Feasible.{HasOperation, MayRun, whole_work}
-use Rattle.msp_schedule.proofs.feasible.Frames.{frame_by, frame_of, rate_on, job_at-map}
-use Rattle.msp_schedule.proofs.changes.Serves.{IsMultiple-same, Serves}
-use Rattle.msp_schedule.proofs.costs.Charges.{SameCharges-from_map, job_cost-reads}
+use Rattle.msp_pieces.specs.Feasible.{HasOperation, MayRun, whole_work}
+use Rattle.msp_pieces.proofs.feasible.Frames.{frame_by, frame_of, rate_on, job_at-map}
+use Rattle.msp_pieces.proofs.changes.Serves.{IsMultiple-same, Serves}
+use Rattle.msp_pieces.proofs.costs.Charges.{SameCharges-from_map, job_cost-reads}
 use Rattle.msp_table.specs.Rows.{goes_of, table}
 use Rattle.msp_route.specs.Law.{Applies}
 use Rattle.msp_route.specs.Bounds.{greatest_unit}

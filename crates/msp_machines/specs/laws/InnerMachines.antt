@@ -15,7 +15,7 @@ use Rattle.msp_instance.specs.declared.Instance.{Instance}
 use Rattle.msp_instance.specs.Instance.{job_at, common_time}
 use Rattle.msp_instance.specs.Conditions.{MeetsConditions, IsJobOf, HasNeeds, HasSameTimes, HasSpeeds, HasSmallMultiple, HasNearDues, Inner, inner_limits, inner_factor}
 use Rattle.msp_instance.proofs.Limits.{AreWithin, IsJobOf-wider}
-use Rattle.msp_schedule.proofs.feasible.Frames.{job_at-map}
+use Rattle.msp_pieces.proofs.feasible.Frames.{job_at-map}
 
 -- the instance in another environment, with other machines and jobs
 abbrev pub in_environment : Env → ℕ → List ℕ → List Job → Instance → Instance

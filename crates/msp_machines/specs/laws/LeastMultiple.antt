@@ -11,7 +11,7 @@ use Rattle.std.proofs.lemmas.List.Elements.{All-weaker, All-nil, All-cons, All-h
 use Rattle.msp_instance.specs.Conditions.{HasSmallMultiple}
 use Rattle.msp_instance.specs.Multiples.{IsLeastOfAll}
 use Rattle.msp_class.specs.declared.sizes.TheConstants.{GREATEST_MULTIPLE}
-use Rattle.msp_schedule.proofs.feasible.OneMachine.{both_true}
+use Rattle.msp_pieces.proofs.feasible.OneMachine.{both_true}
 use Rattle.msp_route.specs.Rates.{least_common_multiple}
 
 -- ---- the test of a common multiple

@@ -17,10 +17,10 @@ use Rattle.msp_instance.specs.declared.Instance.{Instance}
 use Rattle.msp_instance.specs.Instance.{no_need, job_at, need_at, common_time}
 use Rattle.msp_instance.specs.Conditions.{HasNeeds, HasShape, HasSpeeds, HasSameTimes, Inner, inner_limits, inner_factor, least_time, greatest_time}
 use Rattle.msp_instance.proofs.Limits.{AreWithin}
-use Rattle.msp_schedule.specs.Feasible.{product_of_times}
-use Rattle.msp_schedule.proofs.changes.Serves.{Serves, SameOperations}
-use Rattle.msp_schedule.proofs.costs.Charges.{SameCharges-from_map, job_cost-reads}
-use Rattle.msp_schedule.proofs.feasible.Frames.{frame_by, rate_on, IsShaped-from_conditions, HasTimePerMachine, job_at-map, rate_times, rate_positive}
+use Rattle.msp_pieces.specs.Feasible.{product_of_times}
+use Rattle.msp_pieces.proofs.changes.Serves.{Serves, SameOperations}
+use Rattle.msp_pieces.proofs.costs.Charges.{SameCharges-from_map, job_cost-reads}
+use Rattle.msp_pieces.proofs.feasible.Frames.{frame_by, rate_on, IsShaped-from_conditions, HasTimePerMachine, job_at-map, rate_times, rate_positive}
 use Rattle.msp_table.specs.Rows.{goes_of, table}
 use Rattle.msp_route.specs.Law.{Applies}
 use Rattle.msp_route.specs.Bounds.{greatest_unit}

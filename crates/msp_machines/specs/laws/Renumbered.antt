@@ -10,13 +10,13 @@ use Rattle.std.proofs.lemmas.Simd.{map-map}
 use Rattle.msp_class.specs.Env.{kind_of}
 use Rattle.msp_class.proofs.IntegerRing.{≤ℤ_trans, ≤ℤ_of_same, zero-*ℤ, +ℤ_idr}
 use Rattle.msp_instance.specs.declared.Instance.{Instance}
-use Rattle.msp_schedule.specs.declared.Piece.{Piece}
-use Rattle.msp_schedule.specs.declared.Schedule.{Schedule}
-use Rattle.msp_schedule.specs.declared.Solution.{Solution}
-use Rattle.msp_schedule.specs.Feasible.{Feasible}
-use Rattle.msp_schedule.specs.Cost.{cost_of, end_of, IsSolution}
-use Rattle.msp_schedule.proofs.costs.Charges.{SameCharges, cost-same_ends}
-use Rattle.msp_schedule.proofs.changes.Moves.{filter-map}
+use Rattle.msp_pieces.specs.declared.Piece.{Piece}
+use Rattle.msp_pieces.specs.declared.Schedule.{Schedule}
+use Rattle.msp_pieces.specs.declared.Solution.{Solution}
+use Rattle.msp_pieces.specs.Feasible.{Feasible}
+use Rattle.msp_pieces.specs.Cost.{cost_of, end_of, IsSolution}
+use Rattle.msp_pieces.proofs.costs.Charges.{SameCharges, cost-same_ends}
+use Rattle.msp_pieces.proofs.changes.Moves.{filter-map}
 use Rattle.msp_route.specs.Law.{IsLower, IsForth, IsBack, IsReordered, cost_above, cost_below}
 use Rattle.msp_route.specs.Bounds.{EndsBy, IsBounded, KeepsBounds, greatest_unit, keeps_schedule, trades_dates}
 use Rattle.msp_route.specs.Changes.{same_costs}

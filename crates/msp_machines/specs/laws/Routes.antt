@@ -18,13 +18,13 @@ use Rattle.msp_instance.specs.declared.Need.{Need}
 use Rattle.msp_instance.specs.declared.Instance.{Instance}
 use Rattle.msp_instance.specs.Instance.{no_need, no_job, job_at, need_at, common_time}
 use Rattle.msp_instance.specs.Conditions.{Limits, HasSpeeds, HasShape, HasTimes, HasNeeds, HasSameTimes, IsNeedPerMachine, IsRoute, Inner, inner_limits, inner_factor, least_time, greatest_time}
-use Rattle.msp_schedule.specs.declared.Piece.{Piece}
-use Rattle.msp_schedule.specs.declared.Schedule.{Schedule}
-use Rattle.msp_schedule.specs.Feasible.{Feasible, MayRun}
-use Rattle.msp_schedule.proofs.costs.Charges.{SameCharges-from_map, job_cost-reads}
-use Rattle.msp_schedule.proofs.feasible.Frames.{IsShaped, IsShaped-from_conditions, frame_by, job_at-map}
-use Rattle.msp_schedule.proofs.changes.Moves.{Suits}
-use Rattle.msp_schedule.proofs.changes.Transport.{Stretches-identity, carried, carried_schedule, Feasible-carried}
+use Rattle.msp_pieces.specs.declared.Piece.{Piece}
+use Rattle.msp_pieces.specs.declared.Schedule.{Schedule}
+use Rattle.msp_pieces.specs.Feasible.{Feasible, MayRun}
+use Rattle.msp_pieces.proofs.costs.Charges.{SameCharges-from_map, job_cost-reads}
+use Rattle.msp_pieces.proofs.feasible.Frames.{IsShaped, IsShaped-from_conditions, frame_by, job_at-map}
+use Rattle.msp_pieces.proofs.changes.Moves.{Suits}
+use Rattle.msp_pieces.proofs.changes.Transport.{Stretches-identity, carried, carried_schedule, Feasible-carried}
 use Rattle.msp_table.specs.Rows.{goes_of, table}
 use Rattle.msp_route.specs.Law.{Applies}
 use Rattle.msp_route.specs.Bounds.{greatest_unit}

@@ -3,9 +3,9 @@ use Rattle.std.proofs.Common.{ℕ, ◌≤ℤ◌}
 use Rattle.msp_class.specs.Env.{kind_of}
 use Rattle.msp_instance.specs.declared.Instance.{Instance}
 use Rattle.msp_instance.specs.Conditions.{Inner, inner_limits}
-use Rattle.msp_schedule.proofs.feasible.Frames.{IsShaped, IsShaped-from_conditions, frame_of}
-use Rattle.msp_schedule.proofs.changes.Serves.{Serves, Feasible-served}
-use Rattle.msp_schedule.proofs.costs.Charges.{SameCharges, cost-same_charges}
+use Rattle.msp_pieces.proofs.feasible.Frames.{IsShaped, IsShaped-from_conditions, frame_of}
+use Rattle.msp_pieces.proofs.changes.Serves.{Serves, Feasible-served}
+use Rattle.msp_pieces.proofs.costs.Charges.{SameCharges, cost-same_charges}
 use Rattle.msp_route.specs.Law.{IsLower}
 use Rattle.msp_route.specs.Bounds.{greatest_unit}
 use Rattle.msp_route.specs.Stays.{SchedulesStay}

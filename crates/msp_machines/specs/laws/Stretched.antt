@@ -26,13 +26,13 @@ use Rattle.msp_instance.specs.declared.Instance.{Instance}
 use Rattle.msp_instance.specs.Instance.{no_need, no_job, job_at, need_at, common_time}
 use Rattle.msp_instance.specs.Conditions.{IsJobOf, HasNeeds, HasShape, HasSpeeds, HasSameTimes, HasRelease, HasDue, HasCurve, HasNearDues, Inner, inner_limits, inner_factor, least_time, greatest_time}
 use Rattle.msp_instance.specs.Multiples.{IsLeastOfAll}
-use Rattle.msp_schedule.specs.declared.Schedule.{Schedule}
-use Rattle.msp_schedule.specs.Feasible.{Feasible, product_of_times}
-use Rattle.msp_schedule.specs.Cost.{cost_of, end_of, job_cost}
-use Rattle.msp_schedule.proofs.feasible.Frames.{frame_by, rate_on, IsShaped, IsShaped-from_conditions, HasTimePerMachine, job_at-map, rate_times, product_of_times-positive}
-use Rattle.msp_schedule.proofs.changes.Moves.{Suits}
-use Rattle.msp_schedule.proofs.changes.Transport.{Carries, Stretches-identity, Stretches-factor, Feasible-carried, end_of-carried}
-use Rattle.msp_schedule.proofs.costs.Charges.{charge_of, cost-multiple, job_cost-scale}
+use Rattle.msp_pieces.specs.declared.Schedule.{Schedule}
+use Rattle.msp_pieces.specs.Feasible.{Feasible, product_of_times}
+use Rattle.msp_pieces.specs.Cost.{cost_of, end_of, job_cost}
+use Rattle.msp_pieces.proofs.feasible.Frames.{frame_by, rate_on, IsShaped, IsShaped-from_conditions, HasTimePerMachine, job_at-map, rate_times, product_of_times-positive}
+use Rattle.msp_pieces.proofs.changes.Moves.{Suits}
+use Rattle.msp_pieces.proofs.changes.Transport.{Carries, Stretches-identity, Stretches-factor, Feasible-carried, end_of-carried}
+use Rattle.msp_pieces.proofs.costs.Charges.{charge_of, cost-multiple, job_cost-scale}
 use Rattle.msp_table.specs.Rows.{goes_of, table}
 use Rattle.msp_route.specs.Law.{Rate, Applies, IsLower, IsPositive, IsForth, IsBack}
 use Rattle.msp_route.proofs.Applied.{part_and_condition}

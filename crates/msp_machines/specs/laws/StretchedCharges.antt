@@ -9,7 +9,7 @@ use Rattle.msp_class.proofs.Sums.{sum_by-agree, sum_by-scale, sum_by-map}
 use Rattle.msp_instance.specs.declared.Step.{Step}
 use Rattle.msp_instance.specs.declared.Curve.{Curve}
 use Rattle.msp_instance.specs.declared.Job.{Job}
-use Rattle.msp_schedule.specs.Cost.{jump, jumps, late, lateness, job_cost}
+use Rattle.msp_pieces.specs.Cost.{jump, jumps, late, lateness, job_cost}
 use Rattle.msp_machines.specs.Unrelated.{stretched, stretched_curve, stretched_step}
 use Rattle.msp_route.specs.Rates.{cost_factor}
 

@@ -9,7 +9,7 @@ use Rattle.msp_class.specs.declared.sizes.TheConstants.{GREATEST, GREATEST_MULTI
 use Rattle.msp_instance.specs.declared.Curve.{Curve}
 use Rattle.msp_instance.specs.Instance.{no_curve}
 use Rattle.msp_instance.specs.Conditions.{LiesWithin, HasRelease, HasDue, HasCurve, inner_limits}
-use Rattle.msp_schedule.proofs.costs.Small.{product_within}
+use Rattle.msp_pieces.proofs.costs.Small.{product_within}
 use Rattle.msp_machines.specs.Unrelated.{stretched_curve, stretched_step}
 
 -- the factor is that of the limits at most

@@ -16,10 +16,10 @@ use Rattle.msp_instance.specs.declared.Job.{Job}
 use Rattle.msp_instance.specs.declared.Instance.{Instance}
 use Rattle.msp_instance.specs.Instance.{job_at}
 use Rattle.msp_instance.specs.Conditions.{IsJobOf, HasSameTimes, HasDue, HasWeight, LiesWithin, Inner, inner_limits, inner_factor}
-use Rattle.msp_schedule.specs.Cost.{job_cost, lateness}
-use Rattle.msp_schedule.proofs.feasible.Frames.{job_at-map}
-use Rattle.msp_schedule.proofs.costs.Charges.{SameCharges-from_map}
-use Rattle.msp_schedule.proofs.changes.Serves.{SameNeeds-from_map, SameWork-from_map}
+use Rattle.msp_pieces.specs.Cost.{job_cost, lateness}
+use Rattle.msp_pieces.proofs.feasible.Frames.{job_at-map}
+use Rattle.msp_pieces.proofs.costs.Charges.{SameCharges-from_map}
+use Rattle.msp_pieces.proofs.changes.Serves.{SameNeeds-from_map, SameWork-from_map}
 use Rattle.msp_table.specs.Rows.{goes_of, table}
 use Rattle.msp_route.specs.Law.{Applies}
 use Rattle.msp_plain.specs.Changes.{by_curve, led_by_curves}

@@ -22,14 +22,14 @@ use Rattle.msp_instance.specs.declared.Job.{Job}
 use Rattle.msp_instance.specs.declared.Instance.{Instance}
 use Rattle.msp_instance.specs.Instance.{no_need, no_job, job_at, common_time}
 use Rattle.msp_instance.specs.Conditions.{Limits, IsJobOf, HasShape, HasTimes, HasRelease, Inner, inner_limits, inner_factor, least_time, greatest_time}
-use Rattle.msp_schedule.specs.declared.Schedule.{Schedule}
-use Rattle.msp_schedule.specs.Feasible.{Feasible}
-use Rattle.msp_schedule.specs.Cost.{cost_of, end_of}
-use Rattle.msp_schedule.proofs.feasible.OneMachine.{both_true}
-use Rattle.msp_schedule.proofs.feasible.Frames.{IsShaped, IsShaped-from_conditions, job_at-map}
-use Rattle.msp_schedule.proofs.changes.Busy.{busy_moment-lengths}
-use Rattle.msp_schedule.proofs.lists.Permuted.{Feasible-permutation, last_end-permutation}
-use Rattle.msp_schedule.proofs.changes.UnitTimes.{IsUnitOf, IsUnitOf-from_conditions, IsUnheaded, IsPlain, Feasible-to_unit, Feasible-from_unit, end_of-closed_le, cost-plain}
+use Rattle.msp_pieces.specs.declared.Schedule.{Schedule}
+use Rattle.msp_pieces.specs.Feasible.{Feasible}
+use Rattle.msp_pieces.specs.Cost.{cost_of, end_of}
+use Rattle.msp_pieces.proofs.feasible.OneMachine.{both_true}
+use Rattle.msp_pieces.proofs.feasible.Frames.{IsShaped, IsShaped-from_conditions, job_at-map}
+use Rattle.msp_pieces.proofs.changes.Busy.{busy_moment-lengths}
+use Rattle.msp_pieces.proofs.lists.Permuted.{Feasible-permutation, last_end-permutation}
+use Rattle.msp_pieces.proofs.changes.UnitTimes.{IsUnitOf, IsUnitOf-from_conditions, IsUnheaded, IsPlain, Feasible-to_unit, Feasible-from_unit, end_of-closed_le, cost-plain}
 use Rattle.msp_table.specs.Rows.{goes_of, table}
 use Rattle.msp_route.specs.Law.{Applies, IsLower, IsPositive, IsForth, IsBack, IsReordered}
 use Rattle.msp_route.specs.Bounds.{EndsBy}

@@ -18,15 +18,15 @@ use Rattle.msp_instance.specs.declared.Need.{Need}
 use Rattle.msp_instance.specs.declared.Instance.{Instance}
 use Rattle.msp_instance.specs.Instance.{no_need, no_job, job_at, need_at}
 use Rattle.msp_instance.specs.Conditions.{Limits, MeetsConditions, HasShape, HasSpeeds, HasSameTimes}
-use Rattle.msp_schedule.specs.declared.Piece.{Piece}
-use Rattle.msp_schedule.specs.declared.Schedule.{Schedule}
-use Rattle.msp_schedule.specs.Piece.{length_of, start, finish, IsTimed}
-use Rattle.msp_schedule.specs.Feasible.{Feasible, HasOperation, MayRun, product_of_times, total, whole_work}
-use Rattle.msp_schedule.specs.Intervals.{size_of}
-use Rattle.msp_schedule.proofs.feasible.OneMachine.{IsTimed-from_span, total_lengths}
-use Rattle.msp_schedule.proofs.feasible.Frames.{Frame, frame_by, rate_on, Lasts, Stands, Fits, IsShaped-from_conditions, HasTimePerMachine, rate_positive, product_of_times-cons}
-use Rattle.msp_schedule.proofs.feasible.Frames.{of_operation, of_operation-named, part, Fits-from_feasible}
-use Rattle.msp_schedule.proofs.changes.Moves.{total-cons}
+use Rattle.msp_pieces.specs.declared.Piece.{Piece}
+use Rattle.msp_pieces.specs.declared.Schedule.{Schedule}
+use Rattle.msp_pieces.specs.Piece.{length_of, start, finish, IsTimed}
+use Rattle.msp_pieces.specs.Feasible.{Feasible, HasOperation, MayRun, product_of_times, total, whole_work}
+use Rattle.msp_pieces.specs.Intervals.{size_of}
+use Rattle.msp_pieces.proofs.feasible.OneMachine.{IsTimed-from_span, total_lengths}
+use Rattle.msp_pieces.proofs.feasible.Frames.{Frame, frame_by, rate_on, Lasts, Stands, Fits, IsShaped-from_conditions, HasTimePerMachine, rate_positive, product_of_times-cons}
+use Rattle.msp_pieces.proofs.feasible.Frames.{of_operation, of_operation-named, part, Fits-from_feasible}
+use Rattle.msp_pieces.proofs.changes.Moves.{total-cons}
 
 -- ---- a sum by two keys
 module _ {X : Type 0} (p q : X → Bool) where

@@ -22,9 +22,9 @@ use Rattle.msp_instance.specs.declared.Instance.{Instance}
 use Rattle.msp_instance.specs.Instance.{no_need, no_job, job_at, common_time}
 use Rattle.msp_instance.specs.Conditions.{Limits, IsJobOf, HasTimes, HasSameTimes, HasRelease, HasDue, HasWeight, HasCurve, HasArcs, HasDegree, Inner, inner_limits, inner_factor}
 use Rattle.msp_instance.specs.Conditions.{least_time, greatest_time}
-use Rattle.msp_schedule.specs.Cost.{job_cost, lateness, tardiness, late}
-use Rattle.msp_schedule.proofs.costs.Charges.{SameCharges-from_class}
-use Rattle.msp_schedule.proofs.changes.Serves.{SameWork-from_class}
+use Rattle.msp_pieces.specs.Cost.{job_cost, lateness, tardiness, late}
+use Rattle.msp_pieces.proofs.costs.Charges.{SameCharges-from_class}
+use Rattle.msp_pieces.proofs.changes.Serves.{SameWork-from_class}
 use Rattle.msp_table.specs.Rows.{goes_of, table}
 use Rattle.msp_route.specs.Law.{Applies}
 use Rattle.msp_route.specs.Changes.{led}

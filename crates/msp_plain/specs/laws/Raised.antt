@@ -17,14 +17,14 @@ use Rattle.msp_instance.specs.declared.Job.{Job}
 use Rattle.msp_instance.specs.declared.Instance.{Instance}
 use Rattle.msp_instance.specs.Instance.{job_at}
 use Rattle.msp_instance.specs.Conditions.{IsJobOf, HasSameTimes, HasDue, HasWeight, HasCurve, LiesWithin, Inner, inner_limits, inner_factor}
-use Rattle.msp_schedule.specs.declared.Schedule.{Schedule}
-use Rattle.msp_schedule.specs.Feasible.{Feasible}
-use Rattle.msp_schedule.specs.Cost.{end_of, job_cost, cost_of}
-use Rattle.msp_schedule.proofs.feasible.Frames.{frame_of, Fits, job_at-map, IsShaped, IsShaped-from_conditions, Fits-from_feasible, HasWork-from_conditions}
-use Rattle.msp_schedule.proofs.feasible.LastEnds.{last_end-bound, last_end-reached}
-use Rattle.msp_schedule.proofs.costs.Charges.{charge_of, cost_of-sum}
-use Rattle.msp_schedule.proofs.costs.InTime.{meets_jobs, sum_zero, late_zero, late_nonneg}
-use Rattle.msp_schedule.proofs.changes.Serves.{SameWork, SameWork-sym, SameNeeds-from_map, SameWork-from_map, IsShaped-same, Feasible-same}
+use Rattle.msp_pieces.specs.declared.Schedule.{Schedule}
+use Rattle.msp_pieces.specs.Feasible.{Feasible}
+use Rattle.msp_pieces.specs.Cost.{end_of, job_cost, cost_of}
+use Rattle.msp_pieces.proofs.feasible.Frames.{frame_of, Fits, job_at-map, IsShaped, IsShaped-from_conditions, Fits-from_feasible, HasWork-from_conditions}
+use Rattle.msp_pieces.proofs.feasible.LastEnds.{last_end-bound, last_end-reached}
+use Rattle.msp_pieces.proofs.costs.Charges.{charge_of, cost_of-sum}
+use Rattle.msp_pieces.proofs.costs.InTime.{meets_jobs, sum_zero, late_zero, late_nonneg}
+use Rattle.msp_pieces.proofs.changes.Serves.{SameWork, SameWork-sym, SameNeeds-from_map, SameWork-from_map, IsShaped-same, Feasible-same}
 use Rattle.msp_plain.specs.Changes.{raised, shift_of}
 use Rattle.msp_plain.specs.Threshold.{IsThresholdSum, IsThreshold, Meets, IsInTime}
 use Rattle.msp_route.proofs.InnerChanges.{common_time-map, Inner-changed}

@@ -5,9 +5,9 @@ use Rattle.std.proofs.lemmas.Bool.{and_parts, eqb-true, leb-true}
 use Rattle.msp_class.proofs.IntegerRing.{≤ℤ_of_same, zero-*ℤ, +ℤ_idr}
 use Rattle.msp_instance.specs.declared.Instance.{Instance}
 use Rattle.msp_instance.specs.Conditions.{Inner}
-use Rattle.msp_schedule.specs.declared.Schedule.{Schedule}
-use Rattle.msp_schedule.specs.Feasible.{Feasible}
-use Rattle.msp_schedule.specs.Cost.{cost_of}
+use Rattle.msp_pieces.specs.declared.Schedule.{Schedule}
+use Rattle.msp_pieces.specs.Feasible.{Feasible}
+use Rattle.msp_pieces.specs.Cost.{cost_of}
 use Rattle.msp_table.specs.declared.row.TheConstants.{ROWS}
 use Rattle.msp_table.specs.Rows.{carries}
 use Rattle.msp_route.specs.Law.{Applies, IsPositive, IsForth, IsBack, cost_above, cost_below}

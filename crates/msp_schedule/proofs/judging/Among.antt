@@ -9,8 +9,8 @@ use Rattle.msp_instance.specs.Conditions.{LiesWithin}
 use Rattle.std.proofs.lemmas.List.{map-append, take_more, take-append-drop}
 use Rattle.std.proofs.lemmas.List.Sums.{fold-append}
 use Rattle.std.proofs.lemmas.List.Elements.{filter-append}
-use Rattle.msp_schedule.specs.declared.Piece.{Piece}
-use Rattle.msp_schedule.specs.Feasible.{total}
+use Rattle.msp_pieces.specs.declared.Piece.{Piece}
+use Rattle.msp_pieces.specs.Feasible.{total}
 use Rattle.msp_schedule.specs.Breaks.{pieces_among}
 
 abbrev pub is_among : ℕ → ℕ → Piece → Bool

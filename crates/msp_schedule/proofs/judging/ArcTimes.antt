@@ -9,13 +9,13 @@ use Rattle.std.proofs.lemmas.Grind.{get_or-set_at}
 use Rattle.std.proofs.lemmas.Int.{ints, clamps}
 use Rattle.msp_instance.specs.declared.Arc.{Arc}
 use Rattle.msp_class.specs.declared.sizes.TheConstants.{MOST_JOBS}
-use Rattle.msp_schedule.specs.declared.Piece.{Piece}
-use Rattle.msp_schedule.specs.declared.limits.TheConstants.{GREATEST_MOMENT}
+use Rattle.msp_pieces.specs.declared.Piece.{Piece}
+use Rattle.msp_pieces.specs.declared.limits.TheConstants.{GREATEST_MOMENT}
 use Rattle.msp_schedule.specs.Begins.{IsBegin, AreBegins}
 use Rattle.msp_schedule.specs.Breaks.{KeepsArc, no_arc}
-use Rattle.msp_schedule.specs.Cost.{last_end}
-use Rattle.msp_schedule.specs.Within.{IsMoment}
-use Rattle.msp_schedule.proofs.feasible.LastEnds.{last_end-bound, last_end-least}
+use Rattle.msp_pieces.specs.Cost.{last_end}
+use Rattle.msp_pieces.specs.Within.{IsMoment}
+use Rattle.msp_pieces.proofs.feasible.LastEnds.{last_end-bound, last_end-least}
 
 pub AreBegins-none : (begins : List ℤ) → ((j : ℕ) → j < MOST_JOBS → slice_index_or begins j (pos 0) ≡ GREATEST_MOMENT) → AreBegins begins []
 AreBegins-none begins e j h = record { bound = All-nil _; greatest = λ b small all. subst (λ x. b ≤ℤ x) (sym (e j h)) small }

@@ -2,13 +2,13 @@
 use Rattle.std.proofs.Common.{◌≡◌, ℕ, List, All, AllPairs, ℤ, ◌<ℤ◌, sym, subst}
 use Rattle.msp_instance.specs.declared.Arc.{Arc as ArcValue}
 use Rattle.msp_instance.specs.declared.Instance.{Instance}
-use Rattle.msp_schedule.specs.declared.Piece.{Piece}
-use Rattle.msp_schedule.specs.declared.Schedule.{Schedule}
+use Rattle.msp_pieces.specs.declared.Piece.{Piece}
+use Rattle.msp_pieces.specs.declared.Schedule.{Schedule}
 use Rattle.msp_schedule.specs.declared.breaks.Break.{Break}
 use Rattle.msp_schedule.specs.declared.breaks.Break.TheVariants.{Span, Place, Machine, Job, Release, Arc, Route, Work}
-use Rattle.msp_schedule.specs.Piece.{IsApart}
-use Rattle.msp_schedule.specs.Feasible.{Feasible, HasPlace}
-use Rattle.msp_schedule.specs.Within.{Within}
+use Rattle.msp_pieces.specs.Piece.{IsApart}
+use Rattle.msp_pieces.specs.Feasible.{Feasible, HasPlace}
+use Rattle.msp_pieces.specs.Within.{Within}
 use Rattle.msp_schedule.specs.Works.{AreWorked, IsFirstUnworked}
 use Rattle.msp_schedule.specs.Breaks.{IsEmpty, IsEarly, IsReleased, IsFirstPiece, IsFirstOverlap, KeepsArc, IsFirstLostArc, KeepsRoutes, IsFirstOutOfRoute, HasRoutes, IsFirstBreak}
 use Rattle.msp_schedule.proofs.judging.FirstBreaks.{KeepsUpTo, first_of, first_release_at, first_work_at, feasible_if_kept, with_pieces, same_schedule}

@@ -9,14 +9,14 @@ use Rattle.msp_class.specs.declared.environments.EnvKind.TheVariants.{Identical,
 use Rattle.msp_class.specs.Env.{kind_of}
 use Rattle.msp_instance.specs.declared.Instance.{Instance}
 use Rattle.msp_instance.specs.Instance.{job_at}
-use Rattle.msp_schedule.specs.declared.Piece.{Piece}
-use Rattle.msp_schedule.specs.declared.Schedule.{Schedule}
+use Rattle.msp_pieces.specs.declared.Piece.{Piece}
+use Rattle.msp_pieces.specs.declared.Schedule.{Schedule}
 use Rattle.msp_schedule.specs.declared.breaks.Break.{Break}
 use Rattle.msp_schedule.specs.declared.breaks.Break.TheVariants.{Span, Place, Machine, Job, Release, Arc, Route, Work}
-use Rattle.msp_schedule.specs.Piece.{IsApart}
-use Rattle.msp_schedule.specs.Feasible.{Feasible, FollowsRoute, HasOperation, HasPlace, GetsWork}
-use Rattle.msp_schedule.specs.Within.{Within}
-use Rattle.msp_schedule.specs.Breaks.{piece_at, no_piece, no_arc, IsLeast, IsLeastOperation, IsEarly, Overlaps, KeepsArc, KeepsRoute, HasRoutes, IsBroken, IsDecision, IsFirstBreak, turn_of}
+use Rattle.msp_pieces.specs.Piece.{IsApart, piece_at, no_piece}
+use Rattle.msp_pieces.specs.Feasible.{Feasible, FollowsRoute, HasOperation, HasPlace, GetsWork}
+use Rattle.msp_pieces.specs.Within.{Within}
+use Rattle.msp_schedule.specs.Breaks.{no_arc, IsLeast, IsLeastOperation, IsEarly, Overlaps, KeepsArc, KeepsRoute, HasRoutes, IsBroken, IsDecision, IsFirstBreak, turn_of}
 
 -- the conditions before a turn
 pub record KeepsUpTo (n : ℕ) (i : Instance) (s : Schedule) : Type 0 where

@@ -7,41 +7,34 @@ use Rattle.std.proofs.lemmas.Bool.{cases_Bool, eqb-true, eq-eqb}
 use Rattle.std.proofs.lemmas.Int.{ints, clamps}
 use Rattle.std.specs.Int.{int_max}
 use Rattle.std.proofs.lemmas.List.{take-append-drop, append-nil, length-take, length-drop, get_or-take, get_or-drop}
-use Rattle.std.proofs.lemmas.List.Elements.{All-nil, All-more, All-head, All-tail, All-filter, All-contains, filter-append, Contains-get_or}
+use Rattle.std.proofs.lemmas.List.Elements.{All-nil, All-more, All-filter, All-contains, filter-append, Contains-get_or}
 use Rattle.std.proofs.lemmas.List.Filters.{length-filter_both}
 use Rattle.msp_class.proofs.Sums.{Contains-filter}
 use Rattle.msp_class.specs.Env.{kind_of}
 use Rattle.msp_instance.specs.declared.Instance.{Instance}
-use Rattle.msp_schedule.specs.declared.Piece.{Piece}
-use Rattle.msp_schedule.specs.Feasible.{HasPlace, IsWholeWork, total, whole_work, work_of}
+use Rattle.msp_instance.proofs.ArcLemmas.{filter_none, filter_all}
+use Rattle.msp_pieces.specs.declared.Piece.{Piece}
+use Rattle.msp_pieces.specs.Feasible.{HasPlace, IsWholeWork, total, whole_work, work_of}
 use Rattle.msp_schedule.specs.Begins.{IsEarlierEnd}
 use Rattle.msp_schedule.specs.Breaks.{KeepsRoute, pieces_among, IsLeast}
 use Rattle.msp_schedule.specs.Works.{AreMeasurable, GetsWorkAmong, LacksWorkAmong, IsWorked}
-use Rattle.msp_schedule.specs.Within.{IsMoment}
+use Rattle.msp_pieces.specs.Within.{IsMoment}
 use Rattle.msp_schedule.proofs.judging.ArcTimes.{fewer}
 
--- ---- what a filter keeps where all or none pass
+-- ---- what a filter keeps
 module _ {X : Type 0} (p : X → Bool) where
-  pub filter_none : (xs : List X) → All (λ x. p x ≡ false) xs → filter p xs ≡ []
-  filter_none [] h = refl
-  filter_none (x ∷ xs) h = ap (λ b. cond b (x ∷ filter p xs) (filter p xs)) (All-head (λ y. p y ≡ false) x xs h) ∙ filter_none xs (All-tail (λ y. p y ≡ false) x xs h)
-
-  pub filter_whole : (xs : List X) → All (λ x. p x ≡ true) xs → filter p xs ≡ xs
-  filter_whole [] h = refl
-  filter_whole (x ∷ xs) h = ap (λ b. cond b (x ∷ filter p xs) (filter p xs)) (All-head (λ y. p y ≡ true) x xs h) ∙ ap (λ l. x ∷ l) (filter_whole xs (All-tail (λ y. p y ≡ true) x xs h))
-
   -- none before a, all of the next b, and none after
   pub filter_middle : (xs : List X) (a b : ℕ) → All (λ x. p x ≡ false) (take a xs)
       → All (λ x. p x ≡ true) (take b (drop a xs)) → All (λ x. p x ≡ false) (drop b (drop a xs)) → take b (drop a xs) ≡ filter p xs
   filter_middle xs a b before inside after = sym (
       ap (filter p) (sym (take-append-drop a xs))
       ∙ filter-append p (take a xs) (drop a xs)
-      ∙ ap (λ l. l ++ filter p (drop a xs)) (filter_none (take a xs) before)
+      ∙ ap (λ l. l ++ filter p (drop a xs)) (filter_none p (take a xs) before)
       ∙ ap (filter p) (sym (take-append-drop b (drop a xs)))
       ∙ filter-append p (take b (drop a xs)) (drop b (drop a xs))
-      ∙ ap (λ l. filter p (take b (drop a xs)) ++ l) (filter_none (drop b (drop a xs)) after)
+      ∙ ap (λ l. filter p (take b (drop a xs)) ++ l) (filter_none p (drop b (drop a xs)) after)
       ∙ append-nil _
-      ∙ filter_whole (take b (drop a xs)) inside)
+      ∙ filter_all p (take b (drop a xs)) inside)
 
 module _ {X : Type 0} where
   pub All-before : (P : X → Type 0) (xs : List X) (i : ℕ) → i ≤ length xs → AllWithin P xs 0 i → All P (take i xs)

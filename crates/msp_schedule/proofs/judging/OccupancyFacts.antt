@@ -6,7 +6,7 @@ use Rattle.std.specs.Ordering.{int_cmp, nat_cmp, ordering_then, is_lt}
 use Rattle.std.specs.declared.cmp.Ordering.{Ordering}
 use Rattle.std.specs.declared.cmp.Ordering.TheVariants.{Less, Equal, Greater}
 use Rattle.std.proofs.lemmas.Bool.Decides.{nat_tests}
-use Rattle.msp_schedule.proofs.lists.DateOrder.{less, less-no, less-yes, not_less}
+use Rattle.msp_pieces.proofs.lists.DateOrder.{less, less-no, less-yes, not_less}
 use Rattle.std.proofs.lemmas.Bool.{cases_Bool, cases_lt, eqb-true}
 use Rattle.std.proofs.lemmas.Int.{ints}
 use Rattle.std.proofs.lemmas.List.{get_or_default}
@@ -16,15 +16,15 @@ use Rattle.std.specs.List.Sorted.{IsSortedBy}
 use Rattle.std.specs.Prelude.{IfSome}
 use Rattle.std.proofs.lemmas.List.Sorted.{sorted_far, All-permutation, Contains-permutation}
 use Rattle.msp_class.proofs.IntegerRing.{≤ℤ_total}
-use Rattle.msp_schedule.specs.declared.Piece.{Piece}
+use Rattle.msp_pieces.specs.declared.Piece.{Piece}
 use Rattle.msp_schedule.specs.declared.occupancies.Occupancy.{Occupancy}
 use Rattle.msp_schedule.specs.declared.overlaps.Lane.{Lane}
-use Rattle.msp_schedule.specs.Piece.{IsApart}
-use Rattle.msp_schedule.specs.Breaks.{piece_at, StandsAhead, Overlaps, IsFirstOverlap}
+use Rattle.msp_pieces.specs.Piece.{IsApart, piece_at}
+use Rattle.msp_schedule.specs.Breaks.{StandsAhead, Overlaps, IsFirstOverlap}
 use Rattle.msp_schedule.specs.Lanes.{lane_of, Precedes}
 use Rattle.msp_schedule.specs.Occupancies.{no_occupancy, occupancy_at, occupancy_of, AreOccupancies, IsNotAfter, IsClearBelow, IsFirstMeeting}
 use Rattle.msp_schedule.proofs.judging.OverlapFacts.{apart_without_overlap, is_first}
-use Rattle.msp_schedule.proofs.lists.Permuted.{AllPairs-permutation}
+use Rattle.msp_pieces.proofs.lists.Permuted.{AllPairs-permutation}
 
 -- ---- occupancies in any order
 -- a occupancy is that of its piece, each piece has its occupancy, and no two have one number

@@ -4,11 +4,12 @@ use Rattle.std.proofs.lemmas.Int.{ints}
 use Rattle.std.proofs.lemmas.Bool.{cases_lt}
 use Rattle.msp_class.proofs.IntegerRing.{≤ℤ_total, ≤ℤ_antisym}
 use Rattle.msp_instance.specs.declared.Instance.{Instance}
-use Rattle.msp_schedule.specs.declared.Piece.{Piece}
-use Rattle.msp_schedule.specs.declared.Schedule.{Schedule}
+use Rattle.msp_pieces.specs.declared.Piece.{Piece}
+use Rattle.msp_pieces.specs.declared.Schedule.{Schedule}
 use Rattle.msp_schedule.specs.declared.breaks.Break.{Break}
 use Rattle.msp_schedule.specs.declared.breaks.Break.TheVariants.{Span, Place, Machine, Job, Release, Arc, Route, Work}
-use Rattle.msp_schedule.specs.Breaks.{piece_at, IsLeast, IsLeastOperation, StandsAhead, Overlaps, IsFirstOverlap, IsBroken, IsFirstBreak, turn_of}
+use Rattle.msp_pieces.specs.Piece.{piece_at}
+use Rattle.msp_schedule.specs.Breaks.{IsLeast, IsLeastOperation, StandsAhead, Overlaps, IsFirstOverlap, IsBroken, IsFirstBreak, turn_of}
 
 least_is_one : (bound : ℕ) (P : ℕ → Type 0) (k l : ℕ) → IsLeast bound P k → IsLeast bound P l → k ≡ l
 least_is_one bound P k l a b = elim (cases_lt k l) [

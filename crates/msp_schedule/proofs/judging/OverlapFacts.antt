@@ -4,9 +4,9 @@ use Rattle.std.proofs.lemmas.Int.{ints}
 use Rattle.std.proofs.lemmas.Bool.{cases_lt}
 use Rattle.std.proofs.lemmas.List.{get_or_default}
 use Rattle.msp_class.proofs.IntegerRing.{≤ℤ_total, ≤ℤ_antisym}
-use Rattle.msp_schedule.specs.declared.Piece.{Piece}
-use Rattle.msp_schedule.specs.Piece.{IsApart}
-use Rattle.msp_schedule.specs.Breaks.{piece_at, no_piece, Overlaps, IsFirstOverlap}
+use Rattle.msp_pieces.specs.declared.Piece.{Piece}
+use Rattle.msp_pieces.specs.Piece.{IsApart, piece_at, no_piece}
+use Rattle.msp_schedule.specs.Breaks.{Overlaps, IsFirstOverlap}
 use Rattle.msp_schedule.specs.Lanes.{Precedes, IsFirstOverlapBelow}
 
 -- moments and numbers in order

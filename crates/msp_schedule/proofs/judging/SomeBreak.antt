@@ -13,16 +13,16 @@ use Rattle.msp_class.proofs.IntegerRing.{≤ℤ_total, ≤ℤ_antisym}
 use Rattle.msp_instance.specs.declared.Arc.{Arc as ArcValue}
 use Rattle.msp_instance.specs.declared.Instance.{Instance}
 use Rattle.msp_instance.specs.Instance.{job_at, need_at}
-use Rattle.msp_schedule.specs.declared.Piece.{Piece}
-use Rattle.msp_schedule.specs.declared.Schedule.{Schedule}
+use Rattle.msp_pieces.specs.declared.Piece.{Piece}
+use Rattle.msp_pieces.specs.declared.Schedule.{Schedule}
 use Rattle.msp_schedule.specs.declared.breaks.Break.{Break}
 use Rattle.msp_schedule.specs.declared.breaks.Break.TheVariants.{Span, Place, Machine, Job, Release, Arc, Route, Work}
-use Rattle.msp_schedule.specs.Piece.{length_of, pieces_of, IsApart}
-use Rattle.msp_schedule.specs.Feasible.{Feasible, HasOperation, MayRun, HasPlace, GetsWork, IsWholeWork, total, work_of, whole_work}
-use Rattle.msp_schedule.specs.Breaks.{no_piece, piece_at, no_arc, arc_at, IsLeast, IsLeastOperation, IsEmpty, IsEarly, StandsAhead, Overlaps, IsFirstOverlap, KeepsArc, KeepsRoute}
+use Rattle.msp_pieces.specs.Piece.{length_of, pieces_of, IsApart, no_piece, piece_at}
+use Rattle.msp_pieces.specs.Feasible.{Feasible, HasOperation, MayRun, HasPlace, GetsWork, IsWholeWork, total, work_of, whole_work}
+use Rattle.msp_schedule.specs.Breaks.{no_arc, arc_at, IsLeast, IsLeastOperation, IsEmpty, IsEarly, StandsAhead, Overlaps, IsFirstOverlap, KeepsArc, KeepsRoute}
 use Rattle.msp_schedule.specs.Breaks.{HasRoutes, LacksWork, IsBroken, turn_of, IsFirstBreak, IsDecision}
 use Rattle.msp_schedule.specs.Lanes.{Precedes, IsFirstOverlapBelow}
-use Rattle.msp_schedule.proofs.lists.Intervals.{greatest_by, greatest_by-bound}
+use Rattle.msp_pieces.proofs.lists.Intervals.{greatest_by, greatest_by-bound}
 use Rattle.msp_schedule.proofs.judging.OverlapFacts.{nothing_new, new_is_first, new_is_better, known_stays, apart_without_overlap, is_first}
 use Rattle.msp_schedule.proofs.judging.FirstBreaks.{KeepsUpTo, first_of, feasible_when_kept, up_to_none, up_to_span, up_to_place, up_to_machine, up_to_job, up_to_release}
 use Rattle.msp_schedule.proofs.judging.FirstBreaks.{up_to_arc, up_to_route, up_to_work}

@@ -4,13 +4,13 @@ use Rattle.std.specs.Prelude.{IfSome}
 use Rattle.std.proofs.lemmas.List.Sorted.{All-permutation, length_permutation, IsPermutation-sym}
 use Rattle.msp_instance.specs.declared.Instance.{Instance}
 use Rattle.msp_instance.specs.Instance.{job_at}
-use Rattle.msp_schedule.specs.declared.Piece.{Piece}
-use Rattle.msp_schedule.specs.Feasible.{HasOperation, HasPlace}
-use Rattle.msp_schedule.specs.Piece.{IsBefore}
-use Rattle.msp_schedule.specs.Within.{IsMoment}
+use Rattle.msp_pieces.specs.declared.Piece.{Piece}
+use Rattle.msp_pieces.specs.Feasible.{HasOperation, HasPlace}
+use Rattle.msp_pieces.specs.Piece.{IsBefore}
+use Rattle.msp_pieces.specs.Within.{IsMoment}
 use Rattle.msp_schedule.specs.Breaks.{KeepsRoute, HasRoutes, IsLeastOperation}
 use Rattle.msp_schedule.specs.Works.{AreMeasurable, GetsWorkAmong, LacksWorkAmong, IsWorked}
-use Rattle.msp_schedule.proofs.lists.Permuted.{twice, work_permuted}
+use Rattle.msp_pieces.proofs.lists.Permuted.{twice, work_permuted}
 
 -- the operation of a piece that has a place is one of its job's needs, where operations have a route
 routed_inside : (i : Instance) → HasRoutes i → (p : Piece) → HasPlace i p → p.op < length (job_at i p.job).needs

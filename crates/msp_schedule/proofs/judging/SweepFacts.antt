@@ -2,10 +2,10 @@
 use Rattle.std.proofs.Common.{◌≡◌, Option, None, Result, Ok, Err, refl, sym, subst}
 use Rattle.std.specs.Prelude.{IsNone, IfOk, IfSome, ◌↔◌}
 use Rattle.msp_instance.specs.declared.Instance.{Instance}
-use Rattle.msp_schedule.specs.declared.Schedule.{Schedule}
+use Rattle.msp_pieces.specs.declared.Schedule.{Schedule}
 use Rattle.msp_schedule.specs.declared.breaks.Break.{Break}
 use Rattle.msp_schedule.specs.Breaks.{IsDecision, IsFirstBreak}
-use Rattle.msp_schedule.specs.Feasible.{Feasible}
+use Rattle.msp_pieces.specs.Feasible.{Feasible}
 use Rattle.msp_schedule.proofs.judging.FirstBreaks.{decided, named}
 
 pub swept_none : {E : Type 0} (i : Instance) (s : Schedule) (r : Result (Option Break) E) → IfOk r (IsDecision i s) → IfOk r (λ b. IsNone b ↔ Feasible i s)

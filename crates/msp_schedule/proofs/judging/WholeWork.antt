@@ -10,11 +10,11 @@ use Rattle.msp_class.specs.Env.{kind_of}
 use Rattle.msp_instance.specs.declared.Instance.{Instance}
 use Rattle.msp_instance.specs.Instance.{no_job, job_at, need_at}
 use Rattle.msp_instance.specs.Conditions.{HasShape, Inner, LiesWithin}
-use Rattle.msp_schedule.specs.declared.Piece.{Piece}
-use Rattle.msp_schedule.specs.Feasible.{HasPlace, HasOperation, MayRun, IsWholeWork, total, work_of, whole_work}
+use Rattle.msp_pieces.specs.declared.Piece.{Piece}
+use Rattle.msp_pieces.specs.Feasible.{HasPlace, HasOperation, MayRun, IsWholeWork, total, work_of, whole_work}
 use Rattle.msp_schedule.specs.Breaks.{pieces_among, IsLeast, IsLeastOperation}
-use Rattle.msp_schedule.specs.Works.{AreSmallTimes, GetsWorkAmong, LacksWorkAmong, IsWorked, need_of, measured_by}
-use Rattle.msp_schedule.specs.Within.{greatest_scaled}
+use Rattle.msp_schedule.specs.Works.{GetsWorkAmong, LacksWorkAmong, IsWorked, need_of, measured_by}
+use Rattle.msp_pieces.specs.Within.{greatest_scaled, AreSmallTimes}
 
 inside_by : (k : EnvKind) (e : Env) (i : Instance) (p : Piece) → HasShape k e i.machines (job_at i p.job).needs
     → HasOperation k i p.job p.op → MayRun k i p.job p.op p.machine → need_of k p < length (job_at i p.job).needs

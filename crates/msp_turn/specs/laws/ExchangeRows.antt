@@ -28,15 +28,15 @@ use Rattle.msp_instance.specs.declared.Job.{Job}
 use Rattle.msp_instance.specs.declared.Instance.{Instance}
 use Rattle.msp_instance.specs.Instance.{no_need, job_at, common_time}
 use Rattle.msp_instance.specs.Conditions.{IsJobOf, HasShape, HasTimes, HasSameTimes, HasWeight, HasNearDues, Inner, inner_limits, inner_factor, least_time, greatest_time}
-use Rattle.msp_schedule.specs.declared.Schedule.{Schedule}
-use Rattle.msp_schedule.specs.Feasible.{Feasible}
-use Rattle.msp_schedule.specs.Cost.{end_of}
-use Rattle.msp_schedule.proofs.feasible.Frames.{job_at-map, no_heads}
-use Rattle.msp_schedule.proofs.changes.Mirror.{turned_arcs as arcs_turned, turned_back}
-use Rattle.msp_schedule.specs.BackToBack.{time_at}
-use Rattle.msp_schedule.specs.LineUp.{lined_up, sorted_by, order_of_ends}
-use Rattle.msp_schedule.proofs.changes.LineUp.{IsLine, order_of_ends-once, order_of_ends-rises}
-use Rattle.msp_schedule.proofs.changes.Exchange.{Exchanges, Feasible-exchanged, cost-exchanged}
+use Rattle.msp_pieces.specs.declared.Schedule.{Schedule}
+use Rattle.msp_pieces.specs.Feasible.{Feasible}
+use Rattle.msp_pieces.specs.Cost.{end_of}
+use Rattle.msp_pieces.proofs.feasible.Frames.{job_at-map, no_heads}
+use Rattle.msp_pieces.proofs.changes.Mirror.{turned_arcs as arcs_turned, turned_back}
+use Rattle.msp_pieces.specs.BackToBack.{time_at}
+use Rattle.msp_pieces.specs.LineUp.{lined_up, sorted_by, order_of_ends}
+use Rattle.msp_pieces.proofs.changes.LineUp.{IsLine, order_of_ends-once, order_of_ends-rises}
+use Rattle.msp_pieces.proofs.changes.Exchange.{Exchanges, Feasible-exchanged, cost-exchanged}
 use Rattle.msp_table.specs.Rows.{goes_of, table}
 use Rattle.msp_route.specs.Law.{Applies, IsLower, IsForth, IsBack}
 use Rattle.msp_route.specs.Changes.{same_costs}

@@ -13,15 +13,15 @@ use Rattle.msp_class.proofs.Sums.{OnceBelow}
 use Rattle.msp_instance.specs.declared.Instance.{Instance}
 use Rattle.msp_instance.specs.Instance.{job_at}
 use Rattle.msp_instance.specs.Conditions.{Inner, MeetsConditions, inner_limits}
-use Rattle.msp_schedule.specs.declared.Schedule.{Schedule}
-use Rattle.msp_schedule.specs.Feasible.{Feasible}
-use Rattle.msp_schedule.specs.Cost.{cost_of, end_of}
-use Rattle.msp_schedule.proofs.feasible.Frames.{frame_by, no_heads, IsShaped, IsShaped-from_conditions}
-use Rattle.msp_schedule.proofs.changes.Serves.{Serves, IsMultiple-same, Feasible-served_by}
-use Rattle.msp_schedule.proofs.costs.Charges.{SameCharges, SameCharges-from_class, cost-same_charges}
-use Rattle.msp_schedule.proofs.feasible.Series.{MayPrecede}
-use Rattle.msp_schedule.specs.LineUp.{lined_up, order_of_ends}
-use Rattle.msp_schedule.proofs.changes.LineUp.{IsLine, IsLine-from_conditions, SameLine, Feasible-lined_up, cost-lined_up, forward_by_ends, loose_by_ends, order_of_ends-once, order_of_ends-rises}
+use Rattle.msp_pieces.specs.declared.Schedule.{Schedule}
+use Rattle.msp_pieces.specs.Feasible.{Feasible}
+use Rattle.msp_pieces.specs.Cost.{cost_of, end_of}
+use Rattle.msp_pieces.proofs.feasible.Frames.{frame_by, no_heads, IsShaped, IsShaped-from_conditions}
+use Rattle.msp_pieces.proofs.changes.Serves.{Serves, IsMultiple-same, Feasible-served_by}
+use Rattle.msp_pieces.proofs.costs.Charges.{SameCharges, SameCharges-from_class, cost-same_charges}
+use Rattle.msp_pieces.proofs.feasible.Series.{MayPrecede}
+use Rattle.msp_pieces.specs.LineUp.{lined_up, order_of_ends}
+use Rattle.msp_pieces.proofs.changes.LineUp.{IsLine, IsLine-from_conditions, SameLine, Feasible-lined_up, cost-lined_up, forward_by_ends, loose_by_ends, order_of_ends-once, order_of_ends-rises}
 use Rattle.msp_table.specs.Rows.{goes_of, table}
 use Rattle.msp_route.specs.Law.{Applies, IsLower, IsForth, IsBack}
 use Rattle.msp_route.specs.Changes.{led, same_costs}

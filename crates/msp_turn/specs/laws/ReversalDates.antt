@@ -21,10 +21,10 @@ use Rattle.msp_instance.specs.declared.Job.{Job}
 use Rattle.msp_instance.specs.declared.Instance.{Instance}
 use Rattle.msp_instance.specs.Instance.{no_job, job_at}
 use Rattle.msp_instance.specs.Conditions.{Limits, LiesWithin, IsJobOf, HasSameTimes, HasRelease, HasDue, HasWeight, HasCurve, Inner, inner_limits, inner_factor}
-use Rattle.msp_schedule.specs.Cost.{job_cost, greatest}
-use Rattle.msp_schedule.proofs.feasible.Frames.{no_heads, job_at-map}
-use Rattle.msp_schedule.proofs.changes.Serves.{SameNeeds-from_map}
-use Rattle.msp_schedule.proofs.changes.Mirror.{turned_arcs as arcs_turned, turned_back}
+use Rattle.msp_pieces.specs.Cost.{job_cost, greatest}
+use Rattle.msp_pieces.proofs.feasible.Frames.{no_heads, job_at-map}
+use Rattle.msp_pieces.proofs.changes.Serves.{SameNeeds-from_map}
+use Rattle.msp_pieces.proofs.changes.Mirror.{turned_arcs as arcs_turned, turned_back}
 use Rattle.msp_table.specs.Rows.{goes_of, table}
 use Rattle.msp_route.specs.Law.{Applies}
 use Rattle.msp_route.proofs.InnerChanges.{common_time-map}

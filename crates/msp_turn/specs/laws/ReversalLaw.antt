@@ -8,16 +8,16 @@ use Rattle.msp_class.proofs.IntegerRing.{≤ℤ_trans, one-*ℤ, zero-*ℤ, *ℤ
 use Rattle.msp_instance.specs.declared.Instance.{Instance}
 use Rattle.msp_instance.specs.Instance.{job_at}
 use Rattle.msp_instance.specs.Conditions.{Inner, inner_limits}
-use Rattle.msp_schedule.specs.declared.Piece.{Piece}
-use Rattle.msp_schedule.specs.declared.Schedule.{Schedule}
-use Rattle.msp_schedule.specs.Feasible.{Feasible}
-use Rattle.msp_schedule.specs.Cost.{end_of, job_cost, cost_of}
-use Rattle.msp_schedule.proofs.feasible.Frames.{frame_of, Lasts, HasWork, IsShaped, IsShaped-from_conditions, HasWork-from_conditions, Fits-from_feasible, piece_of}
-use Rattle.msp_schedule.proofs.changes.Moves.{Contains-map}
-use Rattle.msp_schedule.proofs.feasible.LastEnds.{last_end-contains}
-use Rattle.msp_schedule.proofs.costs.Charges.{charge_of, cost_of-bound, cost_of-least}
-use Rattle.msp_schedule.proofs.changes.Serves.{SameNeeds, SameNeeds-sym}
-use Rattle.msp_schedule.proofs.changes.Mirror.{Feasible-mirrored, end_of-mirrored}
+use Rattle.msp_pieces.specs.declared.Piece.{Piece}
+use Rattle.msp_pieces.specs.declared.Schedule.{Schedule}
+use Rattle.msp_pieces.specs.Feasible.{Feasible}
+use Rattle.msp_pieces.specs.Cost.{end_of, job_cost, cost_of}
+use Rattle.msp_pieces.proofs.feasible.Frames.{frame_of, Lasts, HasWork, IsShaped, IsShaped-from_conditions, HasWork-from_conditions, Fits-from_feasible, piece_of}
+use Rattle.msp_pieces.proofs.changes.Moves.{Contains-map}
+use Rattle.msp_pieces.proofs.feasible.LastEnds.{last_end-contains}
+use Rattle.msp_pieces.proofs.costs.Charges.{charge_of, cost_of-bound, cost_of-least}
+use Rattle.msp_pieces.proofs.changes.Serves.{SameNeeds, SameNeeds-sym}
+use Rattle.msp_pieces.proofs.changes.Mirror.{Feasible-mirrored, end_of-mirrored}
 use Rattle.msp_route.specs.Law.{IsPositive, IsForth, IsBack, cost_above, cost_below}
 use Rattle.msp_turn.specs.Turned.{turned_arc}
 use Rattle.msp_turn.specs.Reversal.{turning_moment, reversed_for}

@@ -15,9 +15,9 @@ use Rattle.msp_instance.specs.declared.Job.{Job}
 use Rattle.msp_instance.specs.declared.Instance.{Instance}
 use Rattle.msp_instance.specs.Instance.{job_at}
 use Rattle.msp_instance.specs.Conditions.{IsJobOf, Inner, inner_limits}
-use Rattle.msp_schedule.specs.Cost.{job_cost}
-use Rattle.msp_schedule.proofs.feasible.Frames.{no_heads}
-use Rattle.msp_schedule.proofs.changes.Mirror.{turned_arcs as arcs_turned, turned_back}
+use Rattle.msp_pieces.specs.Cost.{job_cost}
+use Rattle.msp_pieces.proofs.feasible.Frames.{no_heads}
+use Rattle.msp_pieces.proofs.changes.Mirror.{turned_arcs as arcs_turned, turned_back}
 use Rattle.msp_table.specs.Rows.{goes_of, table, turns_dates}
 use Rattle.msp_route.specs.Law.{Applies, IsLower}
 use Rattle.msp_route.proofs.Applied.{parts_and_condition}

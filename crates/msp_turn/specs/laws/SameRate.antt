@@ -3,8 +3,8 @@ use Rattle.std.proofs.Common.{◌≡◌, pos, ◌+ℤ◌, ◌*ℤ◌, ◌≤ℤ�
 use Rattle.std.proofs.lemmas.Int.{ints}
 use Rattle.msp_class.proofs.IntegerRing.{one-*ℤ, zero-*ℤ, +ℤ_idr, *ℤ_comm, *ℤ-mono_nonneg}
 use Rattle.msp_instance.specs.declared.Instance.{Instance}
-use Rattle.msp_schedule.specs.declared.Schedule.{Schedule}
-use Rattle.msp_schedule.specs.Cost.{cost_of}
+use Rattle.msp_pieces.specs.declared.Schedule.{Schedule}
+use Rattle.msp_pieces.specs.Cost.{cost_of}
 use Rattle.msp_route.specs.Law.{cost_above, cost_below}
 use Rattle.msp_route.specs.Changes.{same_costs}
 

@@ -15,7 +15,7 @@ use Rattle.msp_instance.specs.declared.Arc.{Arc}
 use Rattle.msp_instance.specs.declared.Job.{Job}
 use Rattle.msp_instance.specs.declared.Instance.{Instance}
 use Rattle.msp_instance.specs.Conditions.{MeetsConditions, IsJobOf, HasArcs, HasDegree, HasNearDues, GoesForward, IsAcyclic, Inner, leaving, entering, inner_limits, inner_factor}
-use Rattle.msp_schedule.proofs.changes.Moves.{AllPairs-map}
+use Rattle.msp_pieces.proofs.changes.Moves.{AllPairs-map}
 use Rattle.msp_turn.specs.Turned.{turned_arc, turned_arcs}
 
 -- ---- degrees

@@ -1,5 +1,5 @@
 use Rattle.std.proofs.Common.{sym, subst}
-use Rattle.msp_schedule.specs.Blocks.{IsBlockValue}
+use Rattle.msp_pieces.specs.Blocks.{IsBlockValue}
 use Rattle.msp_blocks.proofs.Made.{IsBlockSchedule-made}
 use Rattle.msp_blocks.proofs.blocks.schedule_by_blocks.Goals as goal
 

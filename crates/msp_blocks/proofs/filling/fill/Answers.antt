@@ -1,5 +1,5 @@
 use Rattle.std.proofs.Common.{◌+◌, refl, ap₂, slice_index_or, arith}
-use Rattle.msp_schedule.specs.BackToBack.{time_at}
+use Rattle.msp_pieces.specs.BackToBack.{time_at}
 use Rattle.msp_blocks.proofs.Steps.{IsPartly-start, partly_next, partly_room, partly_end, on_ok_then}
 use Rattle.msp_blocks.proofs.filling.fill.Goals as goal
 

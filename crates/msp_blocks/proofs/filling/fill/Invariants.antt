@@ -1,5 +1,5 @@
 use Rattle.std.proofs.Common.{slice_index_or}
-use Rattle.msp_schedule.specs.BackToBack.{time_at}
+use Rattle.msp_pieces.specs.BackToBack.{time_at}
 use Rattle.msp_blocks.proofs.Steps.{IsPartly}
 use Rattle.msp_blocks.proofs.filling.fill.Given as goal
 

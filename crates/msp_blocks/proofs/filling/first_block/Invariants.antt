@@ -1,6 +1,6 @@
 use Rattle.std.proofs.Common.{◌-◌, ◌+◌, ◌*◌, ◌≤◌, length, slice_index_or}
 use Rattle.msp_class.specs.declared.sizes.TheConstants.{MOST_JOBS, GREATEST}
-use Rattle.msp_schedule.specs.BackToBack.{time_at}
+use Rattle.msp_pieces.specs.BackToBack.{time_at}
 use Rattle.msp_blocks.specs.Filling.{IsFirstBlock}
 use Rattle.msp_blocks.proofs.filling.first_block.Given as goal
 

@@ -1,6 +1,6 @@
 -- The chain that is left, and what comes back over its first row.
 use Rattle.std.proofs.Common.{◌<◌, length, subst}
-use Rattle.msp_schedule.specs.Cost.{IsSolution}
+use Rattle.msp_pieces.specs.Cost.{IsSolution}
 use Rattle.msp_route.specs.Bounds.{IsSized, IsBounded}
 use Rattle.msp_carry.proofs.ChainSteps.{behind, first_step, carried_on, IsBounded-chain, IfOk-ends}
 use Rattle.msp_carry.proofs.along.+bring_over.Goals as goal

@@ -1,6 +1,6 @@
 -- The bounds of what is brought back.
 use Rattle.std.proofs.Common.{sym, subst}
-use Rattle.msp_schedule.specs.Cost.{IsSolution}
+use Rattle.msp_pieces.specs.Cost.{IsSolution}
 use Rattle.msp_carry.specs.Carried.{IsChainTo}
 use Rattle.msp_carry.proofs.ChainSteps.{IfOk-within}
 use Rattle.msp_carry.proofs.along.bring.Goals as goal

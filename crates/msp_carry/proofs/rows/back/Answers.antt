@@ -1,6 +1,6 @@
 -- What is asked and what comes back, clause by clause.
 use Rattle.std.proofs.lemmas.Result.{IfOk-weaker}
-use Rattle.msp_schedule.specs.Cost.{IsSolution, IsBest}
+use Rattle.msp_pieces.specs.Cost.{IsSolution, IsBest}
 use Rattle.msp_route.specs.Law.{IsBack}
 use Rattle.msp_route.specs.Rates.{rate_of}
 use Rattle.msp_route.specs.Bounds.{KeepsBounds}

@@ -1,6 +1,6 @@
 -- A best schedule brought back is best, and costs are translated as the table says.
 use Rattle.std.proofs.Common.{IfOk, subst}
-use Rattle.msp_schedule.specs.Cost.{IsBest}
+use Rattle.msp_pieces.specs.Cost.{IsBest}
 use Rattle.msp_route.specs.Law.{IsBack}
 use Rattle.msp_route.proofs.Composed.{IfOk-best}
 use Rattle.msp_carry.proofs.StepFacts.{IfOk-brought}

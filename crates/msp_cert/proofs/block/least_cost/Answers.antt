@@ -1,6 +1,6 @@
 use Rattle.std.proofs.Common.{arith}
 use Rattle.msp_instance.specs.Conditions.{LiesWithin}
-use Rattle.msp_schedule.specs.Blocks.{cost_at}
+use Rattle.msp_pieces.specs.Blocks.{cost_at}
 use Rattle.msp_cert.specs.Least.{IsLast}
 use Rattle.msp_cert.specs.Worth.{greatest_value}
 use Rattle.msp_cert.proofs.BlockFacts.{next_least, next_within, least_of_all}

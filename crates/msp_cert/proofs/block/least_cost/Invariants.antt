@@ -1,7 +1,7 @@
 use Rattle.std.proofs.Common.{take}
 use Rattle.std.specs.Option.{IfSome}
 use Rattle.msp_instance.specs.Conditions.{LiesWithin}
-use Rattle.msp_schedule.specs.Blocks.{cost_at}
+use Rattle.msp_pieces.specs.Blocks.{cost_at}
 use Rattle.msp_cert.specs.Least.{IsLast, IsLeast}
 use Rattle.msp_cert.specs.Worth.{greatest_value}
 use Rattle.msp_cert.proofs.block.least_cost.Given as goal

@@ -1,4 +1,4 @@
-use Rattle.msp_schedule.specs.Speeds.{speed_of}
+use Rattle.msp_pieces.specs.Speeds.{speed_of}
 use Rattle.msp_cert.proofs.Apart.{range_next}
 use Rattle.msp_cert.proofs.group.all_speeds.Goals as goal
 

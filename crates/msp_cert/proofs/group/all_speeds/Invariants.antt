@@ -1,6 +1,6 @@
 use Rattle.std.proofs.Common.{◌≡◌, map}
 use Rattle.std.specs.List.{range_with_len}
-use Rattle.msp_schedule.specs.Speeds.{speed_of}
+use Rattle.msp_pieces.specs.Speeds.{speed_of}
 use Rattle.msp_cert.proofs.group.all_speeds.Given as goal
 
 -- the speeds so far

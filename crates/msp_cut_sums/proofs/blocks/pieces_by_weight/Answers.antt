@@ -1,6 +1,6 @@
 use Rattle.std.proofs.Common.{length, ap, ap₂, ◌∙◌, arith}
 use Rattle.std.proofs.lemmas.Result.{IfOk-weaker}
-use Rattle.msp_schedule.proofs.feasible.OfClass.{IsOfClass-from}
+use Rattle.msp_pieces.proofs.feasible.OfClass.{IsOfClass-from}
 use Rattle.msp_cut_sums.specs.Sums.{cut_weights_class, weight_at}
 use Rattle.msp_cut_sums.specs.Pieces.{blocked}
 use Rattle.msp_cut_sums.proofs.Falling.{order_many}

@@ -1,6 +1,6 @@
 use Rattle.std.proofs.Common.{◌≡◌, ◌+◌, ◌-◌, ◌≤◌, All, refl, get_or, length, subst, arith}
 use Rattle.msp_instance.specs.Paths.{leads}
-use Rattle.msp_schedule.proofs.lists.ForwardOrders.{at_inside}
+use Rattle.msp_pieces.proofs.lists.ForwardOrders.{at_inside}
 use Rattle.msp_due.specs.Steps.{AreLoweredFrom}
 use Rattle.msp_due.proofs.LoweredSlots.{AreLoweredFrom-next, AreLoweredFrom-end, low_small}
 use Rattle.msp_due.proofs.lowering.lower_all.Goals as goal

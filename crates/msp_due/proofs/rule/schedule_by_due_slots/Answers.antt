@@ -1,7 +1,7 @@
 use Rattle.std.proofs.Common.{◌≡◌, ◌∙◌, map, pos, ◌*ℤ◌, to_z, of_z, ap, ap₂, sym, subst}
 use Rattle.std.specs.Int.{w128}
 use Rattle.std.proofs.lemmas.Int.{to_z-of_z}
-use Rattle.msp_schedule.specs.Cost.{Best, cost_of}
+use Rattle.msp_pieces.specs.Cost.{Best, cost_of}
 use Rattle.msp_route.specs.Bounds.{IsAnswer}
 use Rattle.msp_route.specs.Halving.{IsLeastBound}
 use Rattle.msp_due.specs.Steps.{CanPlace, long_piece}

@@ -1,6 +1,6 @@
 use Rattle.std.proofs.Common.{ℤ}
 use Rattle.msp_instance.specs.Conditions.{LiesWithin}
-use Rattle.msp_schedule.specs.Within.{greatest_cost}
+use Rattle.msp_pieces.specs.Within.{greatest_cost}
 use Rattle.msp_due.specs.Steps.{IsGreatestCost}
 use Rattle.msp_due.proofs.search.greatest_after.Given as goal
 

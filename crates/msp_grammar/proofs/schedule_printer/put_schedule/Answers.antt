@@ -2,7 +2,7 @@
 use Rattle.std.proofs.Common.{List, ◌++◌, ◌∙◌, ap, codes, rules}
 use Rattle.std.specs.Int.{w128}
 use Rattle.std.proofs.lemmas.Int.{to_z-of_z}
-use Rattle.msp_schedule.specs.declared.Piece.{Piece}
+use Rattle.msp_pieces.specs.declared.Piece.{Piece}
 use Rattle.msp_grammar.specs.ScheduleText.{schedule_text, fraction_text, cost_line, unit_line, piece_lines}
 use Rattle.msp_grammar.proofs.PrintLemmas.{on_ok, five_put}
 use Rattle.msp_grammar.proofs.schedule_printer.put_schedule.Goals as goal

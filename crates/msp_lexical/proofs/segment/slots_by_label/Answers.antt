@@ -1,7 +1,7 @@
 use Rattle.std.proofs.Common.{◌≡◌, ℕ, ◌<◌, List, length, slice_index, All, sym, subst, arith}
 use Rattle.std.proofs.lemmas.List.Elements.{All-weaker}
 use Rattle.msp_class.specs.declared.sizes.TheConstants.{MOST_JOBS}
-use Rattle.msp_schedule.specs.declared.Piece.{Piece}
+use Rattle.msp_pieces.specs.declared.Piece.{Piece}
 use Rattle.msp_lexical.specs.Slots.{AreTops, IsSeated, IsSeating, first_in, second_in}
 use Rattle.msp_lexical.proofs.SlotsMade.{some_piece, seated, places_apart, few_slots, slots_made, cost_of_slots, cut_made}
 use Rattle.msp_lexical.proofs.segment.slots_by_label.Goals as goal

@@ -1,6 +1,6 @@
 -- One more piece has the number.
 use Rattle.std.proofs.Common.{refl, pos}
-use Rattle.msp_schedule.specs.declared.Piece.{Piece}
+use Rattle.msp_pieces.specs.declared.Piece.{Piece}
 use Rattle.msp_machines.specs.Shops.{with_number, machine_number}
 use Rattle.msp_route.proofs.InPlace.{changed_next}
 use Rattle.msp_machines.proofs.shops.number_by_machine.Goals as goal

@@ -1,7 +1,7 @@
 use Rattle.std.proofs.Common.{arith}
 use Rattle.std.proofs.lemmas.List.{length-take}
 use Rattle.std.proofs.lemmas.List.Sorted.{IsPermutation-trans}
-use Rattle.msp_schedule.proofs.lists.InTurn.{take_within}
+use Rattle.msp_pieces.proofs.lists.InTurn.{take_within}
 use Rattle.msp_places.proofs.InTurn.{placed-next}
 use Rattle.msp_places.proofs.most.put_in_order.Goals as goal
 

@@ -1,6 +1,6 @@
 -- The sweep past one more piece, which is closed.
 use Rattle.std.proofs.Common.{rules, ◌≡◌, ◌<◌, length, get_or, pos}
-use Rattle.msp_schedule.specs.declared.Piece.{Piece}
+use Rattle.msp_pieces.specs.declared.Piece.{Piece}
 use Rattle.msp_plain.proofs.Sweeps.{IsPast, IsPast-read, small_from, small_to, IsSweeping-next}
 use Rattle.msp_plain.proofs.equal.close.Goals as goal
 

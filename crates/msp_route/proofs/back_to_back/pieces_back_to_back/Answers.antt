@@ -2,7 +2,7 @@
 use Rattle.std.proofs.Common.{ℕ, ◌≡◌, ◌*◌, ◌+◌, refl, rules, get_or, arith}
 use Rattle.std.proofs.lemmas.Int.{ints, to_z-of_z}
 use Rattle.std.specs.Int.{w128}
-use Rattle.msp_schedule.specs.BackToBack.{time_at}
+use Rattle.msp_pieces.specs.BackToBack.{time_at}
 use Rattle.msp_route.proofs.JobReads.{ends-next}
 use Rattle.msp_route.proofs.BackToBackSteps.{laid-next, length_read, moment-next}
 use Rattle.msp_route.proofs.back_to_back.pieces_back_to_back.Goals as goal

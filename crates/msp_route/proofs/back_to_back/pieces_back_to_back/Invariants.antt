@@ -1,6 +1,6 @@
 -- The pieces of the jobs so far, and the moment at which the last of them ends.
 use Rattle.std.proofs.Common.{◌≡◌, ◌*◌, ◌≤◌, take, sum_by}
-use Rattle.msp_schedule.specs.BackToBack.{back_to_back, piece, time_at}
+use Rattle.msp_pieces.specs.BackToBack.{back_to_back, piece, time_at}
 use Rattle.msp_route.proofs.BackToBackSteps.{greatest_length}
 use Rattle.msp_route.proofs.back_to_back.pieces_back_to_back.Given as goal
 

@@ -1,7 +1,7 @@
 -- The row is within the limits, and its cost is taken.
 use Rattle.std.proofs.Common.{sym, subst}
-use Rattle.msp_schedule.specs.Feasible.{Feasible}
-use Rattle.msp_schedule.specs.Within.{Within}
+use Rattle.msp_pieces.specs.Feasible.{Feasible}
+use Rattle.msp_pieces.specs.Within.{Within}
 use Rattle.msp_route.proofs.BackToBackSteps.{as_schedule}
 use Rattle.msp_route.proofs.back_to_back.solution_in_order.Goals as goal
 

@@ -1,7 +1,7 @@
 use Rattle.std.proofs.Common.{◌≡◌, ℕ, ℤ, Bool, ◌+◌, false, length, refl, sym, ◌∙◌, subst, rules, slice_index_or}
 use Rattle.std.specs.Int.{w128}
 use Rattle.std.proofs.lemmas.Int.{to_z-of_z}
-use Rattle.msp_schedule.specs.Blocks.{cost_at}
+use Rattle.msp_pieces.specs.Blocks.{cost_at}
 use Rattle.msp_route.specs.Candidates.{IsFound}
 use Rattle.msp_route.proofs.Search.{found-skip, found-take}
 use Rattle.msp_route.proofs.last_job.least_of.Goals as goal

@@ -1,5 +1,5 @@
 use Rattle.std.proofs.Common.{false, slice_index_or}
-use Rattle.msp_schedule.specs.Blocks.{cost_at}
+use Rattle.msp_pieces.specs.Blocks.{cost_at}
 use Rattle.msp_route.specs.Candidates.{IsFound}
 use Rattle.msp_route.proofs.last_job.least_of.Given as goal
 

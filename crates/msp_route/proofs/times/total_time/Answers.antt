@@ -1,5 +1,5 @@
 use Rattle.std.proofs.Common.{◌+◌, refl, ap}
-use Rattle.msp_schedule.specs.BackToBack.{time_at}
+use Rattle.msp_pieces.specs.BackToBack.{time_at}
 use Rattle.msp_route.proofs.JobReads.{ends-next, time_read, ends_early}
 use Rattle.msp_route.proofs.times.total_time.Goals as goal
 

@@ -2,7 +2,7 @@ use Rattle.std.proofs.Common.{refl, sym, get_or, subst, take, ◌+◌, ◌∙◌
 use Rattle.std.proofs.lemmas.Int.{to_z-of_z}
 use Rattle.std.specs.Int.{w128}
 use Rattle.msp_schedule.specs.Begins.{IsEarlierEnd}
-use Rattle.msp_schedule.specs.Breaks.{no_piece}
+use Rattle.msp_pieces.specs.Piece.{no_piece}
 use Rattle.msp_schedule.proofs.judging.JobShares.{earlier_more, earlier_same, greater_of}
 use Rattle.msp_schedule.proofs.breaks.earlier_end.Goals as goal
 use Rattle.msp_schedule.proofs.breaks.earlier_end.Goals.{then-is_earlier, else-is_earlier}

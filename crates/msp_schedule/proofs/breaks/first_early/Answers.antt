@@ -3,8 +3,8 @@ use Rattle.std.specs.Int.{w128}
 use Rattle.std.proofs.lemmas.Int.{to_z-of_z}
 use Rattle.msp_instance.specs.Instance.{job_at}
 use Rattle.msp_instance.specs.Conditions.{LiesWithin}
-use Rattle.msp_schedule.specs.Breaks.{no_piece, piece_at}
-use Rattle.msp_schedule.specs.Within.{greatest_scaled}
+use Rattle.msp_pieces.specs.Piece.{no_piece, piece_at}
+use Rattle.msp_pieces.specs.Within.{greatest_scaled}
 use Rattle.msp_schedule.proofs.breaks.first_early.Goals as goal
 
 pub is_early-requires-clause-small : goal.is_early-requires-clause-small

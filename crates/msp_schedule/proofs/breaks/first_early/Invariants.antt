@@ -1,7 +1,7 @@
 -- The pieces so far begin at their jobs' release dates or later.
 use Rattle.std.proofs.Common.{ℕ, ◌<◌, pos, ◌*ℤ◌, ◌≤ℤ◌}
 use Rattle.msp_instance.specs.Instance.{job_at}
-use Rattle.msp_schedule.specs.Breaks.{piece_at}
+use Rattle.msp_pieces.specs.Piece.{piece_at}
 use Rattle.msp_schedule.proofs.breaks.first_early.Given as goal
 
 abbrev pub invariant-loop-at : goal.invariant-loop-at

@@ -1,7 +1,7 @@
 use Rattle.std.proofs.Common.{arith}
 use Rattle.std.proofs.lemmas.List.Elements.{All-from_get_or}
-use Rattle.msp_schedule.specs.Feasible.{HasPlace}
-use Rattle.msp_schedule.specs.Breaks.{no_piece}
+use Rattle.msp_pieces.specs.Feasible.{HasPlace}
+use Rattle.msp_pieces.specs.Piece.{no_piece}
 use Rattle.msp_schedule.proofs.breaks.first_misplaced.Goals as goal
 
 pub returns-clause-none : goal.returns-clause-none

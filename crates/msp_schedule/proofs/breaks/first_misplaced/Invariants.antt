@@ -1,7 +1,7 @@
 -- The pieces so far have their place.
 use Rattle.std.proofs.Common.{ℕ, ◌<◌}
-use Rattle.msp_schedule.specs.Feasible.{HasPlace}
-use Rattle.msp_schedule.specs.Breaks.{piece_at}
+use Rattle.msp_pieces.specs.Feasible.{HasPlace}
+use Rattle.msp_pieces.specs.Piece.{piece_at}
 use Rattle.msp_schedule.proofs.breaks.first_misplaced.Given as goal
 
 abbrev pub invariant-loop-at : goal.invariant-loop-at

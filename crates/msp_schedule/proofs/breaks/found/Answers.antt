@@ -1,8 +1,8 @@
 use Rattle.std.proofs.Common.{refl, rules, sym, subst}
 use Rattle.std.proofs.lemmas.Int.{to_z-of_z}
 use Rattle.std.specs.Int.{w128}
-use Rattle.msp_schedule.specs.Works.{AreSmallReleases, AreSmallTimes}
-use Rattle.msp_schedule.proofs.costs.Small.{small_releases, small_times}
+use Rattle.msp_pieces.specs.Within.{AreSmallReleases, AreSmallTimes}
+use Rattle.msp_pieces.proofs.costs.Small.{small_releases, small_times}
 use Rattle.msp_schedule.proofs.judging.Deciding.{first_span, first_place, first_machine, first_job, first_release, first_arc, first_route, first_work, none_broken}
 use Rattle.msp_schedule.proofs.breaks.found.Goals as goal
 

@@ -1,8 +1,8 @@
 use Rattle.std.proofs.Common.{pos, ap, ◌∙◌, arith, rules}
 use Rattle.std.specs.Int.{w128}
 use Rattle.std.proofs.lemmas.Int.{to_z-of_z}
-use Rattle.msp_schedule.specs.Within.{greatest_scaled}
-use Rattle.msp_schedule.proofs.costs.Products.{product_fits}
+use Rattle.msp_pieces.specs.Within.{greatest_scaled}
+use Rattle.msp_pieces.proofs.costs.Products.{product_fits}
 use Rattle.msp_schedule.proofs.breaks.is_early.Goals as goal
 
 pub product-requires : goal.product-requires

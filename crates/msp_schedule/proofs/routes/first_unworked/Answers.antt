@@ -2,7 +2,7 @@ use Rattle.std.proofs.lemmas.Int.{to_z-of_z}
 use Rattle.std.specs.Int.{w128}
 use Rattle.msp_schedule.proofs.judging.WholeWork.{lacks_first}
 use Rattle.std.proofs.Common.{sym, subst}
-use Rattle.msp_schedule.specs.Works.{AreSmallTimes}
+use Rattle.msp_pieces.specs.Within.{AreSmallTimes}
 use Rattle.msp_schedule.proofs.routes.first_unworked.Goals as goal
 
 pub returns-then-lacks_work-clause-some : goal.returns-then-lacks_work-clause-some

@@ -2,7 +2,7 @@ use Rattle.std.proofs.Common.{refl, rules, sym, subst}
 use Rattle.std.proofs.lemmas.Int.{to_z-of_z}
 use Rattle.std.specs.Int.{w128}
 use Rattle.msp_schedule.proofs.judging.WholeWork.{lacks_least, worked_next}
-use Rattle.msp_schedule.specs.Works.{AreSmallTimes}
+use Rattle.msp_pieces.specs.Within.{AreSmallTimes}
 use Rattle.msp_schedule.proofs.routes.first_work.Goals as goal
 
 pub returns-in-Some-clause-some : goal.returns-in-Some-clause-some

@@ -1,5 +1,5 @@
 use Rattle.std.proofs.Common.{length}
-use Rattle.msp_schedule.specs.Within.{IsMoment}
+use Rattle.msp_pieces.specs.Within.{IsMoment}
 use Rattle.msp_schedule.proofs.judging.SortedPieces.{of_sorted, inside_sorted, routes_sorted, route_sorted}
 use Rattle.msp_schedule.proofs.shares.sorted_route.Goals as goal
 

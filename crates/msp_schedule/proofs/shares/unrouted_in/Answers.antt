@@ -1,4 +1,4 @@
-use Rattle.msp_schedule.specs.Within.{IsMoment}
+use Rattle.msp_pieces.specs.Within.{IsMoment}
 use Rattle.msp_schedule.proofs.judging.JobShares.{shared, unrouted_none, unrouted_some}
 use Rattle.msp_schedule.proofs.shares.unrouted_in.Goals as goal
 

@@ -2,9 +2,10 @@ use Rattle.std.proofs.Common.{refl, rules, to_z, of_z, sym, subst}
 use Rattle.std.specs.Prelude.{IfSome}
 use Rattle.std.proofs.lemmas.Int.{to_z-of_z}
 use Rattle.std.specs.Int.{w128}
-use Rattle.msp_schedule.specs.Works.{AreSmallReleases, AreSmallTimes, IsFirstUnworked}
+use Rattle.msp_pieces.specs.Within.{AreSmallReleases, AreSmallTimes}
+use Rattle.msp_schedule.specs.Works.{IsFirstUnworked}
 use Rattle.msp_schedule.specs.Breaks.{IsFirstOverlap, IsFirstOutOfRoute, HasRoutes}
-use Rattle.msp_schedule.proofs.costs.Small.{small_releases, small_times}
+use Rattle.msp_pieces.proofs.costs.Small.{small_releases, small_times}
 use Rattle.msp_schedule.proofs.judging.Deciding.{first_span, first_place, first_machine, first_job, first_release, first_arc, first_route, first_work, none_broken}
 use Rattle.msp_schedule.proofs.judging.SweepFacts.{none_is}
 use Rattle.msp_schedule.proofs.sweep.decided.Goals as goal

@@ -3,10 +3,9 @@ use Rattle.std.specs.Prelude.{IsTrue, ◌↔◌}
 use Rattle.msp_class.specs.Env.{kind_of}
 use Rattle.std.proofs.lemmas.Int.{to_z-of_z}
 use Rattle.std.specs.Int.{w128}
-use Rattle.msp_schedule.specs.Feasible.{HasPlace, IsWholeWork}
-use Rattle.msp_schedule.specs.Within.{IsMoment}
+use Rattle.msp_pieces.specs.Feasible.{HasPlace, IsWholeWork}
+use Rattle.msp_pieces.specs.Within.{IsMoment, AreSmallTimes}
 use Rattle.msp_schedule.proofs.judging.WholeWork.{sole_has, gets_cut, gets_whole}
-use Rattle.msp_schedule.specs.Works.{AreSmallTimes}
 use Rattle.msp_schedule.proofs.work.gets_work.Goals as goal
 
 pub returns-then-inst : goal.returns-then-inst

@@ -2,8 +2,8 @@ use Rattle.std.proofs.Common.{sym, subst, ◌∙◌, arith, rules}
 use Rattle.std.specs.Int.{w128}
 use Rattle.std.proofs.lemmas.Int.{to_z-of_z}
 use Rattle.msp_instance.specs.Conditions.{LiesWithin}
-use Rattle.msp_schedule.specs.Works.{greatest_work}
-use Rattle.msp_schedule.proofs.costs.Products.{product_fits, product_is, product_small, sped_small}
+use Rattle.msp_pieces.specs.Within.{greatest_work}
+use Rattle.msp_pieces.proofs.costs.Products.{product_fits, product_is, product_small, sped_small}
 use Rattle.msp_schedule.proofs.work.sped.Goals as goal
 
 pub product-requires : goal.product-requires

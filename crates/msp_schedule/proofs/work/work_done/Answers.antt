@@ -1,10 +1,10 @@
 use Rattle.std.proofs.Common.{refl, arith}
 use Rattle.std.proofs.lemmas.Int.{ints}
 use Rattle.msp_class.specs.Env.{kind_of}
-use Rattle.msp_schedule.specs.Feasible.{work_of}
+use Rattle.msp_pieces.specs.Feasible.{work_of}
 use Rattle.msp_schedule.proofs.judging.Among.{SumsTo-next}
 use Rattle.msp_schedule.proofs.work.work_done.Goals as goal
-use Rattle.msp_schedule.specs.Works.{greatest_work}
+use Rattle.msp_pieces.specs.Within.{greatest_work}
 
 pub loop-piece-preserved : goal.loop-piece-preserved
 loop-piece-preserved c =

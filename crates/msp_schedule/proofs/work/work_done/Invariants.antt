@@ -2,10 +2,10 @@
 use Rattle.std.proofs.Common.{◌≡◌, ◌*◌, map, take}
 use Rattle.msp_class.specs.Env.{kind_of}
 use Rattle.msp_instance.specs.Conditions.{LiesWithin}
-use Rattle.msp_schedule.specs.Feasible.{total, work_of}
+use Rattle.msp_pieces.specs.Feasible.{total, work_of}
 use Rattle.msp_schedule.specs.Breaks.{pieces_among}
 use Rattle.msp_schedule.proofs.work.work_done.Given as goal
-use Rattle.msp_schedule.specs.Works.{greatest_work}
+use Rattle.msp_pieces.specs.Within.{greatest_work}
 
 abbrev pub invariant-loop-piece : goal.invariant-loop-piece
 invariant-loop-piece l =

@@ -1,6 +1,6 @@
 use Rattle.std.proofs.Common.{take, get_or, subst, arith}
 use Rattle.msp_route.specs.LastJob.{EndsAt}
-use Rattle.msp_schedule.proofs.lists.InTurn.{length_is, take_within}
+use Rattle.msp_pieces.proofs.lists.InTurn.{length_is, take_within}
 use Rattle.msp_single.proofs.Placing.{placed-next}
 use Rattle.std.proofs.lemmas.List.{length-take}
 use Rattle.std.proofs.lemmas.List.Sorted.{IsPermutation-trans}

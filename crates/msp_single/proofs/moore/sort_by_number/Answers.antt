@@ -1,7 +1,7 @@
 use Rattle.std.proofs.Common.{rules}
 use Rattle.std.proofs.lemmas.List.Sorted.{answers_always}
 use Rattle.msp_single.specs.declared.moore.Task.{Task}
-use Rattle.msp_schedule.proofs.lists.DateOrder.{number_less, number_less-order, number_sorted}
+use Rattle.msp_pieces.proofs.lists.DateOrder.{number_less, number_less-order, number_sorted}
 use Rattle.msp_single.proofs.moore.sort_by_number.Goals as goal
 
 pub returns-clause-sorted : goal.returns-clause-sorted

@@ -1,7 +1,7 @@
 use Rattle.std.proofs.Common.{get_or, pos, nat_abs, ◌+ℤ◌, ◌*ℤ◌, ap, ◌∙◌}
 use Rattle.std.specs.Int.{int_max}
 use Rattle.msp_instance.specs.Instance.{no_need}
-use Rattle.msp_schedule.proofs.feasible.OfClass.{IsOfClass-from}
+use Rattle.msp_pieces.proofs.feasible.OfClass.{IsOfClass-from}
 use Rattle.msp_stairs.specs.Stairs.{stairs_class}
 use Rattle.msp_stairs.specs.Bounds.{capped}
 use Rattle.msp_stairs.proofs.Tasks.{job_read, date_read, date_kept, date_held, task_read}

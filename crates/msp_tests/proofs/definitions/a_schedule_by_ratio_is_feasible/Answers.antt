@@ -3,9 +3,9 @@ use Rattle.std.proofs.lemmas.Int.{ints}
 use Rattle.std.proofs.lemmas.List.Elements.{All-nil, All-cons}
 use Rattle.std.proofs.lemmas.List.Kept.{AllPairs-cons}
 use Rattle.msp_instance.specs.Instance.{job_at}
-use Rattle.msp_schedule.specs.declared.Piece.{Piece}
-use Rattle.msp_schedule.specs.Piece.{IsApart}
-use Rattle.msp_schedule.specs.Feasible.{HasPlace, GetsWork}
+use Rattle.msp_pieces.specs.declared.Piece.{Piece}
+use Rattle.msp_pieces.specs.Piece.{IsApart}
+use Rattle.msp_pieces.specs.Feasible.{HasPlace, GetsWork}
 use Rattle.msp_tests.specs.Examples.{piece, weighted, by_ratio}
 use Rattle.msp_tests.proofs.definitions.a_schedule_by_ratio_is_feasible.Goals as goal
 

@@ -2,7 +2,7 @@ use Rattle.std.proofs.Common.{◌≡◌, ◌∙◌, ◌<◌, List, ℕ, All, len
 use Rattle.std.specs.Int.{w64}
 use Rattle.std.proofs.lemmas.Int.{to_z-of_z}
 use Rattle.msp_instance.proofs.Limits.{Inner-from_class}
-use Rattle.msp_schedule.specs.Cost.{Best, cost_of}
+use Rattle.msp_pieces.specs.Cost.{Best, cost_of}
 use Rattle.msp_route.specs.Bounds.{IsAnswer}
 use Rattle.msp_threshold.specs.Squeezed.{squeezed_by}
 use Rattle.msp_threshold.specs.Search.{number_of, pieces_back}

@@ -1,7 +1,7 @@
 -- Times and weights add up, and stay small.
 use Rattle.std.proofs.Common.{ap, sum_by, ◌∙◌, arith}
 use Rattle.std.proofs.lemmas.List.{take_all}
-use Rattle.msp_schedule.specs.BackToBack.{time_at}
+use Rattle.msp_pieces.specs.BackToBack.{time_at}
 use Rattle.msp_trees.specs.Horn.{weight_at}
 use Rattle.msp_trees.proofs.Picks.{sum-next}
 use Rattle.msp_trees.proofs.joining.load_of.Goals as goal

@@ -1,7 +1,7 @@
 -- The load of the jobs so far.
 use Rattle.std.proofs.Common.{◌≡◌, ◌*◌, ◌≤◌, take, sum_by, slice_index_or}
 use Rattle.msp_class.specs.declared.sizes.TheConstants.{GREATEST}
-use Rattle.msp_schedule.specs.BackToBack.{time_at}
+use Rattle.msp_pieces.specs.BackToBack.{time_at}
 use Rattle.msp_trees.specs.Horn.{weight_at}
 use Rattle.msp_trees.proofs.joining.load_of.Given as goal
 

@@ -2,7 +2,7 @@
 use Rattle.std.proofs.Common.{◌≡◌, ◌∙◌, ap, map, AllPairs, IsPermutation, ◌≤ℤ◌}
 use Rattle.std.specs.List.{range_with_len}
 use Rattle.std.proofs.lemmas.Result.{IfOk-weaker}
-use Rattle.msp_schedule.specs.Cost.{end_of}
+use Rattle.msp_pieces.specs.Cost.{end_of}
 use Rattle.msp_turn.proofs.EndOrder.{ends_over, numbers_are, numbers_rise}
 use Rattle.msp_turn.proofs.ends.order_of_ends.Goals as goal
 

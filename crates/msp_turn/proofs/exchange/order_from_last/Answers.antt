@@ -2,8 +2,8 @@
 use Rattle.std.proofs.Common.{reverse, AllPairs, IsPermutation, ◌≤ℤ◌, sym, subst}
 use Rattle.std.specs.List.{range_with_len}
 use Rattle.std.proofs.lemmas.List.Sorted.{IsPermutation-reverse, IsPermutation-trans}
-use Rattle.msp_schedule.specs.Cost.{end_of}
-use Rattle.msp_schedule.proofs.changes.Exchange.{AllPairs-reverse}
+use Rattle.msp_pieces.specs.Cost.{end_of}
+use Rattle.msp_pieces.proofs.changes.Exchange.{AllPairs-reverse}
 use Rattle.msp_turn.proofs.exchange.order_from_last.Goals as goal
 
 pub returns-clause-all : goal.returns-clause-all

@@ -2,8 +2,8 @@
 use Rattle.std.proofs.Common.{rules, sym, subst}
 use Rattle.std.specs.Int.{w128}
 use Rattle.std.proofs.lemmas.Int.{to_z-of_z}
-use Rattle.msp_schedule.specs.Feasible.{Feasible}
-use Rattle.msp_schedule.specs.Within.{Within}
+use Rattle.msp_pieces.specs.Feasible.{Feasible}
+use Rattle.msp_pieces.specs.Within.{Within}
 use Rattle.msp_turn.proofs.LineLimits.{few_jobs, within_jobs, short_needs, line_within, as_line}
 use Rattle.msp_turn.proofs.line_up.line_up.Goals as goal
 

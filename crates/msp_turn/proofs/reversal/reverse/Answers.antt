@@ -1,7 +1,7 @@
 -- The differences fit their type.
 use Rattle.std.proofs.Common.{ap₂}
 use Rattle.std.proofs.Common.{ℤ}
-use Rattle.msp_schedule.specs.declared.Piece.{Piece}
+use Rattle.msp_pieces.specs.declared.Piece.{Piece}
 use Rattle.msp_turn.proofs.Moments.{difference_is}
 use Rattle.msp_turn.proofs.reversal.reverse.Goals as goal
 

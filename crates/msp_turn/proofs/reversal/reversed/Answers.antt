@@ -1,8 +1,8 @@
 -- The pieces are those of the schedule that is read from its end.
 use Rattle.std.proofs.Common.{pos, ◌≤ℤ◌, arith, sym, subst}
 use Rattle.std.proofs.lemmas.Grind.{common_steps}
-use Rattle.msp_schedule.specs.Feasible.{Feasible}
-use Rattle.msp_schedule.specs.Within.{Within}
+use Rattle.msp_pieces.specs.Feasible.{Feasible}
+use Rattle.msp_pieces.specs.Within.{Within}
 use Rattle.msp_turn.specs.laws.ReversalLaw.{turning-natural}
 use Rattle.msp_turn.proofs.reversal.reversed.Goals as goal
 

@@ -1,7 +1,7 @@
 use Rattle.std.proofs.Common.{◌≡◌, ℕ, ◌+◌, ◌-◌, ◌++◌, ◌<◌, ◌^◌, List, All, length, sym, ◌∙◌, ap, ap₂, subst, subst₂, arith}
 use Rattle.std.proofs.lemmas.List.{get_or_default}
 use Rattle.std.proofs.lemmas.List.Elements.{All-set}
-use Rattle.msp_schedule.specs.declared.Piece.{Piece}
+use Rattle.msp_pieces.specs.declared.Piece.{Piece}
 use Rattle.msp_uniform.specs.Runs.{part_on}
 use Rattle.msp_uniform.specs.Segments.{at}
 use Rattle.msp_uniform.proofs.LatestFirst.{IsBack, IsBack-end, IsBack-kept, IsBack-changed}

@@ -1,6 +1,6 @@
 use Rattle.std.proofs.Common.{ℕ, pos, rules}
 use Rattle.std.proofs.lemmas.List.Sorted.{answers_always}
-use Rattle.msp_schedule.proofs.lists.DateOrder.{number_less, number_less-order, number_sorted}
+use Rattle.msp_pieces.proofs.lists.DateOrder.{number_less, number_less-order, number_sorted}
 use Rattle.msp_weighted.proofs.late_table.sort_by_number.Goals as goal
 
 pub returns-clause-sorted : goal.returns-clause-sorted

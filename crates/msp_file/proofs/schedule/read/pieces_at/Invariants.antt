@@ -1,6 +1,6 @@
 -- What holds in the loop of `pieces_at`: what is left gives the answer of the whole.
 use Rattle.std.proofs.Common.{[], length, List, Result}
-use Rattle.msp_schedule.specs.declared.Piece.{Piece}
+use Rattle.msp_pieces.specs.declared.Piece.{Piece}
 use Rattle.msp_grammar.specs.declared.lines.fault.FileFault.{FileFault}
 use Rattle.msp_grammar.specs.lines.Reading.{Place, ReadsMore}
 use Rattle.msp_file.specs.schedule.Reading.{piece_step}

@@ -1,5 +1,5 @@
 use Rattle.std.proofs.Common.{subst, rules}
-use Rattle.msp_schedule.specs.Cost.{Best}
+use Rattle.msp_pieces.specs.Cost.{Best}
 use Rattle.msp_route.specs.Bounds.{IsBounded, IsAnswer}
 use Rattle.msp_route.proofs.Composed.{IsBounded-from_answer, IfOk-best, IfOk-answer}
 use Rattle.msp_route.proofs.EarlyAnswers.{turned_cost}

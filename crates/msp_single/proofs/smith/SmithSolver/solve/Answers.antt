@@ -2,10 +2,10 @@ use Rattle.std.proofs.Common.{◌≡◌, ℕ, List, length, map, sym, subst, ari
 use Rattle.std.proofs.lemmas.Result.{IfOk-weaker}
 use Rattle.msp_class.proofs.Sums.{OnceBelow, OnceBelow-from_permutation, length-OnceBelow}
 use Rattle.msp_instance.specs.declared.Instance.{Instance}
-use Rattle.msp_schedule.specs.Cost.{Best, IsBest}
-use Rattle.msp_schedule.specs.Fraction.{IsLowest}
-use Rattle.msp_schedule.specs.Settled.{IsSettled}
-use Rattle.msp_schedule.specs.Piece.{job_of}
+use Rattle.msp_pieces.specs.Cost.{Best, IsBest}
+use Rattle.msp_pieces.specs.Fraction.{IsLowest}
+use Rattle.msp_pieces.specs.Settled.{IsSettled}
+use Rattle.msp_pieces.specs.Piece.{job_of}
 use Rattle.msp_route.specs.Bounds.{IsAnswer}
 use Rattle.msp_single.specs.Smith.{IsSmithOrder}
 use Rattle.msp_route.specs.BackToBack.{IsSolutionInOrder}

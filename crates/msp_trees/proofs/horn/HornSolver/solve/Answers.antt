@@ -2,12 +2,12 @@
 use Rattle.std.proofs.Common.{map, sym, subst, arith}
 use Rattle.std.proofs.lemmas.Result.{IfOk-weaker}
 use Rattle.msp_class.proofs.Sums.{length-OnceBelow}
-use Rattle.msp_schedule.specs.Cost.{Best, IsBest}
-use Rattle.msp_schedule.specs.Fraction.{IsLowest}
-use Rattle.msp_schedule.specs.Settled.{IsSettled}
+use Rattle.msp_pieces.specs.Cost.{Best, IsBest}
+use Rattle.msp_pieces.specs.Fraction.{IsLowest}
+use Rattle.msp_pieces.specs.Settled.{IsSettled}
 use Rattle.msp_route.specs.Bounds.{IsAnswer}
 use Rattle.msp_trees.specs.Horn.{IsHornOrder}
-use Rattle.msp_schedule.specs.Piece.{job_of}
+use Rattle.msp_pieces.specs.Piece.{job_of}
 use Rattle.msp_route.specs.BackToBack.{IsSolutionInOrder}
 use Rattle.msp_route.proofs.PlainJobs.{short_needs}
 use Rattle.msp_trees.proofs.HornBest.{IsHornInstance-from_class}

@@ -5,7 +5,7 @@ use Rattle.std.proofs.lemmas.Int.{to_z-of_z}
 use Rattle.std.proofs.lemmas.List.{length-map, take_all, take-append-le}
 use Rattle.msp_instance.specs.declared.Job.{Job}
 use Rattle.msp_instance.specs.declared.Instance.{Instance}
-use Rattle.msp_schedule.specs.Cost.{greatest}
+use Rattle.msp_pieces.specs.Cost.{greatest}
 use Rattle.msp_turn.specs.Reversal.{led_turned, release_by_due}
 use Rattle.msp_turn.proofs.dates.Row48Reduction.down.Goals as goal
 

@@ -1,0 +1,5 @@
+pub mod lists
+pub mod costs
+pub mod feasible
+pub mod changes
+pub mod bounds

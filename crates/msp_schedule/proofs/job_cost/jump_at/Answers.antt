@@ -1,9 +1,0 @@
-use Rattle.std.proofs.Common.{◌∙◌, arith, rules}
-use Rattle.std.specs.Int.{w128}
-use Rattle.std.proofs.lemmas.Int.{to_z-of_z}
-use Rattle.msp_schedule.specs.Within.{greatest_scaled}
-use Rattle.msp_schedule.proofs.costs.Products.{product_fits}
-use Rattle.msp_schedule.proofs.job_cost.jump_at.Goals as goal
-
-pub product-requires : goal.product-requires
-product-requires c = product_fits greatest_scaled (to_z-of_z w128 c.args.unit c.ranges.unit) (to_z-of_z w128 c.from.result (search rules) ∙ c.from.ensures) c.requires (omega arith)

@@ -1,5 +1,0 @@
-use Rattle.msp_schedule.proofs.bounds.Certified.{law_of_blocks}
-use Rattle.msp_schedule.proofs.laws.law_of_blocks.Goals as goal
-
-pub returns : goal.returns
-returns c = law_of_blocks

@@ -1,5 +1,0 @@
-use Rattle.msp_schedule.proofs.bounds.EndsAndFloors.{law_of_floors}
-use Rattle.msp_schedule.proofs.laws.law_of_floors.Goals as goal
-
-pub returns : goal.returns
-returns c = law_of_floors

@@ -1,5 +1,0 @@
-use Rattle.msp_schedule.proofs.bounds.Groups.{law_of_groups}
-use Rattle.msp_schedule.proofs.laws.law_of_groups.Goals as goal
-
-pub returns : goal.returns
-returns c = law_of_groups

@@ -1,5 +1,0 @@
-use Rattle.msp_schedule.proofs.bounds.LastEnds.{law_of_last_ends}
-use Rattle.msp_schedule.proofs.laws.law_of_last_ends.Goals as goal
-
-pub returns : goal.returns
-returns c = law_of_last_ends

@@ -1,5 +1,0 @@
-use Rattle.msp_schedule.proofs.bounds.LevelBound.{law_of_levels}
-use Rattle.msp_schedule.proofs.laws.law_of_levels.Goals as goal
-
-pub returns : goal.returns
-returns c = law_of_levels

@@ -1,5 +1,0 @@
-use Rattle.msp_schedule.proofs.bounds.Loads.{law_of_lines}
-use Rattle.msp_schedule.proofs.laws.law_of_lines.Goals as goal
-
-pub returns : goal.returns
-returns c = law_of_lines

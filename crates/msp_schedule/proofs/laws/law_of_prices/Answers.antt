@@ -1,5 +1,0 @@
-use Rattle.msp_schedule.proofs.bounds.PriceBounds.{law_of_prices}
-use Rattle.msp_schedule.proofs.laws.law_of_prices.Goals as goal
-
-pub returns : goal.returns
-returns c = law_of_prices

@@ -1,5 +1,0 @@
-use Rattle.msp_schedule.proofs.bounds.SegmentBound.{law_of_segments}
-use Rattle.msp_schedule.proofs.laws.law_of_segments.Goals as goal
-
-pub returns : goal.returns
-returns c = law_of_segments

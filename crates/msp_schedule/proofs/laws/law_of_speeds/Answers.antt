@@ -1,5 +1,0 @@
-use Rattle.msp_schedule.proofs.bounds.SpeedBound.{law_of_speeds}
-use Rattle.msp_schedule.proofs.laws.law_of_speeds.Goals as goal
-
-pub returns : goal.returns
-returns c = law_of_speeds
