@@ -1,5 +1,5 @@
 -- Jobs read by their numbers: their times, where they run one after another, and the size of their costs.
-use Rattle.std.proofs.Common.{◌≡◌, ℕ, ◌+◌, ◌*◌, ◌<◌, ◌≤◌, inr, List, [], ◌∷◌, length, get_or, take, sum_by, pos, All, sym, ap, ◌∙◌, subst, arith, slice_index_or}
+use Rattle.std.proofs.Common.{◌≡◌, ℕ, ◌+◌, ◌*◌, ◌<◌, ◌≤◌, inr, List, [], length, get_or, take, sum_by, pos, All, sym, ap, ◌∙◌, subst, arith, slice_index_or}
 use Rattle.std.proofs.lemmas.Int.{ints}
 use Rattle.std.proofs.lemmas.List.{get_or_default}
 use Rattle.msp_class.specs.declared.sizes.TheConstants.{GREATEST}

@@ -13,8 +13,11 @@ pub mod BackToBackSteps
 pub mod PlainJobs
 pub mod OneInstances
 pub mod OneEach
+pub mod Owed
+pub mod Laid
 pub mod BackToBackAnswer
 pub mod BackToBackArcs
+pub mod OnTimeFirst
 pub mod Ratios
 pub mod Applied
 pub mod Samples

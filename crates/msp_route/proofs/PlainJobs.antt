@@ -1,12 +1,15 @@
 -- What an instance of a class on one machine has, where release dates are 0 and times are arbitrary.
-use Rattle.std.proofs.Common.{◌≡◌, ℕ, ◌<◌, ◌≤◌, false, length, get_or, All, subst, arith, slice_index_or}
+use Rattle.std.proofs.Common.{◌≡◌, ℕ, ◌<◌, ◌≤◌, false, [], length, get_or, All, ap, subst, arith, slice_index_or}
 use Rattle.msp_class.specs.declared.sizes.TheConstants.{MOST_JOBS, GREATEST}
+use Rattle.msp_class.specs.declared.class.Class.{Class}
+use Rattle.msp_class.specs.declared.class.Crit.{Crit}
 use Rattle.msp_class.specs.declared.class.Env.TheVariants.{One}
+use Rattle.msp_class.specs.declared.class.Order.TheVariants.{Free}
 use Rattle.msp_class.specs.declared.class.Times.TheVariants.{General}
 use Rattle.msp_class.specs.Env.{kind_of}
 use Rattle.msp_instance.specs.declared.Instance.{Instance}
 use Rattle.msp_instance.specs.Instance.{no_need, no_job}
-use Rattle.msp_instance.specs.Conditions.{HasRelease, Inner, inner_limits}
+use Rattle.msp_instance.specs.Conditions.{HasArcs, HasRelease, Inner, inner_limits}
 use Rattle.msp_pieces.proofs.feasible.OneMachine.{IsOneMachine}
 use Rattle.msp_pieces.specs.BackToBack.{time_at}
 use Rattle.msp_route.proofs.OneInstances.{IsOneInstance-from}
@@ -28,6 +31,19 @@ IsPlain-from i env times heads h =
       needs = o.needs;
       release = λ k d l. subst (λ b. HasRelease (inner_limits (kind_of i.class.env)) b (get_or i.jobs k d).release) heads (h.conditions.jobs k d l).release;
     }
+
+-- no arcs besides
+pub record IsPlainFree (i : Instance) (crit : Crit) : Type 0 where
+  pub crit_is : i.class.crit ≡ crit
+  pub plain : IsPlain i
+  pub arcs : i.arcs ≡ []
+
+pub IsPlainFree-from : (i : Instance) (crit : Crit) → i.class ≡ record { env = One; cut = false; order = Free; heads = false; times = General; crit = crit } → Inner i → IsPlainFree i crit
+IsPlainFree-from i crit e h = record {
+  crit_is = ap (λ (c : Class). c.crit) e;
+  plain = IsPlain-from i (ap (λ (c : Class). c.env) e) (ap (λ (c : Class). c.times) e) (ap (λ (c : Class). c.heads) e) h;
+  arcs = subst (λ o. HasArcs o i.arcs) (ap (λ (c : Class). c.order) e) h.conditions.arcs;
+}
 
 -- the time of each job's one operation
 module _ (i : Instance) (h : IsPlain i) where

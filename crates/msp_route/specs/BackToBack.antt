@@ -1,12 +1,11 @@
--- The solution in which jobs run one after another.
-use Rattle.std.specs.Prelude.{◌≡◌, ℕ, List}
+-- Jobs that run one after another.
+use Rattle.std.specs.Prelude.{ℕ, ◌<◌, ◌≤◌, List, length, slice_index_or, All}
+use Rattle.msp_class.specs.declared.sizes.TheConstants.{MOST_JOBS, GREATEST}
 use Rattle.msp_instance.specs.declared.Instance.{Instance}
-use Rattle.msp_pieces.specs.declared.Solution.{Solution}
-use Rattle.msp_pieces.specs.Cost.{cost_of}
-use Rattle.msp_pieces.specs.Fraction.{IsOver, IsLowest}
-use Rattle.msp_pieces.specs.BackToBack.{schedule_in_order}
+use Rattle.msp_instance.specs.Instance.{no_need}
 
-pub record IsSolutionInOrder (i : Instance) (order : List ℕ) (s : Solution) : Type 0 where
-  pub schedule : s.schedule ≡ schedule_in_order i order
-  pub cost : IsOver s.cost (cost_of i s.schedule) s.schedule.unit
-  pub lowest : IsLowest s.cost
+-- Few jobs, each of which is one of the instance, and lasts a short time.
+pub record AreShortJobs (i : Instance) (order : List ℕ) : Type 0 where
+  pub few : length order ≤ MOST_JOBS
+  pub jobs : All (λ j. j < length i.jobs) order
+  pub needs : All (λ j. (0 < length j.needs) × ((slice_index_or j.needs 0 no_need).time ≤ GREATEST)) i.jobs

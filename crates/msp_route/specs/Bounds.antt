@@ -7,7 +7,7 @@ use Rattle.msp_instance.specs.declared.Instance.{Instance}
 use Rattle.msp_class.specs.declared.sizes.TheConstants.{MOST_PIECES, GREATEST_UNIT}
 use Rattle.msp_pieces.specs.declared.limits.TheConstants.{GREATEST_CARRIED_UNIT}
 use Rattle.msp_pieces.specs.declared.Schedule.{Schedule}
-use Rattle.msp_pieces.specs.Cost.{cost_of}
+use Rattle.msp_pieces.specs.Cost.{cost_of, Best}
 use Rattle.msp_table.specs.Rows.{keeps_size}
 use Rattle.msp_route.specs.declared.bounds.TheConstants.{GREATEST_BACK_MOMENT, GREATEST_RAISE, GREATEST_LINED_UP, GREATEST_CLOSED_UP, GREATEST_ANSWER_MOMENT, GREATEST_OPEN_UNIT}
 
@@ -80,3 +80,8 @@ pub record IsAnswer (i : Instance) (s : Schedule) : Type 0 where
   pub few : length s.pieces ≤ MOST_PIECES
   pub unit : s.unit ≤ℤ answer_unit (kind_of i.class.env)
   pub ends : EndsBy GREATEST_ANSWER_MOMENT s
+
+-- What a solver owes of the schedule that it makes.
+pub record IsBestAnswer (i : Instance) (s : Schedule) : Type 0 where
+  pub best : Best i s
+  pub answer : IsAnswer i s

@@ -3,10 +3,13 @@ ghost use Rattle.std.specs.Prelude.{◌≡◌, ◌*◌, ◌<◌, ◌≤◌, leng
 ghost use Rattle.msp_class.specs.declared.sizes.TheConstants.{MOST_JOBS, GREATEST, GREATEST_UNIT};
 ghost use Rattle.msp_instance.specs.Instance.{no_need};
 ghost use Rattle.msp_instance.specs.Conditions.{Inner};
-ghost use Rattle.msp_pieces.specs.Within.{Within};
 ghost use Rattle.msp_pieces.specs.Feasible.{Feasible};
+ghost use Rattle.msp_pieces.specs.Cost.{cost_of};
+ghost use Rattle.msp_pieces.specs.Fraction.{IsOver, IsLowest};
+ghost use Rattle.msp_pieces.specs.Settled.{IsSettled};
 ghost use Rattle.msp_pieces.specs.BackToBack.{piece, time_at, schedule_in_order, back_to_back};
-ghost use Rattle.msp_route.specs.BackToBack.{IsSolutionInOrder};
+ghost use Rattle.msp_route.specs.BackToBack.{AreShortJobs};
+ghost use Rattle.msp_route.specs.Bounds.{IsAnswer};
 
 use crate::times::first_time;
 use msp_class::{List, NoMemory};
@@ -62,12 +65,13 @@ pub fn solution_in_order(
     order: &[u32],
 ) -> Result<Solution, NoMemory>
     requires inner { Inner inst.now }
-    requires few { length order.now ≤ MOST_JOBS }
-    requires jobs { All (λ j. j < length inst.now.jobs) order.now }
-    requires needs { All (λ j. (0 < length j.needs) × ((slice_index_or j.needs 0 no_need).time ≤ GREATEST)) inst.now.jobs }
-    requires within { Within inst.now (schedule_in_order inst.now order.now) }
+    requires short { AreShortJobs inst.now order.now }
     requires feasible { Feasible inst.now (schedule_in_order inst.now order.now) }
-    ensures { IfOk result (λ s. IsSolutionInOrder inst.now order.now s) }
+    ensures schedule { IfOk result (λ s. s.schedule ≡ schedule_in_order inst.now order.now) }
+    ensures cost { IfOk result (λ s. IsOver s.cost (cost_of inst.now s.schedule) s.schedule.unit) }
+    ensures bounds { IfOk result (λ s. IsAnswer inst.now s.schedule) }
+    ensures settled { IfOk result (λ s. IsSettled s.schedule) }
+    ensures lowest { IfOk result (λ s. IsLowest s.cost) }
 {
     let pieces = pieces_back_to_back(alloc, inst, 1, order)?;
     let schedule = Schedule { unit: 1, pieces };

@@ -4,12 +4,14 @@
 //! reduction does to costs, so that a best schedule brought back is best, and that a solver's answer is best within its bounds. A row over
 //! which schedules stay as they are says so by `KeepsData` or `KeepsSchedules`, and is a lawful reduction by that. What more than one
 //! solver needs stands here too, since no solver's crate stands on another's: the job that ends last (`last_place`), how long jobs take
-//! one after another (`total_time`), their pieces and the solution where they run so (`pieces_back_to_back`, `solution_in_order`), jobs
-//! that are sorted by a number (`Keyed`), and jobs by due date (`jobs_by_date`).
+//! one after another (`total_time`), their pieces and the solution where they run so (`pieces_back_to_back`, `solution_in_order`), the
+//! solution of a schedule that is best (`best_solution`), jobs that are sorted by a number (`Keyed`), and jobs by due date
+//! (`jobs_by_date`).
 #![tactic(auto)]
 
 mod answer;
 mod back_to_back;
+mod best_answer;
 mod bounds;
 mod copies;
 mod dates;
@@ -26,6 +28,7 @@ mod via;
 
 pub use answer::{Answer, SolverName};
 pub use back_to_back::{pieces_back_to_back, solution_in_order};
+pub use best_answer::best_solution;
 pub use bounds::{
     GREATEST_ANSWER_MOMENT, GREATEST_BACK_MOMENT, GREATEST_CLOSED_UP, GREATEST_LINED_UP,
     GREATEST_OPEN_UNIT, GREATEST_RAISE,

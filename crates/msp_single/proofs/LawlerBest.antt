@@ -1,5 +1,5 @@
--- The jobs back to back in Lawler's order are a best schedule, and in the form of an answer.
-use Rattle.std.proofs.Common.{◌≡◌, ◌≢◌, ℕ, ◌+◌, ◌<◌, inl, inr, List, ◌∷◌, ◌++◌, length, get_or, take, drop, map, pos, ◌≤ℤ◌, All, AllPairs, Contains, refl, sym, ap, subst, ◌∙◌, arith}
+-- The jobs back to back in Lawler's order are a best schedule.
+use Rattle.std.proofs.Common.{◌≡◌, ◌≢◌, ℕ, ◌+◌, ◌<◌, inl, inr, List, ◌∷◌, ◌++◌, length, get_or, take, drop, pos, ◌≤ℤ◌, All, AllPairs, Contains, refl, sym, ap, subst, ◌∙◌, arith}
 use Rattle.std.proofs.lemmas.List.{take-append-drop, drop_more, get_or-take, length-take, get_or_default}
 use Rattle.std.proofs.lemmas.List.Sums.{sum_by_more}
 use Rattle.std.proofs.lemmas.List.Elements.{All-take, All-contains, Contains-get_or}
@@ -10,32 +10,20 @@ use Rattle.msp_instance.specs.Conditions.{Inner}
 use Rattle.msp_instance.specs.Paths.{HasStep}
 use Rattle.msp_pieces.specs.declared.Piece.{Piece}
 use Rattle.msp_pieces.specs.declared.Schedule.{Schedule}
-use Rattle.msp_pieces.specs.Piece.{job_of}
 use Rattle.msp_pieces.specs.Feasible.{Feasible}
-use Rattle.msp_pieces.specs.Cost.{end_of, Best}
-use Rattle.msp_pieces.specs.Settled.{IsSettled}
-use Rattle.msp_pieces.specs.Within.{Within}
+use Rattle.msp_pieces.specs.Cost.{end_of}
 use Rattle.msp_pieces.specs.BackToBack.{back_to_back, piece, time_at, schedule_in_order}
-use Rattle.msp_pieces.proofs.lists.BackToBack.{back_to_back-jobs, back_to_back-last, end_in, end_in-at}
+use Rattle.msp_pieces.proofs.lists.BackToBack.{back_to_back-last, end_in, end_in-at}
 use Rattle.msp_pieces.proofs.feasible.OneMachine.{last_end-is}
-use Rattle.msp_pieces.proofs.feasible.BackToBack.{piece_makes, back_to_back_is_settled, back_to_back_is_within}
-use Rattle.msp_route.specs.Bounds.{IsAnswer}
+use Rattle.msp_pieces.proofs.feasible.BackToBack.{piece_makes}
 use Rattle.msp_route.specs.LastJob.{CostsLess}
 use Rattle.msp_single.specs.Lawler.{lawler_class, IsLawlerOrder}
 use Rattle.msp_pieces.specs.Blocks.{total_time, cost_at, IsCertified}
 use Rattle.msp_pieces.proofs.bounds.Certified.{ranked, Rises, best_by_certificates}
-use Rattle.msp_route.proofs.PlainJobs.{takes_time, is_short}
+use Rattle.msp_route.proofs.PlainJobs.{takes_time}
 use Rattle.msp_single.proofs.LawlerFacts.{IsLawlerInstance, IsLawlerInstance-from_class}
-use Rattle.msp_route.proofs.BackToBackAnswer.{timed, back_to_back_is_answer}
+use Rattle.msp_route.proofs.BackToBackAnswer.{IsBestRow, timed, short_jobs}
 use Rattle.msp_route.proofs.BackToBackArcs.{forward_is_feasible}
-
--- what is said of the answer's schedule
-pub record IsLawlerSchedule (i : Instance) (s : Schedule) : Type 0 where
-  pub best : Best i s
-  pub settled : IsSettled s
-  pub within : Within i s
-  pub answer : IsAnswer i s
-  pub order : IsLawlerOrder i (map job_of s.pieces)
 
 module _ (i : Instance) (h : IsLawlerInstance i) (order : List ℕ) (o : IsLawlerOrder i order) where
   once : OnceBelow (length i.jobs) order
@@ -115,16 +103,12 @@ module _ (i : Instance) (h : IsLawlerInstance i) (order : List ℕ) (o : IsLawle
       let is : get_or order k 0 ≡ j = get_or_default order k 0 j inside ∙ e in
       (moment k inside, ≤ℤ_of_same (ap (end_of (schedule_in_order i order)) (sym is) ∙ ends_then k inside), subst (λ x. IsCertified i (λ _. 0) x (moment k inside)) is (certified k inside))
 
-  pub lawler_schedule : IsLawlerSchedule i (schedule_in_order i order)
-  lawler_schedule = record {
+  lawler_row : IsBestRow i order
+  lawler_row = record {
+    short = short_jobs i h.plain order once;
     best = best_by_certificates i h.plain.machine (takes_time i h.plain) h.inner.conditions.ends
         (omega (arith, h.plain.some)) h.greatest (λ _. 0) (λ j l. inl (omega arith)) (schedule_in_order i order) refl lawler_is_feasible each_certified;
-    settled = back_to_back_is_settled i order once (takes_time i h.plain);
-    within = back_to_back_is_within i order once (takes_time i h.plain) h.plain.few (is_short i h.plain) h.plain.machine.kind;
-    answer = back_to_back_is_answer i h.plain order once;
-    order = subst (IsLawlerOrder i) (sym (back_to_back-jobs piece (time_at i) piece_makes 0 order)) o;
   }
 
--- ---- at the numbers as the code passes them
-pub IsLawlerSchedule-made : (i : Instance) → i.class ≡ lawler_class → Inner i → (numbers order : List ℕ) → IsLawlerOrder i order → numbers ≡ order → IsLawlerSchedule i (schedule_in_order i numbers)
-IsLawlerSchedule-made i class inner numbers order o same = subst (λ js. IsLawlerSchedule i (schedule_in_order i js)) (sym same) (lawler_schedule i (IsLawlerInstance-from_class i class inner) order o)
+pub IsBestRow-lawler : (i : Instance) → i.class ≡ lawler_class → Inner i → (order : List ℕ) → IsLawlerOrder i order → IsBestRow i order
+IsBestRow-lawler i class inner order o = lawler_row i (IsLawlerInstance-from_class i class inner) order o

@@ -1,12 +1,10 @@
 pub mod SmithOrder
 pub mod SmithSteps
 pub mod SmithSorted
-pub mod SmithFacts
 pub mod SmithBest
 pub mod LawlerFacts
 pub mod LawlerBest
 pub mod Placing
-pub mod MooreFacts
 pub mod MooreChoice
 pub mod MooreSteps
 pub mod MooreOrder

@@ -1,5 +1,5 @@
--- The jobs back to back in a cheapest order are a best schedule, and in the form of an answer.
-use Rattle.std.proofs.Common.{◌≡◌, ℕ, ◌*◌, ◌<◌, ◌≤◌, List, length, ℤ, pos, nat_abs, ◌*ℤ◌, ◌≤ℤ◌, refl, sym, ap, subst, ◌∙◌, arith, slice_index_or}
+-- The jobs back to back in a cheapest order are a best schedule.
+use Rattle.std.proofs.Common.{◌≡◌, ℕ, ◌*◌, ◌<◌, ◌≤◌, List, length, ℤ, pos, nat_abs, ◌*ℤ◌, ◌≤ℤ◌, refl, sym, ap, subst, subst₂, ◌∙◌, arith, slice_index_or}
 use Rattle.std.proofs.lemmas.Int.{ints}
 use native.Mathlib.Nat.{mul-le-mul_left}
 use Rattle.std.proofs.lemmas.List.{get_or_past}
@@ -11,26 +11,23 @@ use Rattle.msp_instance.specs.Instance.{no_job, no_need}
 use Rattle.msp_instance.specs.Conditions.{Inner, HasDegree, entering}
 use Rattle.msp_instance.specs.Paths.{HasStep}
 use Rattle.msp_instance.proofs.CycleLemmas.{OnceBelow-from_sequence}
-use Rattle.msp_pieces.specs.declared.Piece.{Piece}
 use Rattle.msp_pieces.specs.declared.Schedule.{Schedule}
 use Rattle.msp_pieces.specs.Feasible.{Feasible}
-use Rattle.msp_pieces.specs.Cost.{cost_of, Best}
-use Rattle.msp_pieces.specs.Settled.{IsSettled}
-use Rattle.msp_pieces.specs.Within.{Within}
-use Rattle.msp_pieces.specs.BackToBack.{back_to_back, weighted_ends, piece, time_at, schedule_in_order}
+use Rattle.msp_pieces.specs.Cost.{cost_of}
+use Rattle.msp_pieces.specs.BackToBack.{weighted_ends, piece, time_at, schedule_in_order}
 use Rattle.msp_pieces.proofs.lists.BackToBack.{last-weighted_ends_below}
 use Rattle.msp_pieces.proofs.costs.Charges.{SameCharges-from_jobs}
 use Rattle.msp_pieces.proofs.feasible.OneMachine.{weighted_cost}
-use Rattle.msp_pieces.proofs.feasible.BackToBack.{piece_makes, back_to_back_is_settled, back_to_back_is_within}
+use Rattle.msp_pieces.proofs.feasible.BackToBack.{piece_makes}
 use Rattle.msp_pieces.specs.LineUp.{order_of_ends}
 use Rattle.msp_pieces.proofs.changes.LineUp.{IsLine as IsOneLine, IsLine-from_conditions, SameLine-refl, cost-lined_up, forward_by_ends, order_of_ends-once, order_of_ends-rises}
 use Rattle.msp_pieces.proofs.changes.Exchange.{cost_of-lined_up}
-use Rattle.msp_route.specs.Bounds.{IsAnswer}
 use Rattle.msp_trees.specs.Horn.{horn_class}
 use Rattle.msp_trees.specs.Horn.{before, weight_at}
 use Rattle.msp_trees.specs.Joining.{IsCheapest}
-use Rattle.msp_route.proofs.PlainJobs.{IsPlain, IsPlain-from, takes_time, is_short}
-use Rattle.msp_route.proofs.BackToBackAnswer.{timed, back_to_back_is_answer}
+use Rattle.msp_route.proofs.PlainJobs.{IsPlain, IsPlain-from}
+use Rattle.msp_route.proofs.BackToBackAnswer.{IsBestRow, timed, short_jobs}
+use Rattle.msp_route.proofs.Owed.{over_units}
 use Rattle.msp_route.proofs.BackToBackArcs.{forward_is_feasible}
 use Rattle.msp_trees.proofs.Joins.{IsTree}
 use Rattle.msp_trees.proofs.Before.{before_within, before_start, forward_from_arcs, steps_forward, may_precede, no_loop, before_loose}
@@ -67,17 +64,7 @@ IsHornInstance-from_class i e h =
     no_time : (i : Instance) → time_at i (length i.jobs) ≡ 0
     no_time i = ap (λ j. (slice_index_or j.needs 0 no_need).time) (get_or_past i.jobs (length i.jobs) no_job (omega arith))
 
--- what is said of the answer's schedule
-pub record IsHornSchedule (i : Instance) (s : Schedule) : Type 0 where
-  pub best : Best i s
-  pub settled : IsSettled s
-  pub within : Within i s
-  pub answer : IsAnswer i s
-
 module _ (i : Instance) (h : IsHornInstance i) (order : List ℕ) (o : IsCheapest (length i.jobs) (before i) (time_at i) (weight_at i) order) where
-  abbrev pieces : List Piece
-  pieces = back_to_back piece (time_at i) 0 order
-
   -- ---- it is feasible
   loose : (j : ℕ) → ¬ HasStep i.arcs j j
   loose = let (all, q, forward) = h.inner.acyclic in no_loop i h.inner.conditions.ends all q forward
@@ -106,25 +93,17 @@ module _ (i : Instance) (h : IsHornInstance i) (order : List ℕ) (o : IsCheapes
     least_by_ends : least_cost ≤ weighted_ends (time_at i) (weight_at i) 0 by_ends
     least_by_ends = o.least by_ends once_by_ends (forward_from_arcs i h.inner.conditions.ends by_ends once_by_ends (forward_by_ends i h.line t f by_ends once_by_ends (order_of_ends-rises i t)))
 
-    ends_cost : pos (D * weighted_ends (time_at i) (weight_at i) 0 by_ends) ≤ℤ cost_of i t
+    abbrev its_cost : ℕ
+    its_cost = weighted_ends (time_at i) (weight_at i) 0 by_ends
+
+    ends_cost : pos (D * its_cost) ≤ℤ cost_of i t
     ends_cost =
         ≤ℤ_trans (≤ℤ_of_same (sym (cost_of-lined_up i h.line h.crit D (omega (arith, ints, f.unit)) by_ends once_by_ends)))
         (cost-lined_up i i h.line h.line (SameLine-refl i) t f by_ends once_by_ends (order_of_ends-rises i t) (SameCharges-from_jobs i i refl refl (λ k l. (refl, refl, refl))))
 
     horn_beats : (cost_of i (schedule_in_order i order) *ℤ t.unit) ≤ℤ (cost_of i t *ℤ pos 1)
-    horn_beats =
-        let more : D * least_cost ≤ D * weighted_ends (time_at i) (weight_at i) 0 by_ends = mul-le-mul_left D least_by_ends in
-        in_int _ _ t.unit least_cost D horn_cost (natural t.unit (omega (arith, ints, f.unit))) (≤ℤ_trans (pos-le more) ends_cost)
-      where
-        in_int : (x y u : ℤ) (a d : ℕ) → x ≡ pos a → u ≡ pos d → pos (d * a) ≤ℤ y → (x *ℤ u) ≤ℤ (y *ℤ pos 1)
-        in_int x y u a d ex eu l =
-            let same : a * d ≡ d * a = omega arith in
-            ≤ℤ_trans (≤ℤ_of_same (ap (λ z. z *ℤ u) ex ∙ ap (λ z. pos a *ℤ z) eu ∙ ap pos same)) (≤ℤ_trans l (≤ℤ_of_same (sym (*ℤ-one y))))
+    horn_beats = ≤ℤ_trans (over_units _ (pos (D * its_cost)) t.unit least_cost (D * its_cost) D horn_cost refl (natural t.unit (omega (arith, ints, f.unit))) (mul-le-mul_left D least_by_ends))
+        (subst₂ (λ x y. x ≤ℤ y) (sym (*ℤ-one (pos (D * its_cost)))) (sym (*ℤ-one (cost_of i t))) ends_cost)
 
-  pub horn_schedule : IsHornSchedule i (schedule_in_order i order)
-  horn_schedule = record {
-    best = record { feasible = horn_is_feasible; least = horn_beats };
-    settled = back_to_back_is_settled i order o.once (takes_time i h.plain);
-    within = back_to_back_is_within i order o.once (takes_time i h.plain) h.plain.few (is_short i h.plain) h.plain.machine.kind;
-    answer = back_to_back_is_answer i h.plain order o.once;
-  }
+  pub horn_row : IsBestRow i order
+  horn_row = record { short = short_jobs i h.plain order o.once; best = record { feasible = horn_is_feasible; least = horn_beats } }

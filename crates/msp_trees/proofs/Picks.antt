@@ -17,10 +17,7 @@ use Rattle.msp_instance.specs.declared.Job.{Job}
 use Rattle.msp_instance.specs.Instance.{no_job, no_need}
 use Rattle.msp_instance.specs.Conditions.{Inner}
 use Rattle.msp_instance.proofs.ListingLemmas.{list_any-from_Contains}
-use Rattle.msp_pieces.specs.BackToBack.{time_at, schedule_in_order, piece, back_to_back}
-use Rattle.msp_pieces.proofs.feasible.BackToBack.{piece_makes}
-use Rattle.msp_pieces.specs.Piece.{job_of}
-use Rattle.msp_pieces.proofs.lists.BackToBack.{back_to_back-jobs}
+use Rattle.msp_pieces.specs.BackToBack.{time_at}
 use Rattle.msp_trees.specs.declared.joining.Load.{Load}
 use Rattle.msp_trees.specs.Horn.{horn_class}
 use Rattle.msp_trees.specs.Horn.{first_before, before, weight_at, time_of, weight_of, GoesNext, Joins, JoinTo, nothing_joined, one_more, single_blocks, IsHornOrder}
@@ -29,7 +26,8 @@ use Rattle.msp_trees.proofs.Lists.{All-right, pairs_left, pairs_right, pairs_acr
 use Rattle.msp_route.proofs.Ratios.{strict_left, strict_right, level}
 use Rattle.msp_route.proofs.PlainJobs.{takes_time}
 use Rattle.msp_trees.proofs.Joins.{IsTree, joined-start, joined-next, cheapest}
-use Rattle.msp_trees.proofs.HornBest.{IsHornInstance, IsHornInstance-from_class, IsHornSchedule, horn_schedule}
+use Rattle.msp_trees.proofs.HornBest.{IsHornInstance, IsHornInstance-from_class, horn_row}
+use Rattle.msp_route.proofs.BackToBackAnswer.{IsBestRow}
 use Rattle.std.proofs.lemmas.List.Folds.{concat-append}
 use Rattle.msp_class.specs.declared.sizes.TheConstants.{MOST_JOBS}
 
@@ -400,15 +398,14 @@ cheapest_behind i class inner jobs seen joined e =
     rest n order = take_all (length (n ∷ order) - 1) order (omega arith)
 
 pub horn_order : (i : Instance) (class : i.class ≡ horn_class) (inner : Inner i) (jobs seen : List ℕ) → AreJoined i (jobs ∷ [])
-    → seen ≡ jobs → JoinTo i (single_blocks (length i.jobs)) (jobs ∷ []) → IsHornOrder i (map job_of (back_to_back piece (time_at i) 0 (behind_first seen)))
+    → seen ≡ jobs → JoinTo i (single_blocks (length i.jobs)) (jobs ∷ []) → IsHornOrder i (behind_first seen)
 horn_order i class inner jobs seen joined e join =
     let (order, f, o) = cheapest (length i.jobs) (before i) (time_at i) (weight_at i) (IsHornInstance-from_class i class inner).tree jobs joined in
-    subst (IsHornOrder i) (sym (back_to_back-jobs piece (time_at i) piece_makes 0 (behind_first seen) ∙ ap behind_first (e ∙ f) ∙ take_all (length (length i.jobs ∷ order) - 1) order (omega arith)))
+    subst (IsHornOrder i) (sym (ap behind_first (e ∙ f) ∙ take_all (length (length i.jobs ∷ order) - 1) order (omega arith)))
     (subst (λ l. JoinTo i (single_blocks (length i.jobs)) (l ∷ [])) f join)
 
-pub horn_made : (i : Instance) (class : i.class ≡ horn_class) (inner : Inner i) (jobs seen : List ℕ)
-    → AreJoined i (jobs ∷ []) → seen ≡ jobs → IsHornSchedule i (schedule_in_order i (behind_first seen))
-horn_made i class inner jobs seen joined e = horn_schedule i (IsHornInstance-from_class i class inner) (behind_first seen) (cheapest_behind i class inner jobs seen joined e)
+pub horn_made : (i : Instance) (class : i.class ≡ horn_class) (inner : Inner i) (jobs seen : List ℕ) → AreJoined i (jobs ∷ []) → seen ≡ jobs → IsBestRow i (behind_first seen)
+horn_made i class inner jobs seen joined e = horn_row i (IsHornInstance-from_class i class inner) (behind_first seen) (cheapest_behind i class inner jobs seen joined e)
 
 -- ---- blocks are joined again and again
 pub join-start : (i : Instance) (blocks : List (List ℕ)) → JoinTo i blocks blocks

@@ -1,43 +1,35 @@
 -- The weight of late jobs as a cost, and what an instance of the table's class has.
-use Rattle.std.proofs.Common.{◌≡◌, ℕ, ◌+◌, ◌*◌, ◌≤◌, Bool, true, false, cond, not, List, [], ◌∷◌, get_or, filter, pos, ◌*ℤ◌, All, sum_by, if◌then◌else◌, refl, sym, ap, subst, ◌∙◌, arith, length}
-use Rattle.std.proofs.lemmas.List.Sums.{sum_by-cons}
+use Rattle.std.proofs.Common.{◌≡◌, ℕ, ◌*◌, ◌≤◌, Bool, true, false, cond, get_or, pos, ◌*ℤ◌, All, if◌then◌else◌, ap, subst, ◌∙◌, arith, length}
 use Rattle.msp_class.specs.declared.sizes.TheConstants.{GREATEST}
 use Rattle.msp_class.specs.declared.class.Crit.TheVariants.{SumWU}
 use Rattle.msp_class.specs.Crit.{is_greatest, uses_weight}
-use Rattle.msp_class.specs.Sums.{total_below}
 use Rattle.msp_class.proofs.Sums.{total_below-scale, int_total_below-natural}
 use Rattle.msp_instance.specs.declared.Instance.{Instance}
 use Rattle.msp_instance.specs.Instance.{job_at}
-use Rattle.msp_instance.specs.Conditions.{HasArcs, HasWeight, Inner}
+use Rattle.msp_instance.specs.Conditions.{HasWeight, Inner}
 use Rattle.msp_pieces.specs.declared.Schedule.{Schedule}
 use Rattle.msp_pieces.specs.Cost.{job_cost, end_of, cost_of}
 use Rattle.msp_pieces.proofs.costs.Charges.{charge_of, cost_of-sum}
 use Rattle.msp_pieces.proofs.costs.LateJobs.{is_late}
-use Rattle.msp_route.proofs.PlainJobs.{IsPlain, IsPlain-from}
+use Rattle.msp_route.proofs.PlainJobs.{IsPlainFree, IsPlainFree-from}
+use Rattle.msp_route.proofs.OnTimeFirst.{late_weight}
 use Rattle.msp_weighted.specs.Late.{late_class}
 use Rattle.msp_weighted.specs.Values.{weight_at}
 
 pub record IsLateInstance (i : Instance) : Type 0 where
-  pub crit : i.class.crit ≡ SumWU
-  pub plain : IsPlain i
-  pub arcs : i.arcs ≡ []
+  pub free : IsPlainFree i SumWU
   pub light : All (λ j. j.weight ≤ GREATEST) i.jobs
   pub heavy : All (λ j. 1 ≤ j.weight) i.jobs
 
 pub IsLateInstance-from_class : (i : Instance) → i.class ≡ late_class → Inner i → IsLateInstance i
 IsLateInstance-from_class i e h = record {
-  crit = ap (λ c. c.crit) e;
-  plain = IsPlain-from i (ap (λ c. c.env) e) (ap (λ c. c.times) e) (ap (λ c. c.heads) e) h;
-  arcs = subst (λ o. HasArcs o i.arcs) (ap (λ c. c.order) e) h.conditions.arcs;
+  free = IsPlainFree-from i SumWU e h;
   light = λ k d l. (subst (λ c. HasWeight (uses_weight c.crit) (get_or i.jobs k d).weight) e (h.conditions.jobs k d l).weight).1;
   heavy = λ k d l. (subst (λ c. HasWeight (uses_weight c.crit) (get_or i.jobs k d).weight) e (h.conditions.jobs k d l).weight).0;
 }
 
--- what the late jobs of a schedule weigh
-abbrev pub late_weight : Instance → Schedule → ℕ
-late_weight i s = total_below (length i.jobs) (λ j. cond (is_late i s j) (weight_at i j) 0)
-
-pub late_weight_cost : (i : Instance) (s : Schedule) (d : ℕ) → i.class.crit ≡ SumWU → s.unit ≡ pos d → cost_of i s ≡ pos (d * late_weight i s)
+-- what the late jobs of a schedule weigh is its cost
+pub late_weight_cost : (i : Instance) (s : Schedule) (d : ℕ) → i.class.crit ≡ SumWU → s.unit ≡ pos d → cost_of i s ≡ pos (d * late_weight i (weight_at i) s)
 late_weight_cost i s d e u =
     cost_of-sum i s (ap is_greatest e)
     ∙ int_total_below-natural (length i.jobs) (charge_of i s) (λ j. d * cond (is_late i s j) (weight_at i j) 0)
@@ -53,14 +45,3 @@ late_weight_cost i s d e u =
       where
         none : (w : ℕ) → w * 0 ≡ d * 0
         none w = omega arith
-
--- late jobs and those on time weigh as much as all
-pub late_and_on_time : (f : ℕ → Bool) (w : ℕ → ℕ) (xs : List ℕ) → sum_by (λ j. cond (f j) (w j) 0) xs + sum_by w (filter (λ j. not (f j)) xs) ≡ sum_by w xs
-late_and_on_time f w [] = refl
-late_and_on_time f w (x ∷ xs) = ap (λ n. n + sum_by w (cond (not (f x)) (x ∷ filter (λ j. not (f j)) xs) (filter (λ j. not (f j)) xs))) (sum_by-cons (λ j. cond (f j) (w j) 0) x xs)
-    ∙ by (f x) (late_and_on_time f w xs) ∙ sym (sum_by-cons w x xs)
-  where
-    by : (b : Bool) → sum_by (λ j. cond (f j) (w j) 0) xs + sum_by w (filter (λ j. not (f j)) xs) ≡ sum_by w xs
-        → (cond b (w x) 0 + sum_by (λ j. cond (f j) (w j) 0) xs) + sum_by w (cond (not b) (x ∷ filter (λ j. not (f j)) xs) (filter (λ j. not (f j)) xs)) ≡ w x + sum_by w xs
-    by true e = omega (arith, e)
-    by false e = omega (arith, e, sum_by-cons w x (filter (λ j. not (f j)) xs))

@@ -1,79 +1,41 @@
-use Rattle.std.proofs.Common.{◌≡◌, ℕ, List, length, map, sym, subst, arith}
-use Rattle.std.proofs.lemmas.Result.{IfOk-weaker}
-use Rattle.msp_class.proofs.Sums.{OnceBelow, OnceBelow-from_permutation, length-OnceBelow}
-use Rattle.msp_instance.specs.declared.Instance.{Instance}
-use Rattle.msp_pieces.specs.Cost.{Best, IsBest}
-use Rattle.msp_pieces.specs.Fraction.{IsLowest}
-use Rattle.msp_pieces.specs.Settled.{IsSettled}
-use Rattle.msp_pieces.specs.Piece.{job_of}
-use Rattle.msp_route.specs.Bounds.{IsAnswer}
+use Rattle.std.proofs.Common.{sym, subst}
+use Rattle.msp_route.proofs.BackToBackAnswer.{IsBestRow, best_in_order, jobs_in_order}
+use Rattle.msp_route.proofs.PlainJobs.{fair_needs, short_needs}
 use Rattle.msp_weighted.specs.Late.{IsLateOrder}
 use Rattle.msp_weighted.specs.Values.{IsTableOrder}
-use Rattle.msp_route.specs.BackToBack.{IsSolutionInOrder}
-use Rattle.msp_route.proofs.PlainJobs.{fair_needs, short_needs}
 use Rattle.msp_weighted.proofs.LateCost.{IsLateInstance-from_class}
-use Rattle.msp_weighted.proofs.LateBest.{all_in_order, IsLateSchedule-made}
+use Rattle.msp_weighted.proofs.LateBest.{IsBestRow-late, IsLateOrder-made}
 use Rattle.msp_weighted.proofs.late_table.LateTableSolver.solve.Goals as goal
+use Rattle.msp_weighted.proofs.late_table.LateTableSolver.solve.Goals.{After-deref}
 
-once_below : (i : Instance) (numbers order : List ℕ) → numbers ≡ order → IsTableOrder i order → OnceBelow (length i.jobs) numbers
-once_below i numbers order e o = OnceBelow-from_permutation (all_in_order i numbers (subst (IsTableOrder i) (sym e) o))
+in_order : (c : After-deref) → IsTableOrder c.args.inst.now c.deref.result.now
+in_order c = subst (IsTableOrder c.args.inst.now) (sym c.deref.ensures.value) c.in_ok-order.ensures
+
+made : (c : After-deref) → IsBestRow c.args.inst.now c.deref.result.now
+made c = IsBestRow-late c.args.inst.now c.requires.class c.requires.inner c.deref.result.now (in_order c)
 
 pub late_order-requires-clause-few : goal.late_order-requires-clause-few
 late_order-requires-clause-few c = c.requires.inner.conditions.few
 
 pub late_order-requires-clause-short : goal.late_order-requires-clause-short
-late_order-requires-clause-short c = short_needs c.args.inst.now (IsLateInstance-from_class c.args.inst.now c.requires.class c.requires.inner).plain
+late_order-requires-clause-short c = short_needs c.args.inst.now (IsLateInstance-from_class c.args.inst.now c.requires.class c.requires.inner).free.plain
 
 pub late_order-requires-clause-light : goal.late_order-requires-clause-light
 late_order-requires-clause-light c = (IsLateInstance-from_class c.args.inst.now c.requires.class c.requires.inner).light
 
 pub late_order-requires-clause-needs : goal.late_order-requires-clause-needs
-late_order-requires-clause-needs c = fair_needs c.args.inst.now (IsLateInstance-from_class c.args.inst.now c.requires.class c.requires.inner).plain
+late_order-requires-clause-needs c = fair_needs c.args.inst.now (IsLateInstance-from_class c.args.inst.now c.requires.class c.requires.inner).free.plain
 
-pub solution_in_order-requires-clause-few : goal.solution_in_order-requires-clause-few
-solution_in_order-requires-clause-few c =
-    let o = once_below c.args.inst.now _ _ c.deref.ensures.value c.in_ok-order.ensures in
-    omega (arith, length-OnceBelow o, c.requires.inner.conditions.few)
-
-pub solution_in_order-requires-clause-jobs : goal.solution_in_order-requires-clause-jobs
-solution_in_order-requires-clause-jobs c = (once_below c.args.inst.now _ _ c.deref.ensures.value c.in_ok-order.ensures).within
-
-pub solution_in_order-requires-clause-needs : goal.solution_in_order-requires-clause-needs
-solution_in_order-requires-clause-needs c = short_needs c.args.inst.now (IsLateInstance-from_class c.args.inst.now c.requires.class c.requires.inner).plain
-
-pub solution_in_order-requires-clause-within : goal.solution_in_order-requires-clause-within
-solution_in_order-requires-clause-within c = (IsLateSchedule-made c.args.inst.now c.requires.class c.requires.inner _ _ c.in_ok-order.ensures c.deref.ensures.value).within
+pub solution_in_order-requires-clause-short : goal.solution_in_order-requires-clause-short
+solution_in_order-requires-clause-short c = (made c).short
 
 pub solution_in_order-requires-clause-feasible : goal.solution_in_order-requires-clause-feasible
-solution_in_order-requires-clause-feasible c = (IsLateSchedule-made c.args.inst.now c.requires.class c.requires.inner _ _ c.in_ok-order.ensures c.deref.ensures.value).best.feasible
+solution_in_order-requires-clause-feasible c = (made c).best.feasible
 
 pub returns-clause-best : goal.returns-clause-best
 returns-clause-best c =
-    IfOk-weaker c.solution_in_order.result (IsSolutionInOrder c.args.inst.now c.deref.result.now) (IsBest c.args.inst.now)
-    (λ s r. record {
-      best = subst (Best c.args.inst.now) (sym r.schedule) (IsLateSchedule-made c.args.inst.now c.requires.class c.requires.inner _ _ c.in_ok-order.ensures c.deref.ensures.value).best;
-      cost = r.cost;
-    })
-    c.solution_in_order.ensures
-
-pub returns-clause-bounds : goal.returns-clause-bounds
-returns-clause-bounds c =
-    IfOk-weaker c.solution_in_order.result (IsSolutionInOrder c.args.inst.now c.deref.result.now) (λ s. IsAnswer c.args.inst.now s.schedule)
-    (λ s r. subst (IsAnswer c.args.inst.now) (sym r.schedule) (IsLateSchedule-made c.args.inst.now c.requires.class c.requires.inner _ _ c.in_ok-order.ensures c.deref.ensures.value).answer)
-    c.solution_in_order.ensures
+    best_in_order c.args.inst.now c.deref.result.now c.solution_in_order.result (made (goal.at.returns-clause-best c).After-deref).best c.solution_in_order.ensures.schedule c.solution_in_order.ensures.cost
 
 pub returns-clause-order : goal.returns-clause-order
-returns-clause-order c =
-    IfOk-weaker c.solution_in_order.result (IsSolutionInOrder c.args.inst.now c.deref.result.now) (λ s. IsLateOrder c.args.inst.now (map job_of s.schedule.pieces))
-    (λ s r. subst (λ x. IsLateOrder c.args.inst.now (map job_of x.pieces))
-    (sym r.schedule) (IsLateSchedule-made c.args.inst.now c.requires.class c.requires.inner _ _ c.in_ok-order.ensures c.deref.ensures.value).order)
-    c.solution_in_order.ensures
-
-pub returns-clause-settled : goal.returns-clause-settled
-returns-clause-settled c =
-    IfOk-weaker c.solution_in_order.result (IsSolutionInOrder c.args.inst.now c.deref.result.now) (λ s. IsSettled s.schedule)
-    (λ s r. subst IsSettled (sym r.schedule) (IsLateSchedule-made c.args.inst.now c.requires.class c.requires.inner _ _ c.in_ok-order.ensures c.deref.ensures.value).settled)
-    c.solution_in_order.ensures
-
-pub returns-clause-lowest : goal.returns-clause-lowest
-returns-clause-lowest c = IfOk-weaker c.solution_in_order.result (IsSolutionInOrder c.args.inst.now c.deref.result.now) (λ s. IsLowest s.cost) (λ s r. r.lowest) c.solution_in_order.ensures
+returns-clause-order c = jobs_in_order (IsLateOrder c.args.inst.now) c.args.inst.now c.deref.result.now c.solution_in_order.result
+    (IsLateOrder-made c.args.inst.now c.requires.class c.requires.inner _ (in_order (goal.at.returns-clause-order c).After-deref)) c.solution_in_order.ensures.schedule
