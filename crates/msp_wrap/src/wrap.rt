@@ -10,7 +10,7 @@ ghost use Rattle.msp_wrap.specs.Laying.{part, HasOpened, IsWrapped, IsWhollyWrap
 use msp_class::{Class, Crit, Env, List, NoMemory, Order, Times};
 use msp_instance::{Instance, Job};
 use msp_pieces::{Piece, Schedule, Solution};
-use msp_route::{Solver, first_time};
+use msp_route::{Solver, best_solution, first_time};
 use std::alloc::Global;
 
 /// The class that the rule solves: `P|pmtn|Cmax`.
@@ -164,8 +164,7 @@ fn wrapped(alloc: Global, inst: &Instance) -> Result<Solution, NoMemory>
         unit: i128::from(inst.machines),
         pieces,
     };
-    let cost = msp_pieces::cost(inst, &schedule);
-    Ok(Solution { schedule, cost })
+    Ok(best_solution(inst, schedule))
 }
 
 /// Finds a schedule of least length on identical machines, where jobs may be cut, by the wrap around rule (McNaughton 1959).
