@@ -1,18 +1,15 @@
 -- The pieces on the stairs as a schedule: it is feasible, meets the limits, and lies within the bounds of an answer.
-use Rattle.std.proofs.Common.{◌≡◌, ℕ, ◌*◌, ◌<◌, ◌≤◌, inl, inr, Bool, List, [], ◌∷◌, length, get_or, map, ℤ, pos, neg_ℤ, nat_abs, ◌+ℤ◌, ◌-ℤ◌, ◌*ℤ◌, ◌≤ℤ◌, All, MatchBool, sym, ap, subst, ◌∙◌, arith}
+use Rattle.std.proofs.Common.{◌≡◌, ℕ, ◌*◌, ◌<◌, ◌≤◌, inl, inr, Bool, List, length, get_or, ℤ, pos, neg_ℤ, nat_abs, ◌+ℤ◌, ◌-ℤ◌, ◌*ℤ◌, ◌≤ℤ◌, All, sym, ap, subst, ◌∙◌, arith}
 use Rattle.std.specs.Prelude.{◌==◌, Option, Some, None}
 use Rattle.std.specs.Int.{int_max}
 use Rattle.std.specs.List.{count_by}
 use Rattle.std.proofs.lemmas.Int.{ints, clamps}
 use Rattle.std.proofs.lemmas.Bool.{cases_lt}
 use Rattle.std.proofs.lemmas.List.{get_or_default}
-use Rattle.std.proofs.lemmas.List.Elements.{All-filter, All-contains}
+use Rattle.std.proofs.lemmas.List.Elements.{All-contains}
 use Rattle.std.proofs.Math.Nat.{mul-le-mul_right}
 use Rattle.msp_class.specs.declared.sizes.TheConstants.{MOST_MACHINES, GREATEST}
-use Rattle.msp_class.specs.declared.environments.EnvKind.{EnvKind}
-use Rattle.msp_class.specs.declared.environments.EnvKind.TheVariants.{Identical}
 use Rattle.msp_class.specs.Crit.{is_greatest}
-use Rattle.msp_class.specs.Env.{kind_of}
 use Rattle.msp_class.proofs.IntegerRing.{≤ℤ_refl, ≤ℤ_trans, ≤ℤ_total, <ℤ_weak, natural, zero-le-pos, pos-le, le-pos, ≤ℤ-int_max_left, int_max-least, *ℤ-neg, int_max-right, int_max-left, *ℤ_comm, *ℤ-mono}
 use Rattle.msp_class.proofs.Sums.{OnceBelow-contains, length-OnceBelow}
 use Rattle.msp_instance.specs.declared.Instance.{Instance}
@@ -20,18 +17,18 @@ use Rattle.msp_instance.specs.Instance.{job_at, no_job}
 use Rattle.msp_instance.specs.Conditions.{LiesWithin}
 use Rattle.msp_pieces.specs.declared.Piece.{Piece}
 use Rattle.msp_pieces.specs.declared.Schedule.{Schedule}
-use Rattle.msp_pieces.specs.Piece.{job_of, length_of, pieces_of, start, finish, IsTimed}
-use Rattle.msp_pieces.specs.Feasible.{Feasible, HasPlace, HasOperation, MayRun, FollowsRoute, GetsWork, IsWholeWork, total, whole_work, work_of as part_of}
+use Rattle.msp_pieces.specs.Piece.{job_of, start, finish}
+use Rattle.msp_pieces.specs.Feasible.{Feasible}
 use Rattle.msp_pieces.specs.Intervals.{work_of}
 use Rattle.msp_pieces.specs.Cost.{end_of, cost_of, job_cost}
-use Rattle.msp_pieces.specs.BackToBack.{time_at}
 use Rattle.msp_pieces.proofs.lists.Intervals.{piece_of}
 use Rattle.msp_pieces.proofs.feasible.LastEnds.{last_end-least}
 use Rattle.msp_pieces.proofs.feasible.OfClass.{IsOfClass}
-use Rattle.msp_pieces.proofs.feasible.OneMachine.{apart_in_int, pieces_of-job, total_lengths}
 use Rattle.msp_pieces.proofs.feasible.BackToBack.{ordered_without_arcs}
 use Rattle.msp_pieces.proofs.costs.Charges.{cost_of-least}
 use Rattle.msp_route.specs.Bounds.{IsAnswer, answer_unit}
+use Rattle.msp_route.proofs.Owed.{timed_answer}
+use Rattle.msp_route.proofs.Laid.{at_zero, cut_is_feasible}
 use Rattle.msp_stairs.specs.declared.climb.Limits.{Limits}
 use Rattle.msp_stairs.specs.declared.climb.Stair.{Stair}
 use Rattle.msp_stairs.specs.Stairs.{stairs_class, makespan, HasTwoPiecesAtMost}
@@ -122,46 +119,21 @@ module _ (i : Instance) (h : IsOfClass i stairs_class) (order : List ℕ) (limit
       found x b e = get_or_default order x 0 j b ∙ e
 
   -- ---- feasible
-  places : All (HasPlace i) ps
-  places k d l = record {
-    job = job_inside k d l;
-    operation = subst (λ x. HasOperation x i (get_or ps k d).job (get_or ps k d).op) (sym h.kind) (c.on_stairs.place k d l).0;
-    machine = subst (λ x. MayRun x i (get_or ps k d).job (get_or ps k d).op (get_or ps k d).machine) (sym h.kind) (c.on_stairs.place k d l).1;
-  }
-
-  released : All (λ p. (pos i.machines *ℤ pos (job_at i p.job).release) ≤ℤ p.from) ps
-  released k d l = by (get_or ps k d).from _ i.machines (job_at i (get_or ps k d).job).release (c.on_stairs.timed k d l).from (h.jobs (get_or ps k d).job no_job (job_inside k d l)).release
-    where
-      by : (x : ℤ) (n m r : ℕ) → x ≡ pos n → r ≡ 0 → (pos m *ℤ pos r) ≤ℤ x
-      by x n m r e z = subst (λ y. (pos m *ℤ pos y) ≤ℤ x) (sym z) (omega (arith, ints, e))
-
-  module _ (j : ℕ) (small : j < n) where
-    adds_up : total (map length_of (pieces_of s j 0)) ≡ pos i.machines *ℤ pos (time_at i j)
-    adds_up =
-        ap (λ l. total (map length_of l)) (pieces_of-job s j (λ k d l. (c.on_stairs.place k d l).0))
-        ∙ total_lengths _ (All-filter (λ p. p.job == j) IsTimed ps c.on_stairs.timed)
-        ∙ ap pos (each_job (λ j. work_of job_of start finish ps j ≡ work_at i j) c.worked.work j small)
-
-    abbrev Gets : EnvKind → ℕ → Bool → Type 0
-    Gets x n b = MatchBool b (total (map (part_of x i) (pieces_of s j n)) ≡ pos i.machines *ℤ pos (whole_work x i j n)) ((p : Piece) × (pieces_of s j n ≡ p ∷ []) × IsWholeWork x i (pos i.machines) p)
-
-    works : (n : ℕ) → HasOperation (kind_of i.class.env) i j n → GetsWork i s j n
-    works n op =
-        let zero_op : n ≡ 0 = subst (λ x. HasOperation x i j n) h.kind op in
-        subst (λ x. Gets x n i.class.cut) (sym h.kind) (subst (λ z. Gets Identical z i.class.cut) (sym zero_op) (subst (Gets Identical 0) (sym h.cut) adds_up))
+  works : (j : ℕ) → j < n → work_of job_of start finish ps j ≡ work_at i j
+  works = each_job (λ j. work_of job_of start finish ps j ≡ work_at i j) c.worked.work
 
   pub is_feasible : Feasible i s
-  is_feasible = record {
-    unit = omega (arith, ints, h.machine);
-    span = λ k d l. let t = c.on_stairs.timed k d l in (omega (arith, ints, t.from), omega (arith, ints, t.from, t.to, t.lasts));
-    place = places;
-    machine = λ a b d m k e. apart_in_int _ _ (c.on_stairs.timed a d (omega arith)) (c.on_stairs.timed b d k) (c.on_stairs.apart a b d m k e);
-    job = λ a b d m k e. apart_in_int _ _ (c.on_stairs.timed a d (omega arith)) (c.on_stairs.timed b d k) (c.worked.apart a b d m k e);
-    release = released;
-    arc = ordered_without_arcs i.arcs ps h.arcs;
-    route = subst (λ x. FollowsRoute x ps) (sym h.kind) tt;
-    work = λ j n l op. works j l n op;
-  }
+  is_feasible = cut_is_feasible i i.machines ps h.kind h.cut (record {
+    some = h.machine;
+    timed = c.on_stairs.timed;
+    jobs = job_inside;
+    ops = λ k d l. (c.on_stairs.place k d l).0;
+    inside = λ k d l. (c.on_stairs.place k d l).1;
+    machines = c.on_stairs.apart;
+    apart = c.worked.apart;
+    released = λ k d l. at_zero i.machines _ (start (get_or ps k d)) (h.jobs (get_or ps k d).job no_job (job_inside k d l)).release;
+    arcs = ordered_without_arcs i.arcs ps h.arcs;
+  }) works
 
   -- ---- interrupted once at most
   pub cut_once : HasTwoPiecesAtMost s
@@ -177,7 +149,7 @@ module _ (i : Instance) (h : IsOfClass i stairs_class) (order : List ℕ) (limit
   some_deadline : (j : ℕ) → j < n → 0 < deadline i limits j
   some_deadline j l =
       let (q, among, mine, lasts) = piece_of job_of start finish ps j
-      (subst (λ w. 0 < w) (sym (each_job (λ j. work_of job_of start finish ps j ≡ work_at i j) c.worked.work j l)) (each_job (λ j. 0 < work_at i j) (λ x b. omega (arith, can.works x b)) j l)) in
+      (subst (λ w. 0 < w) (sym (works j l)) (each_job (λ j. 0 < work_at i j) (λ x b. omega (arith, can.works x b)) j l)) in
       let late = All-contains (λ p. finish p ≤ deadline i limits p.job) ps q c.worked.ends among in
       omega (arith, lasts, subst (λ x. finish q ≤ deadline i limits x) mine late)
 
@@ -217,15 +189,6 @@ module _ (i : Instance) (h : IsOfClass i stairs_class) (order : List ℕ) (limit
 
   -- ---- bounds
   module _ (small : LiesWithin greatest_bound limits.late) where
-    moments : All (λ p. p.to ≤ℤ pos latest_deadline) ps
-    moments k d l = by (get_or ps k d) (c.on_stairs.timed k d l) (omega (arith, c.worked.ends k d l, deadline-small i h limits small (get_or ps k d).job (job_inside k d l)))
-      where
-        by : (p : Piece) → IsTimed p → finish p ≤ latest_deadline → p.to ≤ℤ pos latest_deadline
-        by p t l = subst (λ x. x ≤ℤ pos latest_deadline) (sym t.to) (pos-le l)
-
     pub is_answer : IsAnswer i s
-    is_answer = record {
-      few = omega (arith, c.worked.few, many, h.few);
-      unit = subst (λ k. pos i.machines ≤ℤ answer_unit k) (sym h.kind) (omega (arith, ints, h.machines));
-      ends = λ k d l. ≤ℤ_trans (moments k d l) (omega (arith, ints));
-    }
+    is_answer = timed_answer i s latest_deadline (subst (λ k. pos i.machines ≤ℤ answer_unit k) (sym h.kind) (omega (arith, ints, h.machines))) (omega (arith, c.worked.few, many, h.few))
+        c.on_stairs.timed (λ k d l. omega (arith, c.worked.ends k d l, deadline-small i h limits small (get_or ps k d).job (job_inside k d l))) (omega (arith, ints))
