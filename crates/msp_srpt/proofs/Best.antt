@@ -1,34 +1,35 @@
 -- The pieces of all jobs as a schedule: it is feasible, keeps the rule and is best.
-use Rattle.std.proofs.Common.{◌≡◌, ℕ, ◌+◌, ◌*◌, ◌-◌, ◌<◌, ◌≤◌, ◌⊎◌, inl, inr, min, Bool, true, false, cond, eqb, List, [], ◌∷◌, length, get_or, map, ℤ, pos, nat_abs, ◌*ℤ◌, ◌≤ℤ◌}
-use Rattle.std.proofs.Common.{All, AllPairs, MatchBool, refl, sym, ap, ◌∙◌, subst, arith}
+use Rattle.std.proofs.Common.{◌≡◌, ℕ, ◌+◌, ◌*◌, ◌-◌, ◌<◌, ◌≤◌, ◌⊎◌, inl, inr, min, Bool, true, false, cond, eqb, List, [], ◌∷◌, length, get_or, pos, nat_abs, ◌*ℤ◌, ◌≤ℤ◌}
+use Rattle.std.proofs.Common.{All, refl, sym, ap, ◌∙◌, subst, arith}
 use Rattle.std.specs.Prelude.{◌==◌}
 use Rattle.std.proofs.Math.Nat.{one-dvd}
 use Rattle.std.proofs.lemmas.Bool.{cases_lt, eq-eqb}
 use Rattle.std.proofs.lemmas.Int.{ints}
 use Rattle.std.proofs.lemmas.Nat.Gcd.{dvd_antisymm}
-use Rattle.std.proofs.lemmas.List.Elements.{All-nil, All-cons, All-head, All-tail, All-filter}
-use Rattle.msp_class.specs.declared.environments.EnvKind.{EnvKind}
-use Rattle.msp_class.specs.declared.environments.EnvKind.TheVariants.{Identical}
+use Rattle.std.proofs.lemmas.List.Elements.{All-nil, All-cons, All-head, All-tail}
+use Rattle.msp_class.specs.declared.sizes.TheConstants.{MOST_JOBS, GREATEST}
 use Rattle.msp_class.specs.declared.class.Crit.TheVariants.{SumC}
 use Rattle.msp_class.specs.Env.{kind_of}
 use Rattle.msp_class.specs.Crit.{is_greatest}
-use Rattle.msp_class.proofs.IntegerRing.{pos-le, ≤ℤ_trans, ≤ℤ_of_same, *ℤ-one}
 use Rattle.msp_class.specs.Sums.{total_below}
 use Rattle.msp_class.proofs.Sums.{int_total_below-natural, sum_by-cons, sum_by-mono, sum_by-same, sum_by-filter}
-use Rattle.msp_instance.specs.declared.Arc.{Arc}
 use Rattle.msp_instance.specs.declared.Instance.{Instance}
 use Rattle.msp_instance.specs.Instance.{job_at}
 use Rattle.msp_instance.specs.Conditions.{Inner}
 use Rattle.msp_pieces.specs.declared.Piece.{Piece}
 use Rattle.msp_pieces.specs.declared.Schedule.{Schedule}
-use Rattle.msp_pieces.specs.Piece.{length_of, pieces_of, IsBefore, job_of, start, finish, IsTimed}
-use Rattle.msp_pieces.specs.Feasible.{Feasible, HasPlace, HasOperation, MayRun, FollowsRoute, GetsWork, IsWholeWork, total, whole_work, work_of as part_of}
-use Rattle.msp_pieces.specs.Cost.{cost_of, end_of, job_cost, Best}
+use Rattle.msp_pieces.specs.Piece.{job_of, start, finish, IsTimed}
+use Rattle.msp_pieces.specs.Feasible.{Feasible}
+use Rattle.msp_pieces.specs.Cost.{cost_of, end_of, job_cost}
 use Rattle.msp_pieces.specs.Settled.{IsSettled}
 use Rattle.msp_pieces.proofs.costs.Charges.{charge_of, cost_of-sum}
 use Rattle.msp_pieces.specs.Intervals.{size_of, work_of}
 use Rattle.msp_pieces.proofs.lists.Intervals.{last_of, last_of-least}
-use Rattle.msp_pieces.proofs.feasible.OneMachine.{IsPlan-from_feasible, last_end-is, pieces_of-job, total_lengths}
+use Rattle.msp_pieces.proofs.feasible.OneMachine.{IsPlan-from_feasible, last_end-is}
+use Rattle.msp_pieces.proofs.feasible.BackToBack.{ordered_without_arcs}
+use Rattle.msp_route.specs.Bounds.{IsBestAnswer}
+use Rattle.msp_route.proofs.Owed.{unit_one, timed_answer, over_units}
+use Rattle.msp_route.proofs.Laid.{cut_is_feasible}
 use Rattle.msp_pieces.specs.BackToBack.{time_at}
 use Rattle.msp_srpt.specs.Shortest.{shortest_class, run_before, IsWaiting, KeepsRule, idle, runs, IsShortestFirst}
 use Rattle.msp_srpt.specs.Running.{IsCarriedOut, IsLaid}
@@ -75,7 +76,7 @@ as_schedule ps = record { unit = pos 1; pieces = ps }
 
 -- what is said of the answer's schedule
 pub record IsShortestSchedule (i : Instance) (s : Schedule) : Type 0 where
-  pub best : Best i s
+  pub best : IsBestAnswer i s
   pub rule : IsShortestFirst i s.pieces
   pub settled : IsSettled s
 
@@ -93,23 +94,6 @@ module _ (i : Instance) (h : IsShortestInstance i) (t : ℕ) (ps : List Piece) (
   done j l = omega (arith, w.ended.share j, brought-all i w.order w.once j l)
 
   -- ---- feasible
-  in_order : AllPairs (λ p q. p.to ≤ℤ q.from) ps
-  in_order a b d l m = let k = laid.timed a d (omega arith) in let g = laid.timed b d m in omega (arith, ints, k.to, g.from, laid.order a b d l m)
-
-  places : All (HasPlace i) ps
-  places k d l =
-      let p = laid.place k d l in
-      let one = h.one.machine.one in
-      record {
-        job = p.0;
-        operation = subst (λ x. HasOperation x i (get_or ps k d).job (get_or ps k d).op) (sym h.one.machine.kind) p.1;
-        machine = subst (λ x. MayRun x i (get_or ps k d).job (get_or ps k d).op (get_or ps k d).machine) (sym h.one.machine.kind) (omega (arith, p.2, one));
-      }
-
-  no_arcs : All (λ a. All (λ p. All (λ r. p.job ≡ a.before → r.job ≡ a.after → IsBefore p r) ps) ps) i.arcs
-  no_arcs = subst (λ arcs. All (λ a. All (λ p. All (λ r. p.job ≡ a.before → r.job ≡ a.after → IsBefore p r) ps) ps) arcs)
-      (sym h.arcs) (All-nil (λ (a : Arc). All (λ p. All (λ r. p.job ≡ a.before → r.job ≡ a.after → IsBefore p r) ps) ps))
-
   sizes : (j : ℕ) → work_of job_of start finish ps j ≡ run_before ps t j
   sizes j = sum_by-filter (size_of start finish) (λ p. eqb p.job j) ps
       ∙ sum_by-same (λ p. cond (eqb p.job j) (size_of start finish p) 0) (run_of t j) ps (λ k d l. by (get_or ps k d) ((get_or ps k d).job == j) (laid.early k d l))
@@ -118,34 +102,18 @@ module _ (i : Instance) (h : IsShortestInstance i) (t : ℕ) (ps : List Piece) (
       by p true e = omega (arith, e)
       by p false e = refl
 
-  module _ (j : ℕ) (small : j < n) where
-    adds_up : total (map length_of (pieces_of s j 0)) ≡ pos 1 *ℤ pos (time_at i j)
-    adds_up =
-        ap (λ l. total (map length_of l)) (pieces_of-job s j (λ k d l. (laid.place k d l).1))
-        ∙ total_lengths _ (All-filter (λ p. p.job == j) IsTimed ps laid.timed)
-        ∙ ap pos (sizes j ∙ done j small)
-        ∙ omega (arith, ints)
-
-    abbrev Gets : EnvKind → ℕ → Bool → Type 0
-    Gets x m b = MatchBool b (total (map (part_of x i) (pieces_of s j m)) ≡ pos 1 *ℤ pos (whole_work x i j m)) ((p : Piece) × (pieces_of s j m ≡ p ∷ []) × IsWholeWork x i (pos 1) p)
-
-    works : (m : ℕ) → HasOperation (kind_of i.class.env) i j m → GetsWork i s j m
-    works m op =
-        let zero_op : m ≡ 0 = subst (λ x. HasOperation x i j m) h.one.machine.kind op in
-        subst (λ x. Gets x m i.class.cut) (sym h.one.machine.kind) (subst (λ z. Gets Identical z i.class.cut) (sym zero_op) (subst (Gets Identical 0) (sym h.cut) adds_up))
-
   is_feasible : Feasible i s
-  is_feasible = record {
-    unit = omega (arith, ints);
-    span = λ k d l. let q = laid.timed k d l in (omega (arith, ints, q.from), omega (arith, ints, q.from, q.to, q.lasts));
-    place = places;
-    machine = λ a b d l m _. inl (in_order a b d l m);
-    job = λ a b d l m _. inl (in_order a b d l m);
-    release = λ k d l. let q = laid.timed k d l in omega (arith, ints, q.from, laid.released k d l);
-    arc = no_arcs;
-    route = subst (λ x. FollowsRoute x ps) (sym h.one.machine.kind) tt;
-    work = λ j m l op. works j l m op;
-  }
+  is_feasible = cut_is_feasible i 1 ps h.one.machine.kind h.cut (record {
+    some = omega arith;
+    timed = laid.timed;
+    jobs = λ k d l. (laid.place k d l).0;
+    ops = λ k d l. (laid.place k d l).1;
+    inside = λ k d l. let one = h.one.machine.one in omega (arith, (laid.place k d l).2, one);
+    machines = λ a b d l m _. inl (laid.order a b d l m);
+    apart = λ a b d l m _. inl (laid.order a b d l m);
+    released = λ k d l. omega (arith, laid.released k d l);
+    arcs = ordered_without_arcs i.arcs ps h.arcs;
+  }) (λ j l. omega (arith, sizes j, done j l))
 
   -- ---- the rule
   keeps : (v : ℕ) → KeepsRule i (run_before ps v) (run_before ps (v + 1)) v
@@ -192,7 +160,7 @@ module _ (i : Instance) (h : IsShortestInstance i) (t : ℕ) (ps : List Piece) (
   beats c f =
       let plan = IsPlan-from_feasible i h.one.machine c f in
       let d = nat_abs c.unit in
-      in_int _ _ c.unit (total_below n ends) (total_below n (last_of job_of finish c.pieces)) d (ends_cost i s h.crit laid.timed) (ends_cost i c h.crit plan.timed) plan.unit
+      over_units _ _ c.unit (total_below n ends) (total_below n (last_of job_of finish c.pieces)) d (ends_cost i s h.crit laid.timed) (ends_cost i c h.crit plan.timed) plan.unit
       (ends_below n (λ j. (job_at i j).release) (time_at i) (run_before ps)
       (takes_time i h.one) (λ v j l m. run-unborn i v j ps laid.released m) in_numbers job_of start finish c.pieces d plan.some plan.jobs plan.apart
       (λ k e l. begins (get_or c.pieces k e) (plan.timed k e l) plan.unit (f.release k e l)) plan.work ends complete)
@@ -204,18 +172,16 @@ module _ (i : Instance) (h : IsShortestInstance i) (t : ℕ) (ps : List Piece) (
           by : (a b x : ℕ) → (pos a *ℤ pos b) ≤ℤ pos x → a * b ≤ x
           by a b x l = omega (arith, ints, l)
 
-      in_int : (x y u : ℤ) (a b d : ℕ) → x ≡ pos a → y ≡ pos b → u ≡ pos d → d * a ≤ b → (x *ℤ u) ≤ℤ (y *ℤ pos 1)
-      in_int x y u a b d ex ey eu l =
-          let turned : a * d ≤ b = omega (arith, l) in
-          ≤ℤ_trans (≤ℤ_of_same (ap (λ z. z *ℤ u) ex ∙ ap (λ z. pos a *ℤ z) eu)) (≤ℤ_trans (pos-le turned) (≤ℤ_of_same (sym (*ℤ-one y ∙ ey))))
-
   pub IsShortestSchedule-made : IsShortestSchedule i s
   IsShortestSchedule-made = record {
-    best = record { feasible = is_feasible; least = beats };
+    best = record {
+      best = record { feasible = is_feasible; least = beats };
+      answer = timed_answer i s ((MOST_JOBS + 3) * GREATEST) (unit_one (kind_of i.class.env)) (omega (arith, w.few, h.one.few)) laid.timed (λ k d l. omega (arith, laid.early k d l, w.short)) (omega (arith, ints));
+    };
     rule = is_shortest_first;
     settled = record {
       lowest = λ d divides _. dvd_antisymm divides (one-dvd d);
-      order = λ a b d l m. let k = laid.timed a d (omega arith) in inl (omega (arith, ints, in_order a b d l m, k.from, k.to, k.lasts));
+      order = λ a b d l m. let k = laid.timed a d (omega arith) in let g = laid.timed b d m in inl (omega (arith, ints, laid.order a b d l m, k.from, k.lasts, g.from));
     };
   }
 

@@ -1,6 +1,6 @@
 -- Jobs of one time that run by rising head: their schedule is feasible, its ends come first, and it is best.
 use Rattle.std.proofs.Common.{◌≡◌, ℕ, zero, suc, ◌+◌, ◌*◌, ◌<◌, ◌≤◌, inl, inr, cond, leb, List, length, get_or, map, All, ℤ, pos, nat_abs, ◌-ℤ◌, ◌*ℤ◌, ◌≤ℤ◌, ◌<ℤ◌, refl, sym, ap}
-use Rattle.std.proofs.Common.{ap₂, subst, subst₂, ◌∙◌, arith, le_trans}
+use Rattle.std.proofs.Common.{subst, subst₂, ◌∙◌, arith, le_trans}
 use Rattle.std.proofs.lemmas.Bool.{cases_lt}
 use Rattle.std.proofs.lemmas.Int.{ints}
 use Rattle.std.proofs.lemmas.List.{get_or_default}
@@ -9,24 +9,24 @@ use Rattle.msp_class.specs.declared.sizes.TheConstants.{MOST_JOBS, GREATEST}
 use native.Mathlib.Nat.{mul-le-mul_left}
 use Rattle.msp_class.specs.Env.{kind_of}
 use Rattle.msp_class.specs.Sums.{total_below}
-use Rattle.msp_class.proofs.IntegerRing.{pos-le, pos-lt, zero-le-pos, *ℤ-one}
+use Rattle.msp_class.proofs.IntegerRing.{pos-le, pos-lt, zero-le-pos}
 use Rattle.msp_class.proofs.Sums.{total_below-bound, total_below-scale, cond-le}
 use Rattle.msp_instance.specs.declared.Instance.{Instance}
 use Rattle.msp_instance.specs.Instance.{job_at, common_time}
 use Rattle.msp_instance.specs.Conditions.{Inner}
 use Rattle.msp_pieces.specs.declared.Piece.{Piece}
 use Rattle.msp_pieces.specs.declared.Schedule.{Schedule}
-use Rattle.msp_pieces.specs.Cost.{cost_of, Best}
+use Rattle.msp_pieces.specs.Cost.{cost_of}
 use Rattle.msp_pieces.specs.Feasible.{Feasible, IsWholeWork}
 use Rattle.msp_pieces.specs.Piece.{IsBefore, job_of, start, finish, IsTimed}
 use Rattle.msp_pieces.specs.BackToBack.{piece, time_at}
-use Rattle.msp_pieces.specs.Within.{Within}
-use Rattle.msp_pieces.proofs.feasible.OneEach.{AreOneEach, one_each_is_feasible, one_each_is_within}
+use Rattle.msp_pieces.proofs.feasible.OneEach.{AreOneEach, one_each_is_feasible}
 use Rattle.msp_pieces.proofs.feasible.OneMachine.{IsPlan-from_feasible, last_end-is}
 use Rattle.msp_pieces.proofs.lists.Intervals.{last_of}
 use Rattle.msp_heads.specs.Heads.{head_in, AreHeads}
 use Rattle.msp_route.specs.declared.bounds.TheConstants.{GREATEST_ANSWER_MOMENT}
-use Rattle.msp_route.specs.Bounds.{IsAnswer, answer_unit}
+use Rattle.msp_route.specs.Bounds.{IsBestAnswer}
+use Rattle.msp_route.proofs.Owed.{unit_one, over_units}
 use Rattle.msp_route.proofs.OneEach.{one_each_is_answer}
 use Rattle.msp_route.proofs.OneInstances.{takes_time, is_short}
 use Rattle.msp_srpt.specs.EqualHeads.{equal_heads_class, piece_number, RunInOrder, RunByHeads, end_number, EndsFirst}
@@ -41,17 +41,8 @@ as_schedule pieces = record { unit = pos 1; pieces = pieces }
 
 -- what the answer has
 pub record IsHeadsAnswer (i : Instance) (s : Schedule) : Type 0 where
-  pub best : Best i s
+  pub best : IsBestAnswer i s
   pub ends : EndsFirst i s
-  pub within : Within i s
-  pub answer : IsAnswer i s
-
--- a number over one unit and another over a unit of its own
-over_units : (x y u : ℤ) (a b d : ℕ) → x ≡ pos a → y ≡ pos b → u ≡ pos d → d * a ≤ b → (x *ℤ u) ≤ℤ (y *ℤ pos 1)
-over_units x y u a b d ex ey eu l = subst₂ (λ v w. v ≤ℤ w) (sym (ap₂ (λ v w. v *ℤ w) ex eu)) (sym (*ℤ-one y ∙ ey)) (pos-le (turned a b d l))
-  where
-    turned : (a b d : ℕ) → d * a ≤ b → a * d ≤ b
-    turned a b d l = omega (arith, l)
 
 module _ (i : Instance) (h : IsEqualInstance i) (heads : List ℕ) (are : AreHeads i heads) (pieces : List Piece) (r : RunInOrder i heads pieces) where
   abbrev n : ℕ
@@ -136,12 +127,6 @@ module _ (i : Instance) (h : IsEqualInstance i) (heads : List ℕ) (are : AreHea
   feasible : Feasible i s
   feasible = one_each_is_feasible i (uncut i h) 1 pieces one_each
 
-  within : Within i s
-  within = one_each_is_within i (uncut i h) 1 pieces one_each (omega arith) (λ _. omega (arith, ints))
-
-  answer : IsAnswer i s
-  answer = one_each_is_answer i (uncut i h) 1 pieces one_each (subst (λ k. pos 1 ≤ℤ answer_unit k) (sym h.one.machine.kind) (omega (arith, ints)))
-
   -- ---- any feasible schedule
   abbrev ends : ℕ → ℕ
   ends = last_of job_of finish pieces
@@ -181,7 +166,10 @@ module _ (i : Instance) (h : IsEqualInstance i) (heads : List ℕ) (are : AreHea
           omega (arith, e, enough i h heads are pieces r (λ j. nat_abs t.unit * ends j) k c l (λ p b. le_trans (mul-le-mul_left (nat_abs t.unit) (ends_up_to i h heads are pieces r k l p b)) least))
 
   pub IsHeadsAnswer-made : IsHeadsAnswer i s
-  IsHeadsAnswer-made = record { best = record { feasible = feasible; least = beats }; ends = ends_first; within = within; answer = answer }
+  IsHeadsAnswer-made = record {
+    best = record { best = record { feasible = feasible; least = beats }; answer = one_each_is_answer i (uncut i h) 1 pieces one_each (unit_one (kind_of i.class.env)) };
+    ends = ends_first;
+  }
 
 -- as the code has it
 pub IsHeadsAnswer-read : (i : Instance) → i.class ≡ equal_heads_class → Inner i → (pieces : List Piece) → RunByHeads i pieces → IsHeadsAnswer i (as_schedule pieces)

@@ -23,7 +23,7 @@ use msp_class::{Class, Crit, Env, List, NoMemory, Order, Times};
 use msp_heads::{heads_of, time_of};
 use msp_instance::Instance;
 use msp_pieces::{Piece, Schedule, Solution};
-use msp_route::{Solver, jobs_by_key};
+use msp_route::{Solver, best_solution, jobs_by_key};
 use std::alloc::Global;
 
 /// The class that the rule solves: `1|prec,r,p=p|sumC`.
@@ -116,7 +116,6 @@ impl Solver for EqualHeads {
     {
         let pieces = pieces_by_head(alloc, inst)?;
         let schedule = Schedule { unit: 1, pieces };
-        let cost = msp_pieces::cost(inst, &schedule);
-        Ok(Solution { schedule, cost })
+        Ok(best_solution(inst, schedule))
     }
 }

@@ -16,7 +16,7 @@ ghost use Rattle.msp_srpt.specs.Running.{Precedes, IsQueue, tasks_in, HasBegun, 
 use msp_class::{Class, Crit, Env, List, NoMemory, Order, Times};
 use msp_instance::{GREATEST, Instance, MOST_JOBS};
 use msp_pieces::{Piece, Schedule, Solution};
-use msp_route::{Solver, first_time, jobs_by_key};
+use msp_route::{Solver, best_solution, first_time, jobs_by_key};
 use std::alloc::Global;
 use std::cmp::Reverse;
 use std::collections::BinaryHeap;
@@ -279,7 +279,6 @@ impl Solver for Shortest {
     {
         let pieces = shortest_pieces(alloc, inst)?;
         let schedule = Schedule { unit: 1, pieces };
-        let cost = msp_pieces::cost(inst, &schedule);
-        Ok(Solution { schedule, cost })
+        Ok(best_solution(inst, schedule))
     }
 }

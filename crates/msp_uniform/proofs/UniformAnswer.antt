@@ -9,24 +9,21 @@ use Rattle.std.proofs.lemmas.List.Sorted.{All-permutation, length_permutation}
 use Rattle.msp_class.specs.declared.sizes.TheConstants.{MOST_JOBS, MOST_MACHINES, MOST_PIECES}
 use native.Mathlib.Nat.{le_of_mul-le-mul_left}
 use Rattle.msp_class.specs.Env.{kind_of}
-use Rattle.msp_class.specs.declared.environments.EnvKind.{EnvKind}
-use Rattle.msp_class.specs.declared.environments.EnvKind.TheVariants.{Uniform, Unrelated}
 use Rattle.msp_class.proofs.Sums.{sum_by-same}
 use Rattle.msp_class.proofs.IntegerRing.{natural_some, pos-le, pos-same, pos-*ℤ-pos, *ℤ_comm, *ℤ-cancel}
 use Rattle.msp_instance.specs.declared.Instance.{Instance}
 use Rattle.msp_instance.specs.Instance.{no_job, no_need}
 use Rattle.msp_instance.specs.Conditions.{Inner}
-use Rattle.msp_pieces.specs.declared.Piece.{Piece}
 use Rattle.msp_pieces.specs.declared.Frac.{Frac}
 use Rattle.msp_pieces.specs.declared.Schedule.{Schedule}
-use Rattle.msp_pieces.specs.Piece.{finish, IsTimed}
+use Rattle.msp_pieces.specs.Piece.{finish}
 use Rattle.msp_pieces.specs.Feasible.{Feasible}
 use Rattle.msp_pieces.specs.Fraction.{IsOver}
 use Rattle.msp_pieces.specs.Cost.{cost_of, Best}
 use Rattle.msp_pieces.specs.BackToBack.{time_at}
 use Rattle.msp_pieces.specs.Speeds.{speed_of, speed_by}
-use Rattle.msp_pieces.specs.Within.{Within, IsMoment, IsUnit}
-use Rattle.msp_route.specs.Bounds.{IsAnswer, answer_unit}
+use Rattle.msp_route.specs.Bounds.{IsBestAnswer, answer_unit}
+use Rattle.msp_route.proofs.Owed.{timed_answer}
 use Rattle.msp_route.specs.declared.bounds.TheConstants.{GREATEST_ANSWER_MOMENT}
 use Rattle.msp_pieces.proofs.costs.Charges.{cost-same_ends, SameCharges-from_jobs}
 use Rattle.msp_pieces.proofs.lists.Permuted.{Feasible-permutation, last_end-permutation}
@@ -43,17 +40,9 @@ use Rattle.msp_uniform.proofs.SegmentPieces.{long, LieApart, runs_lie_apart, few
 use Rattle.msp_uniform.proofs.LeastEnd.{law_of_least_end, order_within, order_length}
 use Rattle.msp_uniform.proofs.UniformBest.{cut_schedule, cut_is_best, cut_costs}
 
-not_unrelated : (e : EnvKind) → e ≡ Uniform → e ≡ Unrelated → ⊥
-not_unrelated e p q = uniform_not (sym p ∙ q)
-  where
-    uniform_not : Uniform ≡ Unrelated → ⊥
-    uniform_not x = absurd (cc)
-
 -- what is said of the answer
 pub record IsBestCut (i : Instance) (s : Schedule) : Type 0 where
-  pub best : Best i s
-  pub within : Within i s
-  pub answer : IsAnswer i s
+  pub best : IsBestAnswer i s
   pub cost : (c : Frac) → IsOver c (cost_of i s) s.unit → IsUniformCost i c
 
 -- an order by a key that is the same for all numbers below n
@@ -156,12 +145,6 @@ module _ (i : Instance) (class : i.class ≡ cut_class)
   ends : All (λ p. finish p ≤ f.end) made.pieces
   ends a d l = omega (arith, pieces_lie.lies a d l, whole)
 
-  moments : All (λ p. IsMoment p.from × IsMoment p.to) made.pieces
-  moments a d l = by (get_or made.pieces a d) (pieces_lie.timed a d l) (ends a d l)
-    where
-      by : (p : Piece) → IsTimed p → finish p ≤ f.end → IsMoment p.from × IsMoment p.to
-      by p q m = ((omega (arith, ints, q.from), omega (arith, ints, q.from, q.lasts, m, short)), (omega (arith, ints, q.to), omega (arith, ints, q.to, m, short)))
-
   -- the cost is the greatest quotient
   module _ (c : Frac) (over : IsOver c (cost_of i made) made.unit) where
     value : c.num *ℤ pos unit ≡ pos f.end *ℤ c.den
@@ -222,46 +205,36 @@ module _ (i : Instance) (class : i.class ≡ cut_class)
 
   pub made_best : IsBestCut i made
   made_best = record {
-    best = best;
-    within = record {
-      unit = (omega (arith, ints, f.within.some), omega (arith, ints, f.within.small));
-      few = few;
-      moments = moments;
-      scaled = λ u. absurd (not_unrelated (kind_of i.class.env) h.kind u);
-    };
-    answer = record {
-      few = few;
-      unit = subst (λ e. pos unit ≤ℤ answer_unit e) (sym h.kind) (omega (arith, ints, f.within.small));
-      ends = λ a d l. omega (arith, ints, (pieces_lie.timed a d l).to, ends a d l, short);
+    best = record {
+      best = best;
+      answer = timed_answer i made f.end (subst (λ e. pos unit ≤ℤ answer_unit e) (sym h.kind) (omega (arith, ints, f.within.small))) few pieces_lie.timed ends (omega (arith, ints, short));
     };
     cost = made_cost;
   }
 
 -- what is said of an answer holds of its pieces in any order
-IsBestCut-permutation : (i : Instance) → IsOfClass i cut_class → (s r : Schedule) → s.unit ≡ r.unit → IsPermutation s.pieces r.pieces → IsBestCut i s → IsBestCut i r
-IsBestCut-permutation i h s r units moved b =
+IsBestCut-permutation : (i : Instance) (s r : Schedule) → s.unit ≡ r.unit → IsPermutation s.pieces r.pieces → IsBestCut i s → IsBestCut i r
+IsBestCut-permutation i s r units moved b =
+    let feasible = b.best.best.feasible in
+    let answer = b.best.answer in
     let costs : cost_of i s ≡ cost_of i r =
-    cost-same_ends i i s r (SameCharges-from_jobs i i refl refl (λ k l. (refl, refl, refl))) units b.best.feasible.unit (λ k l. last_end-permutation s.pieces r.pieces moved k) in
+    cost-same_ends i i s r (SameCharges-from_jobs i i refl refl (λ k l. (refl, refl, refl))) units feasible.unit (λ k l. last_end-permutation s.pieces r.pieces moved k) in
     record {
       best = record {
-        feasible = Feasible-permutation i s r units moved b.best.feasible;
-        least = λ t f. subst₂ (λ x u. (x *ℤ t.unit) ≤ℤ (cost_of i t *ℤ u)) costs units (b.best.least t f);
-      };
-      within = record {
-        unit = subst IsUnit units b.within.unit;
-        few = omega (arith, b.within.few, length_permutation s.pieces r.pieces moved);
-        moments = All-permutation (λ p. IsMoment p.from × IsMoment p.to) s.pieces r.pieces moved b.within.moments;
-        scaled = λ u. absurd (not_unrelated (kind_of i.class.env) h.kind u);
-      };
-      answer = record {
-        few = omega (arith, b.answer.few, length_permutation s.pieces r.pieces moved);
-        unit = subst (λ u. u ≤ℤ answer_unit (kind_of i.class.env)) units b.answer.unit;
-        ends = All-permutation (λ p. p.to ≤ℤ GREATEST_ANSWER_MOMENT) s.pieces r.pieces moved b.answer.ends;
+        best = record {
+          feasible = Feasible-permutation i s r units moved feasible;
+          least = λ t f. subst₂ (λ x u. (x *ℤ t.unit) ≤ℤ (cost_of i t *ℤ u)) costs units (b.best.best.least t f);
+        };
+        answer = record {
+          few = omega (arith, answer.few, length_permutation s.pieces r.pieces moved);
+          unit = subst (λ u. u ≤ℤ answer_unit (kind_of i.class.env)) units answer.unit;
+          ends = All-permutation (λ p. p.to ≤ℤ GREATEST_ANSWER_MOMENT) s.pieces r.pieces moved answer.ends;
+        };
       };
       cost = λ c over. b.cost c (subst₂ (λ x u. IsOver c x u) (sym costs) (sym units) over);
     }
 
 pub IsBestCut-from_plan : (i : Instance) → i.class ≡ cut_class → Inner i → (s : Schedule) → IsCutPlan i s → IsBestCut i s
 IsBestCut-from_plan i class inner s (unit, xs, (t, jobs, machines, k, f), units, moved) =
-    IsBestCut-permutation i (h i class inner t jobs machines k unit xs f) (made i class inner t jobs machines k unit xs f) s (sym units) moved
+    IsBestCut-permutation i (made i class inner t jobs machines k unit xs f) s (sym units) moved
     (made_best i class inner t jobs machines k unit xs f)

@@ -1,30 +1,29 @@
 -- Segments one after another as a schedule on uniform machines: it is feasible, and best where its end is a least end.
-use Rattle.std.proofs.Common.{◌≡◌, ℕ, ◌*◌, ◌<◌, ◌≤◌, Bool, cond, eqb, List, [], ◌∷◌, length, get_or, filter, map, ℤ, pos, nat_abs, ◌*ℤ◌, ◌≤ℤ◌, All, sum_by, MatchBool, sym, ap}
+use Rattle.std.proofs.Common.{◌≡◌, ℕ, ◌*◌, ◌<◌, ◌≤◌, Bool, cond, eqb, List, length, get_or, filter, map, ℤ, pos, nat_abs, ◌*ℤ◌, ◌≤ℤ◌, All, sum_by, sym, ap}
 use Rattle.std.proofs.Common.{subst, subst₂, ◌∙◌, arith}
 use Rattle.std.proofs.lemmas.Bool.{ne_eqb}
 use Rattle.std.proofs.lemmas.Int.{ints}
 use Rattle.std.proofs.Math.Nat.{mul-le-mul_left}
-use Rattle.std.proofs.lemmas.List.Elements.{All-nil, All-filter}
+use Rattle.std.proofs.lemmas.List.Elements.{All-filter}
 use native.Mathlib.Nat.{le_of_mul-le-mul_left}
-use Rattle.msp_class.specs.declared.environments.EnvKind.{EnvKind}
 use Rattle.msp_class.specs.declared.environments.EnvKind.TheVariants.{Uniform}
-use Rattle.msp_class.specs.Env.{kind_of}
 use Rattle.msp_class.proofs.Sums.{cond-scale, sum_by-filter, sum_by-agree}
 use Rattle.msp_class.proofs.IntegerRing.{natural, pos-le, le-pos, pos-*ℤ-pos, ≤ℤ_antisym}
-use Rattle.msp_instance.specs.declared.Arc.{Arc}
 use Rattle.msp_instance.specs.declared.Instance.{Instance}
-use Rattle.msp_instance.specs.Instance.{job_at, no_job}
+use Rattle.msp_instance.specs.Instance.{no_job}
 use Rattle.msp_pieces.specs.declared.Piece.{Piece}
 use Rattle.msp_pieces.specs.declared.Schedule.{Schedule}
-use Rattle.msp_pieces.specs.Piece.{pieces_of, IsBefore, start, finish, IsTimed}
+use Rattle.msp_pieces.specs.Piece.{pieces_of, start, finish, IsTimed}
 use Rattle.msp_pieces.specs.Intervals.{size_of}
-use Rattle.msp_pieces.specs.Feasible.{Feasible, HasPlace, HasOperation, MayRun, FollowsRoute, GetsWork, IsWholeWork, total, whole_work, work_of as part_of}
+use Rattle.msp_pieces.specs.Feasible.{Feasible, total, work_of as part_of}
 use Rattle.msp_pieces.specs.Cost.{cost_of, Best}
 use Rattle.msp_pieces.specs.BackToBack.{time_at}
 use Rattle.msp_pieces.proofs.feasible.OfClass.{IsOfClass}
-use Rattle.msp_pieces.proofs.feasible.OneMachine.{apart_in_int, pieces_of-job}
+use Rattle.msp_pieces.proofs.feasible.OneMachine.{pieces_of-job}
+use Rattle.msp_pieces.proofs.feasible.BackToBack.{ordered_without_arcs}
 use Rattle.msp_pieces.proofs.bounds.SpeedBound.{size_share, total_shares}
 use Rattle.msp_pieces.proofs.costs.Makespan.{cost_by_ends, cost_natural}
+use Rattle.msp_route.proofs.Laid.{AreLaid, at_zero, HasOneOperation-uniform, gets_in_parts, laid_is_feasible}
 use Rattle.msp_uniform.specs.declared.segments.Segment.{Segment}
 use Rattle.msp_uniform.specs.Uniform.{cut_class}
 use Rattle.msp_uniform.specs.Segments.{at, job_rate, amount}
@@ -42,22 +41,18 @@ module _ (i : Instance) (h : IsOfClass i cut_class) (unit end : ℕ) (xs : List 
   pieces_lie : LieApart i.machines (length i.jobs) i.machines (sum_by long xs) ps
   pieces_lie = runs_lie_apart i.machines (length i.jobs) xs slices
 
-  places : All (HasPlace i) ps
-  places k d l = record {
-    job = (pieces_lie.places k d l).0;
-    operation = subst (λ x. HasOperation x i (get_or ps k d).job (get_or ps k d).op) (sym h.kind) (pieces_lie.places k d l).2;
-    machine = subst (λ x. MayRun x i (get_or ps k d).job (get_or ps k d).op (get_or ps k d).machine) (sym h.kind) (pieces_lie.places k d l).1;
+  laid : AreLaid i unit ps
+  laid = record {
+    some = some;
+    timed = pieces_lie.timed;
+    jobs = λ k d l. (pieces_lie.places k d l).0;
+    ops = λ k d l. (pieces_lie.places k d l).2;
+    inside = λ k d l. (pieces_lie.places k d l).1;
+    machines = pieces_lie.on_machines;
+    apart = pieces_lie.on_jobs;
+    released = λ k d l. at_zero unit _ (start (get_or ps k d)) (h.jobs (get_or ps k d).job no_job (pieces_lie.places k d l).0).release;
+    arcs = ordered_without_arcs i.arcs ps h.arcs;
   }
-
-  released : All (λ p. (pos unit *ℤ pos (job_at i p.job).release) ≤ℤ p.from) ps
-  released k d l = by (get_or ps k d).from _ unit (job_at i (get_or ps k d).job).release (pieces_lie.timed k d l).from (h.jobs (get_or ps k d).job no_job (pieces_lie.places k d l).0).release
-    where
-      by : (x : ℤ) (n m r : ℕ) → x ≡ pos n → r ≡ 0 → (pos m *ℤ pos r) ≤ℤ x
-      by x n m r e z = subst (λ y. (pos m *ℤ pos y) ≤ℤ x) (sym z) (omega (arith, ints, e))
-
-  no_arcs : All (λ a. All (λ p. All (λ r. p.job ≡ a.before → r.job ≡ a.after → IsBefore p r) ps) ps) i.arcs
-  no_arcs = subst (λ arcs. All (λ a. All (λ p. All (λ r. p.job ≡ a.before → r.job ≡ a.after → IsBefore p r) ps) ps) arcs)
-      (sym h.arcs) (All-nil (λ (a : Arc). All (λ p. All (λ r. p.job ≡ a.before → r.job ≡ a.after → IsBefore p r) ps) ps))
 
   module _ (j : ℕ) (small : j < length i.jobs) where
     abbrev value : ℕ → ℕ → ℕ
@@ -79,27 +74,8 @@ module _ (i : Instance) (h : IsOfClass i cut_class) (unit end : ℕ) (xs : List 
         ∙ total_shares rate _ (All-filter (λ p. eqb p.job j) IsTimed ps pieces_lie.timed)
         ∙ ap pos work_is ∙ sym (pos-*ℤ-pos unit (time_at i j))
 
-    abbrev Gets : EnvKind → ℕ → Bool → Type 0
-    Gets x n b = MatchBool b (total (map (part_of x i) (pieces_of cut_schedule j n)) ≡ pos unit *ℤ pos (whole_work x i j n))
-        ((p : Piece) × (pieces_of cut_schedule j n ≡ p ∷ []) × IsWholeWork x i (pos unit) p)
-
-    gets_work : (n : ℕ) → HasOperation (kind_of i.class.env) i j n → GetsWork i cut_schedule j n
-    gets_work n op =
-        let zero_op : n ≡ 0 = subst (λ x. HasOperation x i j n) h.kind op in
-        subst (λ x. Gets x n i.class.cut) (sym h.kind) (subst (λ z. Gets Uniform z i.class.cut) (sym zero_op) (subst (Gets Uniform 0) (sym h.cut) adds_up))
-
   pub cut_is_feasible : Feasible i cut_schedule
-  cut_is_feasible = record {
-    unit = omega (arith, ints, some);
-    span = λ k d l. let t = pieces_lie.timed k d l in (omega (arith, ints, t.from), omega (arith, ints, t.from, t.to, t.lasts));
-    place = places;
-    machine = λ a b d m k e. apart_in_int _ _ (pieces_lie.timed a d (omega arith)) (pieces_lie.timed b d k) (pieces_lie.on_machines a b d m k e);
-    job = λ a b d m k e. apart_in_int _ _ (pieces_lie.timed a d (omega arith)) (pieces_lie.timed b d k) (pieces_lie.on_jobs a b d m k e);
-    release = released;
-    arc = no_arcs;
-    route = subst (λ x. FollowsRoute x ps) (sym h.kind) tt;
-    work = λ j n l op. gets_work j l n op;
-  }
+  cut_is_feasible = laid_is_feasible i unit ps laid (HasOneOperation-uniform i h.kind) (λ j l. gets_in_parts Uniform i cut_schedule j h.kind h.cut (adds_up j l))
 
   upper : cost_of i cut_schedule ≤ℤ pos end
   upper = cost_by_ends i h.crit cut_schedule h.some (pos end) (omega (arith, ints)) (λ k d l. omega (arith, ints, (pieces_lie.timed k d l).to, pieces_lie.lies k d l, whole))

@@ -15,7 +15,7 @@ use crate::unit::has_small_unit;
 use msp_class::{Class, Crit, Env, NoMemory, Order, Times};
 use msp_instance::{Instance, first_time, multiple_of_all};
 use msp_pieces::{Schedule, Solution};
-use msp_route::Solver;
+use msp_route::{Solver, best_solution};
 use std::alloc::Global;
 
 /// The class that is solved: `Q|pmtn|Cmax`.
@@ -111,7 +111,6 @@ impl Solver for UniformCut {
         ensures cost { IfOk result (λ s. IsUniformCost inst.now s.cost) }
     {
         let schedule = schedule_of(alloc, inst)?;
-        let cost = msp_pieces::cost(inst, &schedule);
-        Ok(Solution { schedule, cost })
+        Ok(best_solution(inst, schedule))
     }
 }
