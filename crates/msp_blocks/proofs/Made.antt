@@ -6,8 +6,7 @@ use Rattle.std.specs.List.{range_with_len}
 use Rattle.std.proofs.lemmas.Int.{ints}
 use Rattle.std.proofs.lemmas.List.Sums.{sum_by-cons}
 use Rattle.std.proofs.lemmas.List.Elements.{All-nil, All-filter, All-head, All-tail}
-use Rattle.msp_class.specs.declared.environments.EnvKind.{EnvKind}
-use Rattle.msp_class.specs.declared.environments.EnvKind.TheVariants.{Identical, Unrelated}
+use Rattle.msp_class.specs.declared.environments.EnvKind.TheVariants.{Identical}
 use Rattle.msp_class.specs.declared.class.Times.TheVariants.{Unit as UnitTimes}
 use Rattle.msp_class.specs.declared.class.Crit.TheVariants.{Fmax}
 use Rattle.msp_class.specs.declared.class.Env.TheVariants.{One}
@@ -20,17 +19,17 @@ use Rattle.msp_instance.specs.Instance.{job_at, need_at, no_job, no_need}
 use Rattle.msp_instance.specs.Conditions.{HasSameTimes, Inner}
 use Rattle.msp_pieces.specs.declared.Piece.{Piece}
 use Rattle.msp_pieces.specs.declared.Schedule.{Schedule}
-use Rattle.msp_pieces.specs.Piece.{length_of, pieces_of, IsBefore, start, finish, IsTimed}
-use Rattle.msp_pieces.specs.Feasible.{Feasible, HasPlace, HasOperation, MayRun, FollowsRoute, GetsWork, IsWholeWork, total, whole_work, work_of as part_of}
-use Rattle.msp_pieces.specs.Cost.{Best, end_of}
-use Rattle.msp_pieces.specs.Within.{IsMoment, Within}
+use Rattle.msp_pieces.specs.Piece.{pieces_of, IsBefore, start, finish, IsTimed}
+use Rattle.msp_pieces.specs.Feasible.{Feasible, GetsWork, IsWholeWork, total, work_of as part_of}
+use Rattle.msp_pieces.specs.Cost.{end_of}
 use Rattle.msp_pieces.specs.Intervals.{size_of}
-use Rattle.msp_pieces.proofs.feasible.OneMachine.{apart_in_int, pieces_of-job, total_lengths}
+use Rattle.msp_pieces.proofs.feasible.OneMachine.{pieces_of-job}
 use Rattle.msp_pieces.specs.BackToBack.{time_at}
 use Rattle.msp_pieces.proofs.feasible.LastEnds.{last_end-least}
 use Rattle.msp_pieces.specs.Blocks.{cost_at}
-use Rattle.msp_route.specs.declared.bounds.TheConstants.{GREATEST_ANSWER_MOMENT}
-use Rattle.msp_route.specs.Bounds.{IsAnswer, answer_unit}
+use Rattle.msp_route.specs.Bounds.{IsBestAnswer}
+use Rattle.msp_route.proofs.Owed.{unit_one, timed_answer}
+use Rattle.msp_route.proofs.Laid.{AreLaid, HasOneOperation-identical, gets_by_kind, laid_adds_up, laid_is_feasible}
 use Rattle.msp_blocks.specs.Blocks.{IsBestCost}
 use Rattle.msp_heads.specs.Heads.{AreHeads}
 use Rattle.msp_blocks.specs.Filling.{IsPut, IsFilling, IsBound, CostAtMost, greatest_end}
@@ -82,28 +81,21 @@ module _ (i : Instance) (one : IsOneInstance i) (heads : List ℕ) (are : AreHea
   nothing : (j : ℕ) → ¬ Contains [] j
   nothing j c = omega (arith, c.1)
 
-  places : All (HasPlace i) ps
-  places k d l =
-      let p = f.put k d l in
-      let single = one.machine.one in
-      record {
-        job = p.job;
-        operation = subst (λ x. HasOperation x i (get_or ps k d).job (get_or ps k d).op) (sym one.machine.kind) p.op;
-        machine = subst (λ x. MayRun x i (get_or ps k d).job (get_or ps k d).op (get_or ps k d).machine) (sym one.machine.kind) (omega (arith, p.machine, single));
-      }
-
-  released : All (λ p. (pos 1 *ℤ pos (job_at i p.job).release) ≤ℤ p.from) ps
-  released k d l = by (get_or ps k d).from (start (get_or ps k d))
-      (job_at i (get_or ps k d).job).release (timed k d l).from (omega (arith, are.release (get_or ps k d).job (f.put k d l).job, f.after k d l))
+  laid : AreLaid i 1 ps
+  laid = record {
+    some = omega arith;
+    timed = timed;
+    jobs = λ k d l. (f.put k d l).job;
+    ops = λ k d l. (f.put k d l).op;
+    inside = λ k d l. let single = one.machine.one in omega (arith, (f.put k d l).machine, single);
+    machines = λ a b d m k _. f.apart a b d m k;
+    apart = λ a b d m k _. f.apart a b d m k;
+    released = λ k d l. omega (arith, are.release (get_or ps k d).job (f.put k d l).job, f.after k d l);
+    arcs = λ n d b k x y k' x' y' same is. before (get_or ps k x) (get_or ps k' x') (timed k x y) (timed k' x' y') (f.ordered n d b k x y k' x' y' same is);
+  }
     where
-      by : (x : ℤ) (n r : ℕ) → x ≡ pos n → r ≤ n → (pos 1 *ℤ pos r) ≤ℤ x
-      by x n r e m = omega (arith, ints, e, m)
-
-  in_order : All (λ a. All (λ p. All (λ q. p.job ≡ a.before → q.job ≡ a.after → IsBefore p q) ps) ps) i.arcs
-  in_order n d b k x y k' x' y' same is = by (get_or ps k x) (get_or ps k' x') (timed k x y) (timed k' x' y') (f.ordered n d b k x y k' x' y' same is)
-    where
-      by : (p q : Piece) → IsTimed p → IsTimed q → finish p ≤ start q → IsBefore p q
-      by p q tp tq l = omega (arith, ints, tp.to, tq.from, l)
+      before : (p q : Piece) → IsTimed p → IsTimed q → finish p ≤ start q → IsBefore p q
+      before p q tp tq l = omega (arith, ints, tp.to, tq.from, l)
 
   module _ (whole : (i.class.cut ≡ true) ⊎ (i.class.times ≡ UnitTimes)) where
     module _ (j : ℕ) (small : j < length i.jobs) where
@@ -119,15 +111,6 @@ module _ (i : Instance) (one : IsOneInstance i) (heads : List ℕ) (are : AreHea
       work_is : sum_by (size_of start finish) mine ≡ time_at i j
       work_is = f.work j small (nothing j)
 
-      adds_up : total (map length_of (pieces_of s j 0)) ≡ pos 1 *ℤ pos (time_at i j)
-      adds_up = ap (λ l. total (map length_of l)) same_pieces ∙ total_lengths mine timed_mine ∙ by (sum_by (size_of start finish) mine) (time_at i j) work_is
-        where
-          by : (a b : ℕ) → a ≡ b → pos a ≡ pos 1 *ℤ pos b
-          by a b e = omega (arith, ints, e)
-
-      abbrev Gets : EnvKind → ℕ → Bool → Type 0
-      Gets x n b = MatchBool b (total (map (part_of x i) (pieces_of s j n)) ≡ pos 1 *ℤ pos (whole_work x i j n)) ((p : Piece) × (pieces_of s j n ≡ p ∷ []) × IsWholeWork x i (pos 1) p)
-
       in_one : i.class.times ≡ UnitTimes → (p : Piece) × (pieces_of s j 0 ≡ p ∷ []) × IsWholeWork Identical i (pos 1) p
       in_one unit =
           let (p, is, size) = sole_piece mine timed_mine (work_is ∙ unit_time i one unit j small) in
@@ -138,27 +121,18 @@ module _ (i : Instance) (one : IsOneInstance i) (heads : List ℕ) (are : AreHea
           by : (x y : ℤ) (a b t : ℕ) → x ≡ pos a → y ≡ pos b → b ≡ a + 1 → t ≡ 1 → (y -ℤ x) ≡ pos 1 *ℤ pos t
           by x y a b t e g h k = omega (arith, ints, e, g, h, k)
 
-      gets : (b : Bool) → i.class.cut ≡ b → Gets Identical 0 b
-      gets true e = adds_up
-      gets false e = elim whole [ inl cut ↦ absurd (cc) | inr unit ↦ in_one unit ]
+      adds_up : total (map (part_of Identical i) (pieces_of s j 0)) ≡ pos 1 *ℤ pos (time_at i j)
+      adds_up = laid_adds_up i 1 ps laid j (omega (arith, work_is))
 
-      works : (n : ℕ) → HasOperation (kind_of i.class.env) i j n → GetsWork i s j n
-      works n h =
-          let zero_op : n ≡ 0 = subst (λ x. HasOperation x i j n) one.machine.kind h in
-          subst (λ x. Gets x n i.class.cut) (sym one.machine.kind) (subst (λ z. Gets Identical z i.class.cut) (sym zero_op) (gets i.class.cut refl))
+      gets : GetsWork i s j 0
+      gets = gets_by_kind Identical i s j one.machine.kind (by i.class.cut refl)
+        where
+          by : (b : Bool) → i.class.cut ≡ b → MatchBool b (total (map (part_of Identical i) (pieces_of s j 0)) ≡ pos 1 *ℤ pos (time_at i j)) ((p : Piece) × (pieces_of s j 0 ≡ p ∷ []) × IsWholeWork Identical i (pos 1) p)
+          by true e = adds_up
+          by false e = elim whole [ inl cut ↦ absurd (cc) | inr unit ↦ in_one unit ]
 
     is_feasible : Feasible i s
-    is_feasible = record {
-      unit = omega (arith, ints);
-      span = λ k d l. let t = timed k d l in (omega (arith, ints, t.from), omega (arith, ints, t.from, t.to, t.lasts));
-      place = places;
-      machine = λ a b d m k _. apart_in_int _ _ (timed a d (omega (arith, m, k))) (timed b d k) (f.apart a b d m k);
-      job = λ a b d m k _. apart_in_int _ _ (timed a d (omega (arith, m, k))) (timed b d k) (f.apart a b d m k);
-      release = released;
-      arc = in_order;
-      route = subst (λ x. FollowsRoute x ps) (sym one.machine.kind) tt;
-      work = λ j n l h. works j l n h;
-    }
+    is_feasible = laid_is_feasible i 1 ps laid (HasOneOperation-identical i one.machine.kind) gets
 
     module _ (jobs : List ℕ) (cost : ℤ) (costs : CostAtMost i cost [] ps) where
       pub each : (k : ℕ) → k < length i.jobs → (moment : ℕ) × (end_of s k ≤ℤ pos moment) × (cost_at i k moment ≤ℤ cost)
@@ -168,30 +142,6 @@ module _ (i : Instance) (one : IsOneInstance i) (heads : List ℕ) (are : AreHea
         where
           by : (p : Piece) → IsTimed p → (e : ℕ) → finish p ≤ e → p.to ≤ℤ pos e
           by p t e l = omega (arith, ints, t.to, l)
-
-  is_within : Within i s
-  is_within = record {
-    unit = (omega (arith, ints), omega (arith, ints));
-    few = omega (arith, f.few);
-    moments = λ k d l. by (get_or ps k d) (timed k d l) (f.ends k d l);
-    scaled = λ u. absurd (not_unrelated (sym one.machine.kind ∙ u));
-  }
-    where
-      by : (p : Piece) → IsTimed p → finish p ≤ greatest_end → IsMoment p.from × IsMoment p.to
-      by p t h = ((omega (arith, ints, t.from), omega (arith, ints, t.from, t.lasts, h)), (omega (arith, ints, t.to), omega (arith, ints, t.to, h)))
-
-      not_unrelated : Identical ≡ Unrelated → ⊥
-      not_unrelated h = cc
-
-  is_answer : IsAnswer i s
-  is_answer = record {
-    few = omega (arith, f.few);
-    unit = subst (λ k. pos 1 ≤ℤ answer_unit k) (sym one.machine.kind) (omega (arith, ints));
-    ends = λ k d l. by (get_or ps k d) (timed k d l) (f.ends k d l);
-  }
-    where
-      by : (p : Piece) → IsTimed p → finish p ≤ greatest_end → p.to ≤ℤ GREATEST_ANSWER_MOMENT
-      by p t l = omega (arith, ints, t.to, l)
 
 -- no job costs more than so much before the first one is placed
 pub CostAtMost-none : (i : Instance) → IsOneInstance i → (head : ℕ → ℕ) (greatest : ℕ) (jobs : List ℕ) (most : ℤ) → IsFilling i head greatest jobs [] → CostAtMost i most jobs []
@@ -204,9 +154,7 @@ CostAtMost-more i less more left ps h c j l gone = let (end, ended, most) = c j 
 
 -- what is said of the answer's schedule, and of the value of its greatest block
 pub record IsBlockSchedule (i : Instance) (s : Schedule) (cost : ℤ) : Type 0 where
-  pub best : Best i s
-  pub within : Within i s
-  pub answer : IsAnswer i s
+  pub best : IsBestAnswer i s
   pub value : IsBestCost i cost
 
 pub IsBlockSchedule-made : (i : Instance) → i.class.env ≡ One → i.class.crit ≡ Fmax → Inner i → (i.class.cut ≡ true) ⊎ (i.class.times ≡ UnitTimes)
@@ -218,9 +166,10 @@ IsBlockSchedule-made i env crit inner whole heads are ps f jobs cost bound costs
     let feasible = is_feasible i one heads are ps f whole in
     let some : 0 < length i.jobs = omega (arith, one.some) in
     record {
-      best = best_by_block i env (ap is_greatest crit) inner heads jobs cost bound s refl feasible some (each i one heads are ps f whole jobs cost costs);
-      within = is_within i one heads are ps f;
-      answer = is_answer i one heads are ps f;
+      best = record {
+        best = best_by_block i env (ap is_greatest crit) inner heads jobs cost bound s refl feasible some (each i one heads are ps f whole jobs cost costs);
+        answer = timed_answer i s greatest_end (unit_one (kind_of i.class.env)) (omega (arith, f.few)) (timed i one heads are ps f) f.ends (omega (arith, ints));
+      };
       value = value_is_best i env (ap is_greatest crit) inner heads jobs cost bound s refl feasible some (each i one heads are ps f whole jobs cost costs);
     }
 

@@ -16,7 +16,7 @@ use msp_class::{Class, Crit, Env, List, NoMemory, Order, Times};
 use msp_heads::heads_of;
 use msp_instance::Instance;
 use msp_pieces::{Piece, Schedule, Solution};
-use msp_route::{Solver, jobs_by_key};
+use msp_route::{Solver, best_solution, jobs_by_key};
 use std::alloc::Global;
 
 /// The class that is solved with preemption: `1|pmtn,prec,r|fmax`.
@@ -102,12 +102,11 @@ fn schedule_by_blocks(alloc: Global, inst: &Instance) -> Result<BlockSolution, N
         bound,
     } = by_blocks(alloc, inst)?;
     let schedule = Schedule { unit: 1, pieces };
-    let cost = msp_pieces::cost(inst, &schedule);
     let block = BindingBlock {
         head: List::from_vec(heads),
         jobs: bound.jobs,
     };
-    let solution = Solution { schedule, cost };
+    let solution = best_solution(inst, schedule);
     Ok(BlockSolution { solution, block })
 }
 
@@ -154,7 +153,7 @@ impl Solver for Blocks {
     }
 
     fn solve(&self, alloc: Global, inst: &Instance) -> Result<Solution, NoMemory> {
-        let BlockSolution { solution, .. } = schedule_by_blocks(alloc, inst)?;
+        let BlockSolution { solution, .. } = solve_with_block(alloc, inst)?;
         Ok(solution)
     }
 }

@@ -3,16 +3,10 @@ use Rattle.msp_pieces.specs.Blocks.{IsBlockValue}
 use Rattle.msp_blocks.proofs.Made.{IsBlockSchedule-made}
 use Rattle.msp_blocks.proofs.blocks.schedule_by_blocks.Goals as goal
 
-pub cost-cost-requires-clause-feasible : goal.cost-cost-requires-clause-feasible
-cost-cost-requires-clause-feasible c =
+pub best_solution-solution-requires-clause-best : goal.best_solution-solution-requires-clause-best
+best_solution-solution-requires-clause-best c =
     (IsBlockSchedule-made c.args.inst.now c.requires.machine c.requires.crit c.requires.inner c.requires.whole
-    _ c.in_ok-heads.ensures.heads _ c.in_ok-heads.ensures.filling _ _ c.in_ok-heads.ensures.bound c.in_ok-heads.ensures.costs).best.feasible
-
-pub returns-clause-best : goal.returns-clause-best
-returns-clause-best c =
-    let made = IsBlockSchedule-made c.args.inst.now c.requires.machine c.requires.crit c.requires.inner
-    c.requires.whole _ c.in_ok-heads.ensures.heads _ c.in_ok-heads.ensures.filling _ _ c.in_ok-heads.ensures.bound c.in_ok-heads.ensures.costs in
-    record { best = made.best; cost = c.cost-cost.ensures.value }
+    _ c.in_ok-heads.ensures.heads _ c.in_ok-heads.ensures.filling _ _ c.in_ok-heads.ensures.bound c.in_ok-heads.ensures.costs).best
 
 pub returns-clause-value : goal.returns-clause-value
 returns-clause-value c =
