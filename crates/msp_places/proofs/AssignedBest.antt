@@ -12,11 +12,10 @@ use Rattle.msp_instance.specs.Multiples.{IsLeastOfAll}
 use Rattle.msp_pieces.specs.declared.Piece.{Piece}
 use Rattle.msp_pieces.specs.declared.Schedule.{Schedule}
 use Rattle.msp_pieces.specs.Feasible.{Feasible}
-use Rattle.msp_pieces.specs.Cost.{end_of, job_cost, cost_of, Best}
-use Rattle.msp_pieces.specs.Within.{Within}
+use Rattle.msp_pieces.specs.Cost.{end_of, job_cost, cost_of}
 use Rattle.msp_pieces.proofs.costs.Charged.{sum_when, best_by_moments}
 use Rattle.msp_pieces.proofs.costs.Charges.{charge_of, cost_of-sum}
-use Rattle.msp_route.specs.Bounds.{IsAnswer}
+use Rattle.msp_route.specs.Bounds.{IsBestAnswer}
 use Rattle.msp_assign.specs.Prices.{column_of}
 use Rattle.msp_assign.proofs.Choices.{column-inside, column-once, choice_no_less}
 use Rattle.msp_places.specs.declared.place.Place.{Place}
@@ -25,13 +24,8 @@ use Rattle.msp_places.specs.Placed.{AreApart}
 use Rattle.msp_places.specs.Assigned.{place_cost, AreLeastAssigned}
 use Rattle.msp_places.proofs.OwnPlaces.{law_of_earliest_places}
 use Rattle.msp_places.proofs.PlaceFacts.{takes_common_time}
-use Rattle.msp_places.proofs.PlacedJobs.{placed_schedule, placed_is_feasible, placed_is_within, placed_is_answer, placed_end}
+use Rattle.msp_places.proofs.PlacedJobs.{placed_schedule, placed_is_feasible, placed_is_answer, placed_end}
 use Rattle.msp_places.proofs.AssignedFacts.{HasDueClass, IsByDues, IsByDues-from}
-
-pub record IsAssignedAnswer (i : Instance) (s : Schedule) : Type 0 where
-  pub best : Best i s
-  pub within : Within i s
-  pub answer : IsAnswer i s
 
 module _ (i : Instance) (d : IsByDues i) (inner : Inner i) (unit : ℕ) (common : IsLeastOfAll i.speeds unit) (few : unit ≤ GREATEST_MULTIPLE)
     (pieces : List Piece) (l : AreLeastAssigned i unit pieces) where
@@ -75,14 +69,13 @@ module _ (i : Instance) (d : IsByDues i) (inner : Inner i) (unit : ℕ) (common 
         h.ends,
       )
 
-  assigned_answer : IsAssignedAnswer i (record { unit = pos unit; pieces = pieces })
-  assigned_answer = subst (λ ps. IsAssignedAnswer i (record { unit = pos unit; pieces = ps })) (sym l.are) (record {
+  assigned_answer : IsBestAnswer i (record { unit = pos unit; pieces = pieces })
+  assigned_answer = subst (λ ps. IsBestAnswer i (record { unit = pos unit; pieces = ps })) (sym l.are) (record {
     best = best_by_moments i s unit d.sums refl (omega (arith, common.some)) (placed_is_feasible d.crit i d.is unit common few places l.earliest (λ j. j) col own) each;
-    within = placed_is_within d.crit i d.is unit common few places l.earliest (λ j. j) col own;
     answer = placed_is_answer d.crit i d.is unit common few places l.earliest (λ j. j) col own;
   })
 
-pub IsAssignedAnswer-from : (i : Instance) → HasDueClass i → Inner i → (unit : ℕ) (u : ℤ) (pieces : List Piece)
-    → IsLeastOfAll i.speeds unit → unit ≤ GREATEST_MULTIPLE → u ≡ pos unit → AreLeastAssigned i unit pieces → IsAssignedAnswer i (record { unit = u; pieces = pieces })
-IsAssignedAnswer-from i class inner unit u pieces common few e l =
-    subst (λ x. IsAssignedAnswer i (record { unit = x; pieces = pieces })) (sym e) (assigned_answer i (IsByDues-from i class inner) inner unit common few pieces l)
+pub IsBestAnswer-assigned : (i : Instance) → HasDueClass i → Inner i → (unit : ℕ) (u : ℤ) (pieces : List Piece)
+    → IsLeastOfAll i.speeds unit → unit ≤ GREATEST_MULTIPLE → u ≡ pos unit → AreLeastAssigned i unit pieces → IsBestAnswer i (record { unit = u; pieces = pieces })
+IsBestAnswer-assigned i class inner unit u pieces common few e l =
+    subst (λ x. IsBestAnswer i (record { unit = x; pieces = pieces })) (sym e) (assigned_answer i (IsByDues-from i class inner) inner unit common few pieces l)

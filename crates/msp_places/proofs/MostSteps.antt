@@ -15,10 +15,9 @@ use Rattle.msp_instance.specs.Conditions.{Inner}
 use Rattle.msp_instance.specs.Multiples.{IsLeastOfAll}
 use Rattle.msp_pieces.specs.declared.Piece.{Piece}
 use Rattle.msp_pieces.specs.declared.Schedule.{Schedule}
-use Rattle.msp_pieces.specs.Cost.{Best}
 use Rattle.msp_pieces.specs.Within.{HasSmallCost, Within}
 use Rattle.msp_pieces.proofs.costs.Small.{small_costs}
-use Rattle.msp_route.specs.Bounds.{IsAnswer}
+use Rattle.msp_route.specs.Bounds.{IsBestAnswer}
 use Rattle.msp_places.specs.declared.place.Place.{Place}
 use Rattle.msp_places.specs.declared.most.Candidate.{Candidate}
 use Rattle.msp_places.specs.Classes.{places_most_class}
@@ -28,7 +27,7 @@ use Rattle.msp_places.specs.Most.{cost_in, CostsLess, IsCheapest, IsOrderByCost,
 use Rattle.msp_places.specs.Search.{Precedes, IsCandidate, IsBestOf}
 use Rattle.msp_pieces.proofs.lists.InTurn.{length_is}
 use Rattle.msp_places.proofs.PlaceFacts.{IsPlacesInstance-from, common_time_within, lengths_short}
-use Rattle.msp_places.proofs.PlacedJobs.{placed_is_within, placed_is_answer, ends_bounded}
+use Rattle.msp_places.proofs.PlacedJobs.{placed_is_answer, ends_bounded}
 use Rattle.msp_places.proofs.MostBest.{job, own, most_is_best}
 use Rattle.msp_places.specs.Bounds.{greatest_end}
 
@@ -115,9 +114,7 @@ pub common_read : (i : Instance) (speeds : List ℕ) (unit : ℕ) → speeds ≡
 common_read i speeds unit e h = subst (λ l. IsLeastOfAll l unit) e h
 
 pub record IsMostAnswer (i : Instance) (s : Schedule) : Type 0 where
-  pub best : Best i s
-  pub within : Within i s
-  pub answer : IsAnswer i s
+  pub best : IsBestAnswer i s
   pub by_cost : IsByCost i s
 
 pub IsMostAnswer-from : (i : Instance) → i.class ≡ places_most_class → Inner i → (unit : ℕ) (u : ℤ) (pieces : List Piece)
@@ -127,9 +124,10 @@ IsMostAnswer-from i class inner unit u pieces common few e p =
     let turn = job i h inner unit common few p.places p.earliest p.order p.by_cost in
     let apart = own i h inner unit common few p.places p.earliest p.order p.by_cost in
     subst₂ (λ x y. IsMostAnswer i (record { unit = x; pieces = y })) (sym e) (sym p.are) (record {
-      best = most_is_best i h inner unit common few p.places p.earliest p.order p.by_cost;
-      within = placed_is_within Fmax i h unit common few p.places p.earliest turn (λ k. k) apart;
-      answer = placed_is_answer Fmax i h unit common few p.places p.earliest turn (λ k. k) apart;
+      best = record {
+        best = most_is_best i h inner unit common few p.places p.earliest p.order p.by_cost;
+        answer = placed_is_answer Fmax i h unit common few p.places p.earliest turn (λ k. k) apart;
+      };
       by_cost = record { unit = unit; unit_is = refl; common = common; pieces = subst (ArePlacedByCost i unit) p.are p };
     })
 

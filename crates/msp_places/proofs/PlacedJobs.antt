@@ -5,30 +5,29 @@ use Rattle.std.proofs.lemmas.Bool.{cases_lt}
 use Rattle.std.proofs.lemmas.Int.{ints}
 use Rattle.std.proofs.lemmas.Nat.{mul-le}
 use Rattle.std.proofs.lemmas.List.{length-map, get_or-map}
-use Rattle.std.proofs.lemmas.List.Elements.{All-nil}
 use Rattle.std.proofs.lemmas.List.FromFn.{get_or-map-range_with_len, length-map-range_with_len}
 use Rattle.std.proofs.Math.Nat.{mul-le-mul_right}
 use Rattle.msp_class.specs.declared.sizes.TheConstants.{MOST_JOBS, GREATEST_MULTIPLE}
 use Rattle.msp_class.specs.declared.class.Crit.{Crit}
-use Rattle.msp_class.specs.declared.environments.EnvKind.TheVariants.{Uniform, Unrelated}
 use Rattle.msp_class.specs.Env.{kind_of}
 use Rattle.msp_class.proofs.IntegerRing.{pos-le, zero-le-pos, ≤ℤ_refl, ≤ℤ_antisym}
 use Rattle.msp_class.proofs.Sums.{OnceBelow, OnceBelow-from_distinct}
-use Rattle.msp_instance.specs.declared.Arc.{Arc}
 use Rattle.msp_instance.specs.declared.Instance.{Instance}
 use Rattle.msp_instance.specs.Instance.{job_at, need_at, common_time}
 use Rattle.msp_instance.specs.Multiples.{IsLeastOfAll}
 use Rattle.msp_pieces.specs.declared.Piece.{Piece}
 use Rattle.msp_pieces.specs.declared.Schedule.{Schedule}
-use Rattle.msp_pieces.specs.Piece.{IsBefore, IsApart, no_piece}
+use Rattle.msp_pieces.specs.Piece.{IsApart, no_piece}
 use Rattle.msp_pieces.specs.Feasible.{Feasible, IsWholeWork}
 use Rattle.msp_pieces.specs.Cost.{end_of}
 use Rattle.msp_pieces.specs.Within.{Within}
 use Rattle.msp_pieces.proofs.feasible.OneEach.{IsUncut-uniform}
+use Rattle.msp_pieces.proofs.feasible.BackToBack.{ordered_without_arcs}
 use Rattle.msp_pieces.proofs.feasible.LastEnds.{last_end-contains, last_end-least}
 use Rattle.msp_route.specs.declared.bounds.TheConstants.{GREATEST_ANSWER_MOMENT}
 use Rattle.msp_route.specs.Bounds.{IsAnswer, answer_unit}
-use Rattle.msp_route.proofs.OneEach.{IsUncut, AreOneEach, one_each_is_feasible, one_each_is_within, one_each_is_answer}
+use Rattle.msp_route.proofs.OneEach.{IsUncut, AreOneEach, one_each_is_feasible, one_each_is_answer}
+use Rattle.msp_route.proofs.Owed.{answer_is_within}
 use Rattle.msp_places.specs.declared.place.Place.{Place}
 use Rattle.msp_places.specs.Places.{lengths_of, place_on, IsPlace, ComesFirst, AreEarliest, AreEarliestPlaces, no_place, place_at}
 use Rattle.msp_places.specs.Placed.{piece_in, placed, AreApart}
@@ -211,8 +210,7 @@ module _ (crit : Crit) (i : Instance) (h : IsPlacesInstance crit i) (unit : ℕ)
     span = all (λ p. (pos 0 ≤ℤ p.from) × (p.from <ℤ p.to)) (λ k l. spanned (place k).begin (place k).end (long (place k).machine) (end_later k l) (short k l).0);
     apart = pairs (λ p q. p.machine ≡ q.machine → IsApart p q) apart;
     released = all (λ p. (pos unit *ℤ pos (job_at i p.job).release) ≤ℤ p.from) (λ k l. released unit (job_at i (job k)).release (place k).begin (no_release crit i h (job k) (own.jobs k l)));
-    forward = subst (λ arcs. All (λ a. All (λ p. All (λ q. p.job ≡ a.before → q.job ≡ a.after → IsBefore p q) pieces) pieces) arcs)
-        (sym h.arcs) (All-nil (λ (a : Arc). All (λ p. All (λ q. p.job ≡ a.before → q.job ≡ a.after → IsBefore p q) pieces) pieces));
+    forward = ordered_without_arcs i.arcs pieces h.arcs;
     whole = all (IsWholeWork (kind_of i.class.env) i (pos unit)) whole;
     ends = all (λ p. p.to ≤ℤ GREATEST_ANSWER_MOMENT) (λ k l. pos-le (omega (arith, end_soon k l)));
   }
@@ -229,14 +227,11 @@ module _ (crit : Crit) (i : Instance) (h : IsPlacesInstance crit i) (unit : ℕ)
   pub placed_is_feasible : Feasible i s
   placed_is_feasible = one_each_is_feasible i uncut unit pieces each
 
-  pub placed_is_within : Within i s
-  placed_is_within = one_each_is_within i uncut unit pieces each few (λ u. absurd (not_unrelated (sym h.kind ∙ u)))
-    where
-      not_unrelated : Uniform ≡ Unrelated → ⊥
-      not_unrelated e = cc
-
   pub placed_is_answer : IsAnswer i s
   placed_is_answer = one_each_is_answer i uncut unit pieces each (subst (λ k. pos unit ≤ℤ answer_unit k) (sym h.kind) (omega (arith, ints, few)))
+
+  pub placed_is_within : Within i s
+  placed_is_within = answer_is_within i s placed_is_feasible placed_is_answer
 
   -- each job ends when its place does
   pub placed_end : (k : ℕ) → k < n → end_of s (job k) ≡ pos (place k).end

@@ -26,7 +26,7 @@ use msp_assign::Assignment;
 use msp_class::{Class, Crit, Env, List, NoMemory, Order, Times};
 use msp_instance::{Instance, multiple_of_all};
 use msp_pieces::{Piece, Schedule, Solution};
-use msp_route::Solver;
+use msp_route::{Solver, best_solution};
 use std::alloc::Global;
 
 /// The class of jobs of one time on uniform machines by weighted tardiness: `Q|p=p|sumwT`.
@@ -94,8 +94,7 @@ fn schedule_in_places(alloc: Global, inst: &Instance) -> Result<Solution, NoMemo
         unit: i128::from(unit),
         pieces,
     };
-    let cost = msp_pieces::cost(inst, &schedule);
-    Ok(Solution { schedule, cost })
+    Ok(best_solution(inst, schedule))
 }
 
 /// Finds a schedule of jobs of one time on uniform machines whose weighted tardiness is least: a least assignment of the jobs to the

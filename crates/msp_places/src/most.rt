@@ -26,7 +26,7 @@ use crate::place::{Place, piece_in};
 use msp_class::{Class, Crit, Env, List, NoMemory, Order, Times};
 use msp_instance::{Instance, multiple_of_all};
 use msp_pieces::{Piece, Schedule, Solution, all_jobs, job_cost_at};
-use msp_route::Solver;
+use msp_route::{Solver, best_solution};
 use std::alloc::Global;
 
 /// The class that the rule solves: `Q|p=p|fmax`.
@@ -190,8 +190,7 @@ fn schedule_by_cost(alloc: Global, inst: &Instance) -> Result<Solution, NoMemory
         unit: i128::from(unit),
         pieces,
     };
-    let cost = msp_pieces::cost(inst, &schedule);
-    Ok(Solution { schedule, cost })
+    Ok(best_solution(inst, schedule))
 }
 
 /// Finds a schedule of jobs of one time on uniform machines whose greatest cost is least: from the last of the earliest places to the

@@ -4,6 +4,7 @@ use Rattle.std.specs.Int.{w128}
 use Rattle.msp_class.specs.declared.sizes.TheConstants.{GREATEST_SPEED}
 use Rattle.msp_class.specs.declared.class.Crit.TheVariants.{Fmax}
 use Rattle.msp_instance.specs.Conditions.{HasSmallMultiple}
+use Rattle.msp_places.specs.Most.{IsByCost}
 use Rattle.msp_places.proofs.PlaceFacts.{IsPlacesInstance-from}
 use Rattle.msp_places.proofs.MostSteps.{common_read, IsMostAnswer-from}
 use Rattle.msp_places.proofs.most.schedule_by_cost.Goals as goal
@@ -15,30 +16,14 @@ multiple_of_all-unit-requires-clause-speeds c =
 pub multiple_of_all-unit-requires-clause-small : goal.multiple_of_all-unit-requires-clause-small
 multiple_of_all-unit-requires-clause-small c = subst HasSmallMultiple (sym c.as_slice.ensures) c.requires.inner.conditions.multiple
 
-pub cost-cost-requires-clause-within : goal.cost-cost-requires-clause-within
-cost-cost-requires-clause-within c =
+pub best_solution-requires-clause-best : goal.best_solution-requires-clause-best
+best_solution-requires-clause-best c =
     (IsMostAnswer-from c.args.inst.now c.requires.class c.requires.inner _ _ _ (common_read c.args.inst.now _ _ c.as_slice.ensures c.multiple_of_all-unit.ensures.least)
-    c.multiple_of_all-unit.ensures.small (to_z-of_z w128 _ (search rules) ∙ c.from.ensures) c.in_ok-pieces.ensures).within
-
-pub cost-cost-requires-clause-feasible : goal.cost-cost-requires-clause-feasible
-cost-cost-requires-clause-feasible c =
-    (IsMostAnswer-from c.args.inst.now c.requires.class c.requires.inner _ _ _ (common_read c.args.inst.now _ _ c.as_slice.ensures c.multiple_of_all-unit.ensures.least)
-    c.multiple_of_all-unit.ensures.small (to_z-of_z w128 _ (search rules) ∙ c.from.ensures) c.in_ok-pieces.ensures).best.feasible
-
-pub returns-clause-best : goal.returns-clause-best
-returns-clause-best c =
-    record {
-      best = (IsMostAnswer-from c.args.inst.now c.requires.class c.requires.inner _ _ _ (common_read c.args.inst.now _ _ c.as_slice.ensures c.multiple_of_all-unit.ensures.least)
-          c.multiple_of_all-unit.ensures.small (to_z-of_z w128 _ (search rules) ∙ c.from.ensures) c.in_ok-pieces.ensures).best;
-      cost = c.cost-cost.ensures.value;
-    }
-
-pub returns-clause-bounds : goal.returns-clause-bounds
-returns-clause-bounds c = (IsMostAnswer-from c.args.inst.now c.requires.class c.requires.inner _ _ _ (common_read c.args.inst.now _ _ c.as_slice.ensures c.multiple_of_all-unit.ensures.least)
-    c.multiple_of_all-unit.ensures.small (to_z-of_z w128 _ (search rules) ∙ c.from.ensures) c.in_ok-pieces.ensures).answer
+    c.multiple_of_all-unit.ensures.small (to_z-of_z w128 _ (search rules) ∙ c.from.ensures) c.in_ok-pieces.ensures).best
 
 pub returns-clause-order : goal.returns-clause-order
-returns-clause-order c = (IsMostAnswer-from c.args.inst.now c.requires.class c.requires.inner _ _ _ (common_read c.args.inst.now _ _ c.as_slice.ensures c.multiple_of_all-unit.ensures.least)
+returns-clause-order c = subst (IsByCost c.args.inst.now) (sym c.best_solution.ensures.schedule)
+    (IsMostAnswer-from c.args.inst.now c.requires.class c.requires.inner _ _ _ (common_read c.args.inst.now _ _ c.as_slice.ensures c.multiple_of_all-unit.ensures.least)
     c.multiple_of_all-unit.ensures.small (to_z-of_z w128 _ (search rules) ∙ c.from.ensures) c.in_ok-pieces.ensures).by_cost
 
 pub pieces_by_cost-requires-clause-unit : goal.pieces_by_cost-requires-clause-unit
