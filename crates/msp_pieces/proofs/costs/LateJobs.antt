@@ -6,9 +6,8 @@ use Rattle.std.proofs.lemmas.Int.{ints}
 use Rattle.std.proofs.lemmas.Bool.{eq-eqb, ne_eqb}
 use Rattle.std.proofs.lemmas.List.{append_assoc}
 use Rattle.std.proofs.lemmas.List.Elements.{All-nil, All-cons, All-head, All-append, All-filter, filter_passes}
-use Rattle.std.proofs.lemmas.List.Filters.{length-filter_both}
 use Rattle.std.proofs.lemmas.List.Kept.{AllPairs-filter}
-use Rattle.std.proofs.lemmas.List.Sums.{sum_by-cons, sum_by-append, length-filter}
+use Rattle.std.proofs.lemmas.List.Sums.{sum_by-cons, sum_by-append}
 use Rattle.msp_class.specs.declared.class.Crit.TheVariants.{SumU}
 use Rattle.msp_class.specs.Crit.{is_greatest}
 use Rattle.msp_class.proofs.IntegerRing.{pos-le, ≤ℤ_trans, ≤ℤ_of_same, *ℤ-mono_nonneg, *ℤ-cancel_pos, one-*ℤ}
@@ -62,10 +61,6 @@ in_time a b h = by (int_lt a b) refl h
     by : (t : Bool) → int_lt a b ≡ t → not t ≡ true → b ≤ℤ a
     by false e k = omega (arith, ints)
     by true e k = absurd (cc)
-
--- late jobs and those on time are all
-pub late_and_on_time : (f : ℕ → Bool) (xs : List ℕ) → sum_by (λ j. cond (f j) 1 0) xs + length (filter (λ j. not (f j)) xs) ≡ length xs
-late_and_on_time f xs = omega (arith, length-filter f xs, length-filter_both f (λ j. not (f j)) (λ j. refl) xs)
 
 -- ---- elements back to back from a moment on, each of which ends by its due date
 abbrev pub OnTime : {X : Type 0} → (X → ℕ) → (X → ℤ) → ℕ → List X → Type 0

@@ -1,20 +1,18 @@
 -- Jobs back to back on machine 0 from moment 0, as a schedule: when it is feasible, and the form in which it is reported.
-use Rattle.std.proofs.Common.{◌≡◌, ℕ, ◌+◌, ◌*◌, ◌<◌, ◌≤◌, Bool, true, false, List, [], ◌∷◌, length, get_or, map, ℤ, pos, nat_abs, unsigned_abs, ◌-ℤ◌, ◌*ℤ◌, ◌≤ℤ◌, ◌<ℤ◌, inl, All}
-use Rattle.std.proofs.Common.{AllPairs, sum_by, MatchBool, refl, sym, ap, ◌∙◌, subst, arith}
-use Prim.Native.Nat.{◌∣◌}
+use Rattle.std.proofs.Common.{◌≡◌, ℕ, ◌+◌, ◌*◌, ◌<◌, ◌≤◌, Bool, true, false, List, [], ◌∷◌, length, get_or, map, ℤ, pos, nat_abs, unsigned_abs, ◌-ℤ◌, ◌*ℤ◌, ◌≤ℤ◌, inl, All}
+use Rattle.std.proofs.Common.{AllPairs, MatchBool, refl, sym, ap, ◌∙◌, subst, arith}
 use Rattle.std.proofs.lemmas.Int.{ints}
 use Rattle.std.proofs.lemmas.List.Elements.{All-nil}
 use Rattle.std.specs.Int.{IsGcd}
-use Rattle.std.proofs.lemmas.Nat.Gcd.{dvd_antisymm, dvd_refl}
-use Rattle.std.proofs.Math.Nat.{one-dvd, dvd-mul_left, eq-one_of_dvd-one}
-use Rattle.msp_class.specs.declared.sizes.TheConstants.{MOST_JOBS, GREATEST}
+use Rattle.std.proofs.lemmas.Nat.Gcd.{dvd_refl}
+use Rattle.std.proofs.Math.Nat.{dvd-mul_left, eq-one_of_dvd-one}
 use Rattle.msp_class.proofs.IntegerRing.{natural, *ℤ-one}
 use Rattle.msp_class.specs.declared.environments.EnvKind.{EnvKind}
-use Rattle.msp_class.specs.declared.environments.EnvKind.TheVariants.{Identical, Unrelated}
+use Rattle.msp_class.specs.declared.environments.EnvKind.TheVariants.{Identical}
 use Rattle.msp_class.specs.Env.{kind_of}
-use Rattle.msp_class.proofs.Sums.{sum_by-mono, sum_by-constant, OnceBelow, OnceBelow-distinct, OnceBelow-contains, length-OnceBelow}
+use Rattle.msp_class.proofs.Sums.{OnceBelow, OnceBelow-distinct, OnceBelow-contains}
 use Rattle.msp_pieces.specs.BackToBack.{back_to_back, piece, time_at, schedule_in_order}
-use Rattle.msp_pieces.proofs.lists.BackToBack.{Makes, begin_in, end_in, end_in-begin, length-back_to_back, back_to_back-All, back_to_back-to, back_to_back-in_order}
+use Rattle.msp_pieces.proofs.lists.BackToBack.{Makes, begin_in, end_in, end_in-begin, back_to_back-All, back_to_back-in_order}
 use Rattle.msp_pieces.proofs.lists.BackToBack.{back_to_back-made, back_to_back-positive, back_to_back-filter}
 use Rattle.msp_instance.specs.declared.Arc.{Arc}
 use Rattle.msp_instance.specs.declared.Instance.{Instance}
@@ -24,8 +22,6 @@ use Rattle.msp_pieces.specs.declared.Frac.{Frac}
 use Rattle.msp_pieces.specs.Fraction.{IsOver, IsLowest}
 use Rattle.msp_pieces.specs.Piece.{length_of, pieces_of, IsBefore, IsApart as AreApart, job_of, start, finish, IsTimed}
 use Rattle.msp_pieces.specs.Feasible.{Feasible, HasPlace, HasOperation, MayRun, FollowsRoute, IsWholeWork, GetsWork, total, whole_work, work_of as part_of}
-use Rattle.msp_pieces.specs.Settled.{IsSettled}
-use Rattle.msp_pieces.specs.Within.{IsMoment, Within}
 use Rattle.msp_pieces.proofs.feasible.OneMachine.{pieces_of-job, IsOneMachine}
 
 pub piece_makes : Makes piece job_of start finish
@@ -124,40 +120,6 @@ module _ (i : Instance) (order : List ℕ) (o : OnceBelow (length i.jobs) order)
       route = subst (λ x. FollowsRoute x pieces) (sym m.kind) tt;
       work = λ j n l h. works j l n h;
     }
-
-  -- pieces are reported in the order of the jobs, and unit and moments have no common divisor
-  pub back_to_back_is_settled : IsSettled (schedule_in_order i order)
-  back_to_back_is_settled = record {
-    lowest = λ d divides _. only_one d divides;
-    order = λ a b d h k. inl (before a b d h k);
-  }
-    where
-      only_one : (d : ℕ) → d ∣ 1 → d ≡ 1
-      only_one d h = dvd_antisymm h (one-dvd d)
-
-      before : AllPairs (λ p q. p.from <ℤ q.from) pieces
-      before a b d h k = let e = in_order a b d h k in let t = timed a d (omega arith) in omega (arith, ints, e, t.from, t.to, t.lasts)
-
-  -- with short times they are within the bounds of the calls, and end by MOST_JOBS times the longest
-  module _ (few : length i.jobs ≤ MOST_JOBS) (short : (j : ℕ) → j < length i.jobs → time_at i j ≤ GREATEST) where
-    pub back_to_back_ends : sum_by (time_at i) order ≤ (MOST_JOBS * GREATEST)
-    back_to_back_ends =
-        let each = sum_by-mono (time_at i) (λ _. GREATEST) order (λ k d l. short (get_or order k d) (o.within k d l)) in
-        omega (arith, each, sum_by-constant GREATEST order, length-OnceBelow o)
-
-    pub back_to_back_is_within : kind_of i.class.env ≡ Identical → Within i (schedule_in_order i order)
-    back_to_back_is_within e = record {
-      unit = (omega (arith, ints), omega (arith, ints));
-      few = omega (arith, length-back_to_back piece (time_at i) 0 order, length-OnceBelow o);
-      moments = λ k d l. let t = timed k d l in moments_of (get_or pieces k d) t (omega (arith, back_to_back-to piece (time_at i) piece_makes 0 order k d l, back_to_back_ends));
-      scaled = λ u. absurd (not_unrelated (sym e ∙ u));
-    }
-      where
-        moments_of : (p : Piece) → IsTimed p → finish p ≤ (MOST_JOBS * GREATEST) → IsMoment p.from × IsMoment p.to
-        moments_of p t h = ((omega (arith, ints, t.from), omega (arith, ints, t.from, t.lasts, h)), (omega (arith, ints, t.to), omega (arith, ints, t.to, h)))
-
-        not_unrelated : Identical ≡ Unrelated → ⊥
-        not_unrelated h = cc
 
 -- ---- a whole cost over the unit 1: its fraction in lowest terms has the denominator 1
 pub whole_fraction : (f : Frac) (x : ℤ) (n : ℕ) → x ≡ pos n → IsOver f x (pos 1) → IsLowest f → (f.den ≡ pos 1) × (f.num ≡ pos n)
