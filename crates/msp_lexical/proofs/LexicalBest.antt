@@ -1,7 +1,6 @@
 -- The schedule of the rule is feasible and best, and costs the bound of its segments.
 use Rattle.std.proofs.Common.{◌≡◌, ℕ, ◌<◌, true, List, length, pos, ◌*ℤ◌, ◌≤ℤ◌, MatchOption, sym, ap, subst, subst₂, ◌∙◌, arith}
 use Rattle.std.specs.Prelude.{⊤}
-use Rattle.std.proofs.lemmas.Int.{ints}
 use Rattle.msp_class.specs.declared.class.Class.{Class}
 use Rattle.msp_class.specs.Crit.{is_greatest}
 use Rattle.msp_class.specs.Env.{kind_of, fixed_machines}
@@ -15,17 +14,17 @@ use Rattle.msp_pieces.specs.declared.Frac.{Frac}
 use Rattle.msp_pieces.specs.Feasible.{Feasible}
 use Rattle.msp_pieces.specs.Fraction.{IsOver}
 use Rattle.msp_pieces.specs.Cost.{cost_of, end_of, job_cost, Best}
-use Rattle.msp_pieces.specs.Within.{Within}
 use Rattle.msp_pieces.specs.Settled.{IsSettled}
 use Rattle.msp_pieces.specs.Segments.{AreSegments, segments_bound}
 use Rattle.msp_pieces.proofs.feasible.OfClass.{IsOfClass, IsOfClass-from}
 use Rattle.msp_pieces.proofs.costs.Charges.{charge_of, cost_of-bound, cost_of-least}
 use Rattle.msp_pieces.proofs.bounds.SegmentBound.{law_of_segments}
-use Rattle.msp_route.specs.Bounds.{IsAnswer, answer_unit}
+use Rattle.msp_route.specs.Bounds.{IsBestAnswer}
+use Rattle.msp_route.proofs.Owed.{unit_one}
 use Rattle.msp_route.proofs.OneEach.{one_each_is_answer}
 use Rattle.msp_slots.proofs.Progress.{IsOrdered-from}
 use Rattle.msp_slots.proofs.ListSchedules.{unit_pieces, list_schedule_is_settled}
-use Rattle.msp_slots.proofs.UnitPieces.{HasUnitJobs, AreUnitPieces, one_each, uncut, unit_pieces_are_feasible, unit_pieces_are_within, unit_piece_ends}
+use Rattle.msp_slots.proofs.UnitPieces.{HasUnitJobs, AreUnitPieces, one_each, uncut, unit_pieces_are_feasible, unit_piece_ends}
 use Rattle.msp_lexical.specs.Lexical.{lexical_class, IsSegmentCost, IsLeastCost}
 use Rattle.msp_lexical.specs.Slots.{AreSlots, AreSeats}
 use Rattle.msp_lexical.specs.Steps.{HasLabels, IsByLabel}
@@ -60,7 +59,7 @@ module _ (i : Instance) (class : i.class ≡ lexical_class) (inner : Inner i) (l
   pub units : AreUnitPieces i begin machine pieces
   units = unit_pieces i b.order pieces b.schedule t.few (λ j l. (t.jobs j no_job l).release)
 
-  pub feasible : Feasible i (schedule_of pieces)
+  feasible : Feasible i (schedule_of pieces)
   feasible = unit_pieces_are_feasible i unit begin machine pieces units
 
   -- ---- the cost
@@ -108,18 +107,15 @@ module _ (i : Instance) (class : i.class ≡ lexical_class) (inner : Inner i) (l
   some_seats : (slots : ℕ) × (seat : ℕ → ℕ → ℕ) × AreSeats n begin machine slots seat
   some_seats = seats_there_are n begin machine t.some b.schedule.runs.apart
 
-  pub best : Best i (schedule_of pieces)
-  best = let (slots, seat, seats) = some_seats in best_of slots seat seats
+  pub best : IsBestAnswer i (schedule_of pieces)
+  best = record {
+    best = let (slots, seat, seats) = some_seats in best_of slots seat seats;
+    answer = one_each_is_answer i (uncut i unit begin machine pieces units) 1 pieces (one_each i unit begin machine pieces units) (unit_one (kind_of i.class.env));
+  }
 
   pub cost : (cost : Frac) → IsOver cost (cost_of i (schedule_of pieces)) (pos 1) → IsSegmentCost i cost
   cost = let (slots, seat, seats) = some_seats in segment_cost slots seat seats
 
-  -- ---- bounds, and the form of a report
-  pub within : Within i (schedule_of pieces)
-  within = unit_pieces_are_within i unit begin machine pieces units
-
-  pub answer : IsAnswer i (schedule_of pieces)
-  answer = one_each_is_answer i (uncut i unit begin machine pieces units) 1 pieces (one_each i unit begin machine pieces units) (subst (λ k. pos 1 ≤ℤ answer_unit k) (sym t.kind) (omega (arith, ints)))
-
+  -- ---- the form of a report
   pub settled : IsSettled (schedule_of pieces)
   settled = list_schedule_is_settled i b.order pieces b.schedule

@@ -14,7 +14,7 @@ use crate::label::labels_of;
 use msp_class::{Class, Crit, Env, List, NoMemory, Order, Times};
 use msp_instance::{Instance, MOST_JOBS};
 use msp_pieces::{Piece, Schedule, Solution};
-use msp_route::{Solver, jobs_by_key};
+use msp_route::{Solver, best_solution, jobs_by_key};
 use msp_slots::pieces_in_order;
 use std::alloc::Global;
 
@@ -79,8 +79,7 @@ pub fn solution_of(inst: &Instance, labels: &[u32; MOST_JOBS], pieces: List<Piec
     ensures lowest { IsLowest result.cost }
 {
     let schedule = Schedule { unit: 1, pieces };
-    let cost = msp_pieces::cost(inst, &schedule);
-    Solution { schedule, cost }
+    best_solution(inst, schedule)
 }
 
 /// A schedule of least makespan, with its cost: the bound of some segments.

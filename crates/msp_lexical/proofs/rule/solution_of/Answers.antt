@@ -1,25 +1,14 @@
-use Rattle.std.proofs.Common.{slice_index}
-use Rattle.msp_lexical.proofs.LexicalBest.{feasible, best, cost, within, answer, settled}
+use Rattle.std.proofs.Common.{slice_index, sym, subst}
+use Rattle.msp_pieces.specs.Settled.{IsSettled}
+use Rattle.msp_lexical.proofs.LexicalBest.{best, cost, settled}
 use Rattle.msp_lexical.proofs.rule.solution_of.Goals as goal
 
-pub cost-cost-requires-clause-within : goal.cost-cost-requires-clause-within
-cost-cost-requires-clause-within c = within c.args.inst.now c.requires.class c.requires.inner (slice_index c.args.labels.now) c.requires.labels c.args.pieces c.requires.pieces
-
-pub cost-cost-requires-clause-feasible : goal.cost-cost-requires-clause-feasible
-cost-cost-requires-clause-feasible c = feasible c.args.inst.now c.requires.class c.requires.inner (slice_index c.args.labels.now) c.requires.labels c.args.pieces c.requires.pieces
-
-pub returns-clause-best : goal.returns-clause-best
-returns-clause-best c = record {
-  best = best c.args.inst.now c.requires.class c.requires.inner (slice_index c.args.labels.now) c.requires.labels c.args.pieces c.requires.pieces;
-  cost = c.cost-cost.ensures.value;
-}
-
-pub returns-clause-bounds : goal.returns-clause-bounds
-returns-clause-bounds c = answer c.args.inst.now c.requires.class c.requires.inner (slice_index c.args.labels.now) c.requires.labels c.args.pieces c.requires.pieces
+pub best_solution-requires-clause-best : goal.best_solution-requires-clause-best
+best_solution-requires-clause-best c = best c.args.inst.now c.requires.class c.requires.inner (slice_index c.args.labels.now) c.requires.labels c.args.pieces c.requires.pieces
 
 pub returns-clause-cost : goal.returns-clause-cost
 returns-clause-cost c = cost c.args.inst.now c.requires.class c.requires.inner
-    (slice_index c.args.labels.now) c.requires.labels c.args.pieces c.requires.pieces c.cost-cost.result c.cost-cost.ensures.value
+    (slice_index c.args.labels.now) c.requires.labels c.args.pieces c.requires.pieces c.best_solution.result.cost c.best_solution.ensures.cost
 
 pub returns-clause-settled : goal.returns-clause-settled
-returns-clause-settled c = settled c.args.inst.now c.requires.class c.requires.inner (slice_index c.args.labels.now) c.requires.labels c.args.pieces c.requires.pieces
+returns-clause-settled c = subst IsSettled (sym c.best_solution.ensures.schedule) (settled c.args.inst.now c.requires.class c.requires.inner (slice_index c.args.labels.now) c.requires.labels c.args.pieces c.requires.pieces)
