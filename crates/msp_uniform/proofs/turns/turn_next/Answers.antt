@@ -4,6 +4,12 @@ use Rattle.msp_uniform.specs.Segments.{at, IsSegment, IsDifference, HasPlaces, a
 use Rattle.msp_uniform.proofs.ReachedFacts.{speeds_small, time_small, reached_unit, reached_short, reached_places, next_inside}
 use Rattle.msp_uniform.proofs.ReachedFacts.{next_first, next_some, next_finer, IsReached-turned, turned_unit, read_long, read_short, read_turned}
 use Rattle.msp_uniform.proofs.turns.turn_next.Goals as goal
+use Rattle.msp_uniform.proofs.turns.turn_next.Goals.{Else-work-work_of}
+
+-- the job needs more than the last place gives
+long : (c : Else-work-work_of) → amount (rate_at (at c.args.task.now.speeds.items) (c.args.plan.now.places - 1)) c.args.plan.now.segments.items < c.args.plan.now.unit * at c.args.task.now.times.items c.args.job
+long c = read_long c.args.task.now c.args.plan.now.unit _ _ _ _ c.args.plan.now.segments.items _ _ _ c.as_slice.ensures.value
+    c.as_slice-3.ensures.value c.as_slice-2.ensures.value c.need_of-work.ensures c.work_of.ensures (omega (arith, c.if-work-work_of.false))
 
 pub need_of-work-requires-clause-unit : goal.need_of-work-requires-clause-unit
 need_of-work-requires-clause-unit c = reached_unit c.args.task.now c.requires.task _ _ _ _ c.requires.reached.1
@@ -42,16 +48,14 @@ turn-requires-clause-speeds c = subst (All (λ s. s ≤ GREATEST_SPEED)) (sym c.
 
 pub turn-requires-clause-last : goal.turn-requires-clause-last
 turn-requires-clause-last c =
-    let long = read_long c.args.task.now c.args.plan.now.unit _ _ _ _ c.args.plan.now.segments.items _ _ _ c.as_slice.ensures.value
-    c.as_slice-3.ensures.value c.as_slice-2.ensures.value c.need_of-work.ensures c.work_of.ensures (omega (arith, c.if-work-work_of.false)) in
+    let l = long (goal.at.turn-requires-clause-last c).Else-work-work_of in
     subst₂ (λ sp ys. amount (rate_at (at sp) (c.args.plan.now.places - 1)) ys < c.need_of-work.result) (sym c.as_slice-4.ensures.value) (sym (ap (λ v. v.items) c.replace-segments.ensures.value))
-    (omega (arith, long, c.need_of-work.ensures, ap (λ ts. c.args.plan.now.unit * at ts c.args.job) c.as_slice.ensures.value))
+    (omega (arith, l, c.need_of-work.ensures, ap (λ ts. c.args.plan.now.unit * at ts c.args.job) c.as_slice.ensures.value))
 
 pub turn-requires-clause-some : goal.turn-requires-clause-some
 turn-requires-clause-some c =
-    let long = read_long c.args.task.now c.args.plan.now.unit _ _ _ _ c.args.plan.now.segments.items _ _ _ c.as_slice.ensures.value
-    c.as_slice-3.ensures.value c.as_slice-2.ensures.value c.need_of-work.ensures c.work_of.ensures (omega (arith, c.if-work-work_of.false)) in
-    next_some c.args.task.now c.requires.task _ _ _ _ _ c.requires.reached.1 long
+    let l = long (goal.at.turn-requires-clause-some c).Else-work-work_of in
+    next_some c.args.task.now c.requires.task _ _ _ _ _ c.requires.reached.1 l
 
 pub turn-requires-clause-each : goal.turn-requires-clause-each
 turn-requires-clause-each c = (
@@ -62,10 +66,9 @@ turn-requires-clause-each c = (
 
 pub turn-requires-clause-short : goal.turn-requires-clause-short
 turn-requires-clause-short c d is =
-    let long = read_long c.args.task.now c.args.plan.now.unit _ _ _ _ c.args.plan.now.segments.items _ _ _ c.as_slice.ensures.value
-    c.as_slice-3.ensures.value c.as_slice-2.ensures.value c.need_of-work.ensures c.work_of.ensures (omega (arith, c.if-work-work_of.false)) in
+    let l = long (goal.at.turn-requires-clause-short c).Else-work-work_of in
     subst (λ ys. amount (λ _. 1) ys * d ≤ greatest_length) (sym (ap (λ v. v.items) c.replace-segments.ensures.value))
-    (next_finer c.args.task.now c.requires.task _ _ _ _ _ c.requires.reached.1 long d (subst (λ sp. IsDifference sp d) c.as_slice-4.ensures.value is))
+    (next_finer c.args.task.now c.requires.task _ _ _ _ _ c.requires.reached.1 l d (subst (λ sp. IsDifference sp d) c.as_slice-4.ensures.value is))
 
 pub turn-requires-clause-first : goal.turn-requires-clause-first
 turn-requires-clause-first c =
@@ -75,16 +78,14 @@ turn-requires-clause-first c =
 
 pub overflow_mul-plan : goal.overflow_mul-plan
 overflow_mul-plan c =
-    let long = read_long c.args.task.now c.args.plan.now.unit _ _ _ _ c.args.plan.now.segments.items _ _ _ c.as_slice.ensures.value
-    c.as_slice-3.ensures.value c.as_slice-2.ensures.value c.need_of-work.ensures c.work_of.ensures (omega (arith, c.if-work-work_of.false)) in
-    let small = turned_unit c.args.task.now c.requires.task _ _ _ _ c.args.plan.now.segments.items c.requires.reached.1 _ _ long
+    let l = long (goal.at.overflow_mul-plan c).Else-work-work_of in
+    let small = turned_unit c.args.task.now c.requires.task _ _ _ _ c.args.plan.now.segments.items c.requires.reached.1 _ _ l
     (read_turned c.args.task.now c.args.plan.now.unit _ _ _ _ c.args.plan.now.segments.items _ _ _ _ c.as_slice.ensures.value c.as_slice-4.ensures.value
     (ap (λ v. v.items) c.replace-segments.ensures.value) c.need_of-work.ensures c.in_ok-turned.ensures) in
     omega (arith, small)
 
 pub returns : goal.returns
 returns c left r =
-    let long = read_long c.args.task.now c.args.plan.now.unit _ _ _ _ c.args.plan.now.segments.items _ _ _ c.as_slice.ensures.value
-    c.as_slice-3.ensures.value c.as_slice-2.ensures.value c.need_of-work.ensures c.work_of.ensures (omega (arith, c.if-work-work_of.false)) in
-    IsReached-turned c.args.task.now c.requires.task _ _ _ _ c.args.plan.now.segments.items r long _ _ (read_turned c.args.task.now c.args.plan.now.unit _ _ _ _ c.args.plan.now.segments.items
+    let l = long (goal.at.returns c).Else-work-work_of in
+    IsReached-turned c.args.task.now c.requires.task _ _ _ _ c.args.plan.now.segments.items r l _ _ (read_turned c.args.task.now c.args.plan.now.unit _ _ _ _ c.args.plan.now.segments.items
     _ _ _ _ c.as_slice.ensures.value c.as_slice-4.ensures.value (ap (λ v. v.items) c.replace-segments.ensures.value) c.need_of-work.ensures c.in_ok-turned.ensures)
