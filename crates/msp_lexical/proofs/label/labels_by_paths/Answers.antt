@@ -1,12 +1,13 @@
-use Rattle.std.proofs.Common.{◌≡◌, ◌<◌, Any, length, slice_index, sym, ap, subst, ◌∙◌, arith, rules}
+use Rattle.std.proofs.Common.{◌≡◌, ◌<◌, Any, length, slice_index, set, sym, ap, subst, ◌∙◌, arith, rules}
 use Rattle.std.proofs.lemmas.List.{length-set}
 use Rattle.std.proofs.lemmas.List.Elements.{All-contains}
 use Rattle.std.specs.List.{range_with_len}
 use Rattle.msp_class.specs.declared.sizes.TheConstants.{MOST_JOBS}
 use Rattle.msp_instance.specs.Paths.{leads}
 use Rattle.msp_lexical.proofs.Counts.{some_free, counts-start, counts-enough, counts-next}
-use Rattle.msp_lexical.proofs.Labelling.{IsLabelling-start, AreLabels-end, labelled}
+use Rattle.msp_lexical.proofs.Labelling.{IsLabelled, IsLabelling-start, AreLabels-end, labelled}
 use Rattle.msp_lexical.proofs.label.labels_by_paths.Goals as goal
+use Rattle.msp_lexical.proofs.label.labels_by_paths.Goals.{In_ok-reorder}
 
 pub loop-arcs-init : goal.loop-arcs-init
 loop-arcs-init c =
@@ -38,38 +39,31 @@ first_free-place-requires-clause-some c =
       )) ∙ none,
     )
 
+-- one more job has its label
+made : (c : In_ok-reorder) → IsLabelled c.args.inst.now (leads c.args.paths.now) c.loop-arcs.label
+    (set c.loop-arcs.labels c.remove-job.result c.loop-arcs.label) c.remove-job.result c.loop-arcs.left.items c.reorder.new.left.items
+made c =
+    let inner = c.requires.inner in
+    labelled c.args.inst.now (leads c.args.paths.now) c.requires.paths inner.conditions.ends inner.acyclic inner.conditions.few c.loop-arcs.label c.loop-arcs.labels
+    c.loop-arcs.counts c.loop-arcs.left.items c.as_slice.result.now c.remove-job.new.self.items c.reorder.new.left.items c.first_free-place.result c.remove-job.result
+    c.loop-arcs.invariant.steps c.loop-arcs.invariant.whole c.loop-arcs.invariant.counted c.as_slice.ensures.value c.first_free-place.ensures.place
+    c.first_free-place.ensures.free c.first_free-place.ensures.waits c.remove-job.ensures.value c.remove-job.ensures.items c.in_ok-reorder.ensures
+
 pub release-requires-clause-counted : goal.release-requires-clause-counted
 release-requires-clause-counted c =
-    let i = c.args.inst.now in
-    let inner = c.requires.inner in
-    let step = labelled i (leads c.args.paths.now) c.requires.paths inner.conditions.ends inner.acyclic inner.conditions.few c.loop-arcs.label c.loop-arcs.labels
-    c.loop-arcs.counts c.loop-arcs.left.items c.as_slice.result.now c.remove-job.new.self.items c.reorder.new.left.items c.first_free-place.result c.remove-job.result
-    c.loop-arcs.invariant.steps c.loop-arcs.invariant.whole c.loop-arcs.invariant.counted c.as_slice.ensures.value c.first_free-place.ensures.place
-    c.first_free-place.ensures.free c.first_free-place.ensures.waits c.remove-job.ensures.value c.remove-job.ensures.items c.in_ok-reorder.ensures in
-    counts-enough i.arcs c.as_slice-arcs.result.now c.as_slice-arcs.ensures c.loop-arcs.left.items
-    c.reorder.new.left.items c.loop-arcs.counts c.remove-job.result step.leaves c.loop-arcs.invariant.steps.once c.loop-arcs.invariant.counted
+    counts-enough c.args.inst.now.arcs c.as_slice-arcs.result.now c.as_slice-arcs.ensures c.loop-arcs.left.items c.reorder.new.left.items c.loop-arcs.counts
+    c.remove-job.result (made (goal.at.release-requires-clause-counted c).In_ok-reorder).leaves c.loop-arcs.invariant.steps.once c.loop-arcs.invariant.counted
 
 pub loop-arcs-smaller : goal.loop-arcs-smaller
-loop-arcs-smaller c =
-    let i = c.args.inst.now in
-    let inner = c.requires.inner in
-    (labelled i (leads c.args.paths.now) c.requires.paths inner.conditions.ends inner.acyclic inner.conditions.few c.loop-arcs.label c.loop-arcs.labels
-    c.loop-arcs.counts c.loop-arcs.left.items c.as_slice.result.now c.remove-job.new.self.items c.reorder.new.left.items c.first_free-place.result c.remove-job.result
-    c.loop-arcs.invariant.steps c.loop-arcs.invariant.whole c.loop-arcs.invariant.counted c.as_slice.ensures.value c.first_free-place.ensures.place
-    c.first_free-place.ensures.free c.first_free-place.ensures.waits c.remove-job.ensures.value c.remove-job.ensures.items c.in_ok-reorder.ensures).fewer
+loop-arcs-smaller c = (made (goal.at.loop-arcs-smaller c).In_ok-reorder).fewer
 
 pub loop-arcs-preserved : goal.loop-arcs-preserved
 loop-arcs-preserved c =
-    let i = c.args.inst.now in
-    let inner = c.requires.inner in
-    let step = labelled i (leads c.args.paths.now) c.requires.paths inner.conditions.ends inner.acyclic inner.conditions.few c.loop-arcs.label c.loop-arcs.labels
-    c.loop-arcs.counts c.loop-arcs.left.items c.as_slice.result.now c.remove-job.new.self.items c.reorder.new.left.items c.first_free-place.result c.remove-job.result
-    c.loop-arcs.invariant.steps c.loop-arcs.invariant.whole c.loop-arcs.invariant.counted c.as_slice.ensures.value c.first_free-place.ensures.place
-    c.first_free-place.ensures.free c.first_free-place.ensures.waits c.remove-job.ensures.value c.remove-job.ensures.items c.in_ok-reorder.ensures in
+    let step = made (goal.at.loop-arcs-preserved c).In_ok-reorder in
     record {
       steps = step.next;
       whole = length-set c.loop-arcs.labels c.remove-job.result c.loop-arcs.label ∙ c.loop-arcs.invariant.whole;
-      counted = counts-next i.arcs c.as_slice-arcs.result.now c.as_slice-arcs.ensures c.loop-arcs.left.items c.reorder.new.left.items c.loop-arcs.counts
+      counted = counts-next c.args.inst.now.arcs c.as_slice-arcs.result.now c.as_slice-arcs.ensures c.loop-arcs.left.items c.reorder.new.left.items c.loop-arcs.counts
           c.remove-job.result step.leaves c.loop-arcs.invariant.steps.once c.loop-arcs.invariant.counted c.release.new.counts c.release.ensures;
     }
 
