@@ -9,7 +9,6 @@ use Rattle.msp_instance.specs.declared.Instance.{Instance}
 use Rattle.msp_instance.specs.Conditions.{Inner}
 use Rattle.msp_instance.specs.Paths.{HasStep}
 use Rattle.msp_pieces.specs.declared.Piece.{Piece}
-use Rattle.msp_pieces.specs.declared.Schedule.{Schedule}
 use Rattle.msp_pieces.specs.Feasible.{Feasible}
 use Rattle.msp_pieces.specs.Cost.{end_of}
 use Rattle.msp_pieces.specs.BackToBack.{back_to_back, piece, time_at, schedule_in_order}

@@ -1,5 +1,5 @@
 -- The jobs back to back in Smith's order are a best schedule.
-use Rattle.std.proofs.Common.{◌≡◌, ℕ, ◌*◌, ◌≤◌, inl, inr, List, length, get_or, ℤ, pos, nat_abs, ◌*ℤ◌, ◌≤ℤ◌, AllPairs, ap, ◌∙◌, arith}
+use Rattle.std.proofs.Common.{◌≡◌, ℕ, ◌*◌, ◌≤◌, inl, inr, List, length, get_or, pos, nat_abs, ◌*ℤ◌, ◌≤ℤ◌, AllPairs, ap, ◌∙◌, arith}
 use Rattle.msp_class.specs.declared.class.Crit.TheVariants.{SumWC}
 use Rattle.msp_class.proofs.Sums.{OnceBelow, OnceBelow-from_permutation}
 use Rattle.msp_instance.specs.declared.Instance.{Instance}
