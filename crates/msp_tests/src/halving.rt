@@ -1,4 +1,4 @@
-// The halving, asked about a plain number over wide ranges; of the solvers `Stairs` and `TreeDue` halve, too.
+// The halving, asked about a plain number over wide ranges; of the solvers `Stairs`, `TreeDue` and `PairDue` halve, too.
 ghost use Rattle.std.specs.Prelude.{◌^◌, ◌≤ℤ◌, ⊤};
 ghost use Rattle.msp_instance.specs.Conditions.{LiesWithin};
 ghost use Rattle.msp_class.proofs.IntegerRing.{≤ℤ_trans};
