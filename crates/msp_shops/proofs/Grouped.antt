@@ -1,7 +1,8 @@
 -- The jobs that begin on a machine, read one after another and put into another order, are a group.
-use Rattle.std.proofs.Common.{◌≡◌, ◌≢◌, ℕ, suc, ◌+◌, ◌<◌, ◌≤◌, Bool, true, false, not, cond, if◌then◌else◌, List, [], ◌∷◌, ◌++◌, length, map, filter, All, AllPairs, Contains}
+use Rattle.std.proofs.Common.{◌≡◌, ◌≢◌, ℕ, suc, ◌+◌, ◌<◌, ◌≤◌, Bool, true, false, not, cond, if◌then◌else◌, List, [], ◌∷◌, ◌++◌, length, get_or, map, filter, All, AllPairs, Contains}
 use Rattle.std.proofs.Common.{IsPermutation, refl, sym, ap, ap₂, subst, ◌∙◌, arith}
 use Rattle.std.specs.List.{range_with_len}
+use Rattle.std.specs.List.Sorted.{IsStableBy}
 use Rattle.std.proofs.lemmas.Bool.{eqb-true, eq-eqb}
 use Rattle.std.proofs.lemmas.List.{map-append, length-map, get_or-map}
 use Rattle.std.proofs.lemmas.List.Elements.{All-map, All-filter, filter_passes, filter-append}
@@ -14,6 +15,9 @@ use Rattle.msp_instance.specs.Instance.{need_at}
 use Rattle.msp_pieces.proofs.changes.Moves.{AllPairs-map}
 use Rattle.msp_pieces.proofs.lists.Permuted.{AllPairs-permutation}
 use Rattle.msp_shops.specs.declared.pass.JobTimes.{JobTimes}
+use Rattle.msp_shops.specs.Order.{GoesBefore}
+use Rattle.msp_shops.proofs.Sorted.{johnson_less, johnson_less-order, johnson_ties}
+use Rattle.msp_shops.proofs.Stable.{stable_pairs, range_rises}
 use Rattle.msp_shops.specs.Groups.{route_times, begins_on, IsTwoMachineShop, IsGroup}
 
 module _ (i : Instance) (machine : ℕ) where
@@ -78,3 +82,15 @@ module _ (i : Instance) (machine : ℕ) where
           once = AllPairs-permutation (λ (a b : JobTimes). a.job ≢ b.job) (λ a b n e. n (sym e)) (map (route_times i) numbers) ys move once;
           few = omega (arith, length_permutation (map (route_times i) numbers) ys move, short, shop.few);
         }
+
+  -- a stable sort by Johnson's order leaves ties in order of number
+  pub ties-made : (xs ys : List JobTimes) → xs ≡ map (route_times i) (filter (begins_on i machine) (range_with_len 0 (length i.jobs)))
+      → AllPairs (GoesBefore (λ t. t.first) (λ t. t.second)) ys → IsStableBy (johnson_less (λ (t : JobTimes). t.first) (λ t. t.second)) xs ys
+      → AllPairs (λ s t. GoesBefore (λ u. u.first) (λ u. u.second) t s → s.job < t.job) ys
+  ties-made xs ys are sorted stable a b d l m other =
+      let lt = johnson_less (λ (t : JobTimes). t.first) (λ t. t.second) in
+      let rises : AllPairs (λ (s t : JobTimes). s.job < t.job) xs = subst (AllPairs (λ (s t : JobTimes). s.job < t.job)) (sym are)
+      (AllPairs-map (λ (s t : JobTimes). s.job < t.job) (route_times i) (filter (begins_on i machine) (range_with_len 0 (length i.jobs)))
+      (AllPairs-filter (λ s t. s < t) (begins_on i machine) (range_with_len 0 (length i.jobs)) (range_rises (length i.jobs)))) in
+      stable_pairs (λ (s t : JobTimes). s.job < t.job) lt (johnson_less-order (λ (t : JobTimes). t.first) (λ t. t.second)) xs ys rises stable a b d l m
+      (johnson_ties (λ (t : JobTimes). t.first) (λ t. t.second) (get_or ys a d) (get_or ys b d) (sorted a b d l m) other)

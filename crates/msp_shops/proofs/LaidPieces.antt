@@ -125,7 +125,7 @@ module _ (i : Instance) (shop : IsTwoMachineShop i) (here there : List JobTimes)
   each : All (IsOperationOf i) both
   each = All-append (IsOperationOf i) h.pieces_here h.pieces_there (λ k d l. (ones_here k d l).operation) (λ k d l. (ones_there k d l).operation)
 
-  timed : All IsTimed both
+  pub timed : All IsTimed both
   timed = All-append IsTimed h.pieces_here h.pieces_there h.pass_here.tidy.timed h.pass_there.tidy.timed
 
   ends : All (λ p. finish p ≤ last) both
@@ -156,7 +156,7 @@ module _ (i : Instance) (shop : IsTwoMachineShop i) (here there : List JobTimes)
   apart = AllPairs-append (IsApartOn machine_of start finish) h.pieces_here h.pieces_there h.pass_here.tidy.apart h.pass_there.tidy.apart
       (λ k d l a e m. crossing (get_or h.pieces_here k d) (get_or h.pieces_there a e) (ones_here k d l) (ones_there a e m))
 
-  in_order : AllPairs InOrder both
+  pub in_order : AllPairs InOrder both
   in_order = AllPairs-append InOrder h.pieces_here h.pieces_there
       (ordered i shop 0 1 refl here group_here (after there) h.end_here h.pieces_here h.pass_here)
       (ordered i shop 1 0 refl there group_there (after here) h.end_there h.pieces_there h.pass_there)

@@ -1,3 +1,5 @@
+pub mod Parts
+pub mod InLine
 pub mod Passing
 pub mod Shops
 pub mod OpenFacts
@@ -7,10 +9,12 @@ pub mod Cut
 pub mod Threshold
 pub mod JohnsonOrder
 pub mod Sorted
+pub mod Stable
 pub mod ShopPieces
 pub mod Stages
 pub mod LaidPieces
 pub mod InSeries
+pub mod JacksonPieces
 pub mod Grouped
 pub mod ShopClasses
 pub mod Answered

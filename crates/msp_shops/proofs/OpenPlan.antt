@@ -26,7 +26,7 @@ use Rattle.msp_shops.specs.Pass.{whole_piece, part, machine_of, IsOperation, IsO
 use Rattle.msp_shops.specs.Open.{IsOpenEnd}
 use Rattle.msp_shops.specs.Times.{times_at}
 use Rattle.msp_shops.specs.OpenOrder.{all_times, IsSpecial, AreGrouped}
-use Rattle.msp_shops.proofs.Passing.{All-part, Contains-part, AllPairs-part, length-part}
+use Rattle.msp_shops.proofs.Parts.{All-part, Contains-part, AllPairs-part, length-part}
 use Rattle.msp_shops.proofs.Shops.{IsTimely, IsShopPlan, IsBestPlan, IsBestPlan-from_plan, over_one}
 use Rattle.msp_shops.proofs.OpenFacts.{IsOpenInstance, job_numbers, one_or_other, load_is, length_is, end_short, least_end, critical_end}
 

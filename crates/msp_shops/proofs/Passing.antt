@@ -1,52 +1,20 @@
 -- What one job more adds to a pass over two machines.
-use Rattle.std.proofs.Common.{◌≡◌, ◌≢◌, ℕ, ◌+◌, ◌<◌, ◌≤◌, inl, inr, max, Bool, true, false, cond, leb, List, [], ◌∷◌, ◌++◌, length, get_or, take, All, AllPairs, Contains, sum_by}
+use Rattle.std.proofs.Common.{◌≡◌, ◌≢◌, ℕ, ◌+◌, ◌<◌, ◌≤◌, inl, inr, max, Bool, true, false, leb, List, [], ◌∷◌, ◌++◌, length, get_or, take, All, AllPairs, Contains, sum_by}
 use Rattle.std.proofs.Common.{refl, sym, ap, ◌∙◌, subst, subst₂, arith, length-append}
-use Rattle.std.specs.Prelude.{◌==◌}
-use Rattle.std.proofs.lemmas.Bool.{eqb-true, eqb-false, leb-true, leb-false}
+use Rattle.std.proofs.lemmas.Bool.{leb-true, leb-false}
 use Rattle.std.proofs.lemmas.List.{take_more, append_assoc, append-nil, length-take-le, get_or-take, get_or_default}
 use Rattle.std.proofs.lemmas.List.Sums.{sum_by_push}
-use Rattle.std.proofs.lemmas.List.Elements.{All-nil, All-cons, All-push, All-append, All-contains, Contains-append_left, Contains-append_right}
+use Rattle.std.proofs.lemmas.List.Elements.{All-nil, All-push, All-contains, Contains-append_left, Contains-append_right}
 use Rattle.msp_class.specs.declared.sizes.TheConstants.{GREATEST}
 use Rattle.msp_pieces.specs.declared.Piece.{Piece}
 use Rattle.msp_pieces.specs.Intervals.{IsApartOn}
 use Rattle.msp_pieces.specs.Piece.{start, finish, IsTimed}
-use Rattle.msp_pieces.proofs.feasible.Series.{AllPairs-append}
 use Rattle.msp_shops.specs.declared.pass.JobTimes.{JobTimes}
 use Rattle.msp_shops.specs.declared.pass.Moments.{Moments}
 use Rattle.msp_shops.specs.declared.pass.Stage.{Stage}
 use Rattle.msp_shops.specs.Pass.{whole_piece, part, IsOf, HasPiece, machine_of, IsTidy, IsCritical, IsPass, HasPassed}
-
--- ---- the piece of an operation, where it takes time
-pub All-part : (P : Piece → Type 0) (job : ℕ) (stage : Stage) (begin time : ℕ) → (0 < time → P (whole_piece job stage begin time)) → All P (part job stage begin time)
-All-part P job stage begin time h = by (time == 0) refl
-  where
-    positive : (t : ℕ) → (t ≡ 0 → ⊥) → 0 < t
-    positive t n = omega arith
-
-    by : (b : Bool) → time == 0 ≡ b → All P (cond b [] (whole_piece job stage begin time ∷ []))
-    by true e = All-nil P
-    by false e = All-cons P (whole_piece job stage begin time) [] (h (positive time (eqb-false time 0 e))) (All-nil P)
-
-pub Contains-part : (job : ℕ) (stage : Stage) (begin time : ℕ) → 0 < time → Contains (part job stage begin time) (whole_piece job stage begin time)
-Contains-part job stage begin time some = by (time == 0) refl
-  where
-    by : (b : Bool) → time == 0 ≡ b → Contains (cond b [] (whole_piece job stage begin time ∷ [])) (whole_piece job stage begin time)
-    by true e = absurd (omega (arith, some, eqb-true time 0 e))
-    by false e = (0, omega arith, refl)
-
-pub length-part : (job : ℕ) (stage : Stage) (begin time : ℕ) → length (part job stage begin time) ≤ 1
-length-part job stage begin time = by (time == 0)
-  where
-    by : (b : Bool) → length (cond b [] (whole_piece job stage begin time ∷ [])) ≤ 1
-    by true = omega arith
-    by false = omega arith
-
-pub AllPairs-part : (R : Piece → Piece → Type 0) (job : ℕ) (stage : Stage) (begin time : ℕ) → AllPairs R (part job stage begin time)
-AllPairs-part R job stage begin time = by (time == 0)
-  where
-    by : (b : Bool) → AllPairs R (cond b [] (whole_piece job stage begin time ∷ []))
-    by true a b d h k = absurd (omega arith)
-    by false a b d h k = absurd (omega arith)
+use Rattle.msp_shops.proofs.Parts.{Contains-part, length-part, All-more, AllPairs-more}
+use Rattle.msp_shops.proofs.InLine.{IsInLine-none, IsInLine-next}
 
 -- ---- one job more
 module _ (first second : Stage) (machines : first.machine ≢ second.machine) (jobs : List JobTimes) (from at : Moments) (j : JobTimes) (other : All (λ k. k.job ≢ j.job) jobs) (ps : List Piece)
@@ -74,16 +42,10 @@ module _ (first second : Stage) (machines : first.machine ≢ second.machine) (j
 
   -- what holds of the pieces so far, and of those of the job
   each : (P : Piece → Type 0) → All P ps → (0 < j.first → P one) → (0 < j.second → P two) → All P new
-  each P old a b = All-append P (ps ++ firsts) seconds (All-append P ps firsts old (All-part P j.job first at.first j.first a)) (All-part P j.job second begin j.second b)
+  each = All-more ps j.job first second at.first begin j.first j.second
 
   pairs : (R : Piece → Piece → Type 0) → AllPairs R ps → All (λ p. R p one) ps → All (λ p. R p two) ps → R one two → AllPairs R new
-  pairs R old a b c =
-      AllPairs-append R (ps ++ firsts) seconds
-      (AllPairs-append R ps firsts old (AllPairs-part R j.job first at.first j.first) (λ k d l. All-part (R (get_or ps k d)) j.job first at.first j.first (λ s. a k d l)))
-      (AllPairs-part R j.job second begin j.second)
-      (All-append (λ p. All (R p) seconds) ps firsts
-      (λ k d l. All-part (R (get_or ps k d)) j.job second begin j.second (λ s. b k d l))
-      (All-part (λ p. All (R p) seconds) j.job first at.first j.first (λ s. All-part (R one) j.job second begin j.second (λ t. c))))
+  pairs = AllPairs-more ps j.job first second at.first begin j.first j.second
 
   itself : Contains all j
   itself = Contains-append_right jobs (j ∷ []) j (0, omega arith, refl)
@@ -181,6 +143,7 @@ module _ (first second : Stage) (machines : first.machine ≢ second.machine) (f
       apart = λ a b d h k. absurd (omega arith);
       in_order = λ a b d h k. absurd (omega arith);
     };
+    line = IsInLine-none first second from;
     first_end = omega arith;
     second_end = inl (omega arith);
     later = omega arith;
@@ -197,6 +160,7 @@ module _ (first second : Stage) (machines : first.machine ≢ second.machine) (f
       let more = length-append jobs (j ∷ []) in
       record {
         tidy = IsTidy-next first second machines jobs from at j other ps h.tidy begin (omega arith) (omega arith) (omega (arith, h.first_end), h.later);
+        line = IsInLine-next first second machines jobs from at j ps h.tidy h.first_end h.line;
         first_end = omega (arith, h.first_end, sum_by_push (λ k. k.first) jobs j);
         second_end = critical_next jobs from at.first at.second j h.first_end h.second_end;
         later = omega (arith, h.later);

@@ -3,8 +3,8 @@ use Rattle.std.proofs.Common.{◌≡◌, ℕ, ◌<◌, ◌≤◌, Bool, true, fa
 use Rattle.std.specs.Ordering.{is_lt, nat_cmp}
 use Rattle.std.specs.declared.cmp.Ordering.TheVariants.{Less, Greater}
 use Rattle.std.specs.Cmp.{IsStrictWeakOrder}
-use Rattle.std.specs.List.Sorted.{IsSortedBy}
-use Rattle.std.specs.Prelude.{nat_le}
+use Rattle.std.specs.List.Sorted.{IsSortedBy, ties}
+use Rattle.std.specs.Prelude.{nat_le, not, ◌&&◌}
 use Rattle.std.proofs.lemmas.Bool.Decides.{nat_tests}
 use Rattle.std.proofs.lemmas.List.Sorted.{sorted_far}
 use Rattle.msp_shops.specs.Order.{GoesBefore, compared}
@@ -85,3 +85,11 @@ module _ {X : Type 0} (first second : X → ℕ) where
       let x = get_or xs i d in
       let y = get_or xs j d in
       not_after (first x) (second x) (first y) (second y) (sorted_far johnson_less johnson_less-order xs h i j d (omega arith) k)
+
+  -- elements of which each may stand before the other tie
+  pub johnson_ties : (x y : X) → GoesBefore first second x y → GoesBefore first second y x → ties johnson_less x y ≡ true
+  johnson_ties x y h k =
+      neither (johnson_less x y) (johnson_less y x) (precedes_not (first y) (second y) (first x) (second x) k) (precedes_not (first x) (second x) (first y) (second y) h)
+    where
+      neither : (a b : Bool) → a ≡ false → b ≡ false → not a && not b ≡ true
+      neither a b e f = cc

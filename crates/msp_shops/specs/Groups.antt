@@ -49,7 +49,8 @@ pub record IsGroup (i : Instance) (machine : ℕ) (jobs : List JobTimes) : Type 
   pub once : AllPairs (λ a b. a.job ≢ b.job) jobs
   pub few : length jobs ≤ MOST_JOBS
 
--- All jobs that begin on the machine, in Johnson's order.
+-- All jobs that begin on the machine, in Johnson's order, ties by number.
 pub record IsJohnsonGroup (i : Instance) (machine : ℕ) (jobs : List JobTimes) : Type 0 where
   pub group : IsGroup i machine jobs
   pub order : AllPairs (GoesBefore (λ t. t.first) (λ t. t.second)) jobs
+  pub ties : AllPairs (λ s t. GoesBefore (λ u. u.first) (λ u. u.second) t s → s.job < t.job) jobs

@@ -9,3 +9,4 @@ pub mod Laid
 pub mod OpenCut
 pub mod Joined
 pub mod Sliced
+pub mod Jackson

@@ -1,5 +1,5 @@
 -- What holds of jobs that pass over a first and then over a second machine. No public contract cites this file.
-use Rattle.std.specs.Prelude.{◌≡◌, ℕ, ◌+◌, ◌*◌, ◌^◌, ◌<◌, ◌≤◌, ◌⊎◌, ◌++◌, ◌==◌, List, [], ◌∷◌, if◌then◌else◌, pos, All, AllPairs, Contains, length, sum_by}
+use Rattle.std.specs.Prelude.{◌≡◌, ℕ, ◌+◌, ◌*◌, ◌^◌, ◌<◌, ◌≤◌, ◌⊎◌, ◌++◌, ◌==◌, List, [], ◌∷◌, if◌then◌else◌, pos, All, AllPairs, Contains, length, slice_index_or, sum_by}
 use Rattle.msp_class.specs.declared.sizes.TheConstants.{GREATEST}
 use Rattle.msp_pieces.specs.declared.Piece.{Piece}
 use Rattle.msp_pieces.specs.Intervals.{IsApartOn}
@@ -58,9 +58,32 @@ IsCritical jobs from end =
     ⊎ ((before : List JobTimes) × (job : JobTimes) × (after : List JobTimes) × (jobs ≡ before ++ job ∷ after)
     × (end ≡ from.first + sum_by (λ j. j.first) before + job.first + job.second + sum_by (λ j. j.second) after))
 
+-- The one job stands before the other in the list.
+abbrev pub StandsBefore : List JobTimes → ℕ → ℕ → Type 0
+StandsBefore jobs a b = (x : ℕ) × (y : ℕ) × (x < y) × (y < length jobs) × ((d : JobTimes) → ((slice_index_or jobs x d).job ≡ a) × ((slice_index_or jobs y d).job ≡ b))
+
+-- The piece begins when the first machine is free at first, or its own machine, the second one; or when another piece of its machine or of
+-- its job ends.
+abbrev pub IsEarly : Stage → Moments → List Piece → Piece → Type 0
+IsEarly second from pieces p = (start p ≡ from.first) ⊎ (((p.machine ≡ second.machine) × (start p ≡ from.second))
+    ⊎ ((q : Piece) × Contains pieces q × (finish q ≡ start p) × ((q.machine ≡ p.machine) ⊎ (q.job ≡ p.job))))
+
+-- The moment is the one from which on the machine was free, or a piece ends then on the machine.
+abbrev pub IsEndOn : ℕ → ℕ → List Piece → ℕ → Type 0
+IsEndOn machine from pieces moment = (moment ≡ from) ⊎ ((q : Piece) × Contains pieces q × (q.machine ≡ machine) × (finish q ≡ moment))
+
+-- The pieces stand on each machine in the order of the jobs, and begin as early as they can, unless a job that takes no time on the first
+-- machine stands behind one that does.
+pub record IsInLine (first second : Stage) (jobs : List JobTimes) (from to : Moments) (pieces : List Piece) : Type 0 where
+  pub row : AllPairs (λ p q. p.machine ≡ q.machine → StandsBefore jobs p.job q.job × (p.op ≡ q.op) × (finish p ≤ start q)) pieces
+  pub early : AllPairs (λ s t. t.first ≡ 0 → s.first ≡ 0) jobs → All (IsEarly second from pieces) pieces
+  pub first_end : IsEndOn first.machine from.first pieces to.first
+  pub second_end : IsEndOn second.machine from.second pieces to.second ⊎ (to.second ≤ to.first)
+
 -- The jobs have passed, from the moments on at which the machines were free until those at which they are free again.
 pub record IsPass (first second : Stage) (jobs : List JobTimes) (from to : Moments) (pieces : List Piece) : Type 0 where
   pub tidy : IsTidy first second jobs from to pieces
+  pub line : IsInLine first second jobs from to pieces
   pub first_end : to.first ≡ from.first + sum_by (λ j. j.first) jobs
   pub second_end : IsCritical jobs from to.second
   pub later : from.second ≤ to.second

@@ -6,7 +6,12 @@
 // Best (`proofs/InSeries.antt`): a machine ends when its work is done without a gap, which is its load in any schedule; or when the jobs
 // that come from the other machine are done, of which those of Johnson's rule alone need as long (`johnson.rt`, over lists of jobs that
 // begin on one machine). Johnson's solver is the same call, where all jobs begin on the first machine.
+ghost use Rattle.std.specs.Prelude.{◌≡◌, IfOk};
+ghost use Rattle.msp_instance.specs.Conditions.{Inner};
+ghost use Rattle.msp_pieces.specs.Cost.{IsBest};
+ghost use Rattle.msp_route.specs.Bounds.{IsAnswer};
 ghost use Rattle.msp_shops.specs.Classes.{jackson_class};
+ghost use Rattle.msp_shops.specs.Jackson.{IsJacksonSchedule};
 
 use crate::two_machines::in_series;
 use msp_class::{Class, Crit, Env, NoMemory, Order, Times};
@@ -43,7 +48,13 @@ impl Solver for Jackson {
     }
 
     /// A job with one operation takes no time on the machine that it has not, so in Johnson's order it comes after those with two.
-    fn solve(&self, alloc: Global, inst: &Instance) -> Result<Solution, NoMemory> {
+    fn solve(&self, alloc: Global, inst: &Instance) -> Result<Solution, NoMemory>
+        requires inner { Inner inst.now }
+        requires class { inst.now.class ≡ jackson_class }
+        ensures best { IfOk result (λ s. IsBest inst.now s) }
+        ensures bounds { IfOk result (λ s. IsAnswer inst.now s.schedule) }
+        ensures pieces { IfOk result (λ s. IsJacksonSchedule inst.now s.schedule) }
+    {
         in_series(alloc, inst)
     }
 }

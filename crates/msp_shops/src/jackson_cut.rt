@@ -6,7 +6,12 @@
 // however that is cut. And of a job that goes on to the other machine Johnson's rule asks only at which moment its last piece on the first
 // one ends (`proofs/Stages.antt`): the first operations that are over by a moment fit before it, and the second ones of the jobs whose first
 // ones are not over before it fit from there to the end. So preemption gains nothing on two machines with routes this short.
+ghost use Rattle.std.specs.Prelude.{◌≡◌, IfOk};
+ghost use Rattle.msp_instance.specs.Conditions.{Inner};
+ghost use Rattle.msp_pieces.specs.Cost.{IsBest};
+ghost use Rattle.msp_route.specs.Bounds.{IsAnswer};
 ghost use Rattle.msp_shops.specs.Classes.{jackson_cut_class};
+ghost use Rattle.msp_shops.specs.Jackson.{IsJacksonSchedule};
 
 use crate::two_machines::in_series;
 use msp_class::{Class, Crit, Env, NoMemory, Order, Times};
@@ -42,7 +47,13 @@ impl Solver for JacksonCut {
     }
 
     /// No operation is cut.
-    fn solve(&self, alloc: Global, inst: &Instance) -> Result<Solution, NoMemory> {
+    fn solve(&self, alloc: Global, inst: &Instance) -> Result<Solution, NoMemory>
+        requires inner { Inner inst.now }
+        requires class { inst.now.class ≡ jackson_cut_class }
+        ensures best { IfOk result (λ s. IsBest inst.now s) }
+        ensures bounds { IfOk result (λ s. IsAnswer inst.now s.schedule) }
+        ensures pieces { IfOk result (λ s. IsJacksonSchedule inst.now s.schedule) }
+    {
         in_series(alloc, inst)
     }
 }

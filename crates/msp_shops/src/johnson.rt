@@ -8,7 +8,12 @@
 // moment at which the first of the jobs that take at least θ on the first machine is done there: what is over on the first machine by then
 // and what is not begun on the second fit one after the other before the end (`proofs/Cut.antt`), and that is no less. Where the job takes
 // longer on the first machine, the same is seen from the end. Nobody asks in which order a machine of that schedule takes the jobs.
+ghost use Rattle.std.specs.Prelude.{◌≡◌, IfOk};
+ghost use Rattle.msp_instance.specs.Conditions.{Inner};
+ghost use Rattle.msp_pieces.specs.Cost.{IsBest};
+ghost use Rattle.msp_route.specs.Bounds.{IsAnswer};
 ghost use Rattle.msp_shops.specs.Classes.{johnson_class};
+ghost use Rattle.msp_shops.specs.Jackson.{IsJacksonSchedule};
 
 use crate::two_machines::in_series;
 use msp_class::{Class, Crit, Env, NoMemory, Order, Times};
@@ -44,7 +49,13 @@ impl Solver for Johnson {
     }
 
     /// All jobs begin on the first machine.
-    fn solve(&self, alloc: Global, inst: &Instance) -> Result<Solution, NoMemory> {
+    fn solve(&self, alloc: Global, inst: &Instance) -> Result<Solution, NoMemory>
+        requires inner { Inner inst.now }
+        requires class { inst.now.class ≡ johnson_class }
+        ensures best { IfOk result (λ s. IsBest inst.now s) }
+        ensures bounds { IfOk result (λ s. IsAnswer inst.now s.schedule) }
+        ensures pieces { IfOk result (λ s. IsJacksonSchedule inst.now s.schedule) }
+    {
         in_series(alloc, inst)
     }
 }

@@ -1,5 +1,6 @@
 // Johnson's order of jobs with times on two machines.
 ghost use Rattle.std.specs.Prelude.{◌≡◌, AllPairs, OnOk, IsPermutation};
+ghost use Rattle.std.specs.List.Sorted.{IsStable};
 ghost use Rattle.msp_shops.specs.Order.{GoesBefore, compared};
 
 use crate::pass::JobTimes;
@@ -28,6 +29,7 @@ fn compare(a: &JobTimes, b: &JobTimes) -> Ordering
 pub fn put_in_order(jobs: &mut Vec<JobTimes>) -> Result<(), NoMemory>
     ensures permutation { OnOk result (IsPermutation jobs.old.items jobs.new.items) }
     ensures sorted { OnOk result (AllPairs (GoesBefore (λ t. t.first) (λ t. t.second)) jobs.new.items) }
+    ensures stable { OnOk result (IsStable (λ s t. compared s.first s.second t.first t.second) jobs.old.items jobs.new.items) }
 {
     jobs.sort_by(|a, b| compare(a, b))?;
     Ok(())

@@ -4,6 +4,7 @@ ghost use Rattle.msp_instance.specs.Conditions.{Inner};
 ghost use Rattle.msp_pieces.specs.Cost.{IsBest};
 ghost use Rattle.msp_route.specs.Bounds.{IsAnswer};
 ghost use Rattle.msp_shops.specs.Groups.{IsTwoMachineShop, IsJohnsonGroup};
+ghost use Rattle.msp_shops.specs.Jackson.{IsJacksonSchedule};
 ghost use Rattle.msp_shops.specs.Laid.{AreLaid};
 
 use crate::groups::{first_total, johnson_group};
@@ -55,6 +56,7 @@ pub fn in_series(alloc: Global, inst: &Instance) -> Result<Solution, NoMemory>
     requires shop { IsTwoMachineShop inst.now }
     ensures best { IfOk result (λ s. IsBest inst.now s) }
     ensures bounds { IfOk result (λ s. IsAnswer inst.now s.schedule) }
+    ensures pieces { IfOk result (λ s. IsJacksonSchedule inst.now s.schedule) }
 {
     let here = johnson_group(alloc, inst, 0)?;
     let there = johnson_group(alloc, inst, 1)?;

@@ -9,3 +9,8 @@ returns-clause-sorted c =
     johnson_sorted (λ (t : JobTimes). t.first) (λ t. t.second) _
     (c.in_ok-sort_by.ensures.sorted (johnson_less (λ (t : JobTimes). t.first) (λ t. t.second))
     (johnson_less-order (λ (t : JobTimes). t.first) (λ t. t.second)) (answers_always _ _ _ (λ f a r g h. search rules)))
+
+pub returns-clause-stable : goal.returns-clause-stable
+returns-clause-stable c =
+    c.in_ok-sort_by.ensures.stable (johnson_less (λ (t : JobTimes). t.first) (λ t. t.second))
+    (johnson_less-order (λ (t : JobTimes). t.first) (λ t. t.second)) (answers_always _ _ _ (λ f a r g h. search rules))

@@ -1,4 +1,5 @@
 use Rattle.msp_shops.proofs.InSeries.{IsBestPlan-read}
+use Rattle.msp_shops.proofs.JacksonPieces.{IsJacksonSchedule-read}
 use Rattle.msp_shops.proofs.two_machines.in_series.Goals as goal
 
 pub cost-cost-requires-clause-within : goal.cost-cost-requires-clause-within
@@ -17,3 +18,7 @@ returns-clause-best c =
 pub returns-clause-bounds : goal.returns-clause-bounds
 returns-clause-bounds c =
     (IsBestPlan-read c.args.inst.now c.requires.shop _ _ _ _ _ c.in_ok-here.ensures c.in_ok-there.ensures c.deref.ensures.value c.deref-2.ensures.value c.in_ok-pieces.ensures).1.answer
+
+pub returns-clause-pieces : goal.returns-clause-pieces
+returns-clause-pieces c =
+    IsJacksonSchedule-read c.args.inst.now c.requires.shop _ _ _ _ _ c.in_ok-here.ensures c.in_ok-there.ensures c.deref.ensures.value c.deref-2.ensures.value c.in_ok-pieces.ensures
