@@ -1,5 +1,6 @@
 -- Jobs of one time by falling weight, m at a time: the schedule, and what it costs.
-use Rattle.std.proofs.Common.{◌≡◌, ℕ, ◌+◌, ◌*◌, ◌/◌, ◌%◌, ◌<◌, ◌≤◌, inl, List, length, pos, nat_abs, refl, sym, ap, subst, arith}
+use Rattle.std.proofs.Common.{◌≡◌, ℕ, ◌+◌, ◌*◌, ◌/◌, ◌%◌, ◌<◌, ◌≤◌, inl, List, length, map, pos, nat_abs, refl, sym, ap, subst, arith}
+use Rattle.std.specs.List.{range_with_len}
 use Rattle.std.proofs.Math.Nat.{div-le_self, mul-le-mul_right}
 use Rattle.std.proofs.lemmas.Nat.{mul-le}
 use Rattle.msp_class.specs.declared.sizes.TheConstants.{MOST_JOBS, GREATEST_EQUAL_TIME}
@@ -11,12 +12,14 @@ use Rattle.msp_pieces.specs.Feasible.{HasOperation, MayRun}
 use Rattle.msp_pieces.specs.BackToBack.{time_at}
 use Rattle.msp_pieces.proofs.bounds.LastEnds.{law_of_last_ends}
 use Rattle.msp_cut_sums.specs.Sums.{at, in_blocks, weight_at, IsByFalling}
+use Rattle.msp_cut_sums.specs.Schedules.{CutsNone, blocked_piece, IsBlockedSchedule}
 use Rattle.msp_cut_sums.specs.Pieces.{blocked}
 use Rattle.msp_cut_sums.proofs.Falling.{order_once, order_many, order_inside, order_falls, order_distinct}
 use Rattle.msp_cut_sums.proofs.InBlocks.{weights_bound}
 use Rattle.msp_cut_sums.proofs.Instances.{IsWeightsInstance, weights_operations, weights_time, weights_span}
 use Rattle.msp_cut_sums.proofs.Placed.{ArePlaced, placed_is_feasible, placed_is_within, placed_is_answer, placed_ends}
 use Rattle.msp_cut_sums.proofs.Rests.{blocks_rise}
+use Rattle.msp_cut_sums.proofs.Schedules.{placed_uncut}
 use Rattle.msp_pieces.proofs.bounds.Room.{end_at}
 use Rattle.msp_cut_sums.proofs.Room.{room_in_order}
 use Rattle.msp_cut_sums.proofs.Summed.{IsSumOf-weights, IsSumAnswer, answered}
@@ -85,3 +88,9 @@ module _ (i : Instance) (h : IsWeightsInstance i) (order : List ℕ) (sorted : I
 
       same : (x r : ℕ) → x ≡ r → end x ≤ end r
       same x r e = omega (arith, ap end e)
+
+  pub blocked_schedule : IsBlockedSchedule i (record { unit = pos 1; pieces = blocked m span order })
+  blocked_schedule = record { order = order; falls = sorted; unit = refl; pieces = ap (λ k. map (blocked_piece m span order) (range_with_len 0 k)) many }
+
+  pub blocked_uncut : CutsNone (record { unit = pos 1; pieces = blocked m span order })
+  blocked_uncut = placed_uncut i 1 (length order) (at order) (λ k. 0) (λ k. k % m) (λ k. k / m * span) end placed

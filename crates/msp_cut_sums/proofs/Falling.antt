@@ -1,5 +1,5 @@
 -- The jobs by falling time or weight, as they are sorted.
-use Rattle.std.proofs.Common.{◌≡◌, ℕ, ◌-◌, ◌<◌, ◌≤◌, ◌⊎◌, inl, inr, List, length, map, get_or, All, AllPairs, IfOk, IsPermutation, Result, Ok, Err, ap, sym, subst, subst₂, ◌∙◌, arith}
+use Rattle.std.proofs.Common.{◌≡◌, ◌≢◌, ℕ, ◌-◌, ◌<◌, ◌≤◌, ◌⊎◌, inl, inr, List, length, map, get_or, All, AllPairs, IfOk, IsPermutation, Result, Ok, Err, ap, sym, subst, subst₂, ◌∙◌, arith}
 use Rattle.std.specs.List.{range_with_len}
 use Rattle.std.proofs.lemmas.Bool.{cases_lt}
 use Rattle.std.proofs.lemmas.List.{get_or-map, length-map}
@@ -10,6 +10,10 @@ use Rattle.msp_instance.specs.declared.Job.{Job}
 use Rattle.msp_instance.specs.declared.Instance.{Instance}
 use Rattle.msp_instance.specs.Instance.{no_job, job_at}
 use Rattle.msp_cut_sums.specs.Sums.{at, IsByFalling}
+
+-- x comes before y
+abbrev Falls : (ℕ → ℕ) → ℕ → ℕ → Type 0
+Falls key x y = (key y < key x) ⊎ ((key y ≡ key x) × (x < y))
 
 module _ (values : List ℕ) (small : All (λ v. v ≤ GREATEST) values) (keys : List ℕ) (is : keys ≡ map (λ v. GREATEST - v) values) where
   many : length keys ≡ length values
@@ -22,15 +26,16 @@ module _ (values : List ℕ) (small : All (λ v. v ≤ GREATEST) values) (keys :
       → AllPairs (λ a b. (at keys a < at keys b) ⊎ ((at keys a ≡ at keys b) × (a ≤ b))) order → IsByFalling (length values) (at values) order
   IsByFalling-lacks order all rising = record {
     all = subst (λ n. IsPermutation (range_with_len 0 n) order) many all;
-    falls = λ a b d l k. by (get_or order a d) (get_or order b d) (within a d (omega (arith, l, k))) (within b d k) (rising a b d l k);
+    falls = λ a b d l k. by (get_or order a d) (get_or order b d)
+        (within a d (omega (arith, l, k))) (within b d k) (OnceBelow-distinct (OnceBelow-from_permutation all) a b d l k) (rising a b d l k);
   }
     where
       within : All (λ j. j < length values) order
       within k d l = omega (arith, many, (OnceBelow-from_permutation all).within k d l)
 
-      by : (x y : ℕ) → x < length values → y < length values → (at keys x < at keys y) ⊎ ((at keys x ≡ at keys y) × (x ≤ y)) → at values y ≤ at values x
-      by x y p q (inl l) = omega (arith, l, key_is x p, key_is y q, small x 0 p, small y 0 q)
-      by x y p q (inr l) = omega (arith, l.0, key_is x p, key_is y q, small x 0 p, small y 0 q)
+      by : (x y : ℕ) → x < length values → y < length values → x ≢ y → (at keys x < at keys y) ⊎ ((at keys x ≡ at keys y) × (x ≤ y)) → Falls (at values) x y
+      by x y p q n (inl l) = inl (omega (arith, l, key_is x p, key_is y q, small x 0 p, small y 0 q))
+      by x y p q n (inr l) = inr (omega (arith, l.0, key_is x p, key_is y q, small x 0 p, small y 0 q), omega (arith, l.1, n))
 
 pub by_lacks : {V E : Type 0} (values : List ℕ) (small : All (λ v. v ≤ GREATEST) values) (keys kept : List ℕ) (items : V → List ℕ)
     → kept ≡ map (λ v. GREATEST - v) values → keys ≡ kept → (r : Result V E) → IfOk r (λ o. IsPermutation (range_with_len 0 (length keys)) (items o))
@@ -49,7 +54,8 @@ module _ (i : Instance) (f : Job → ℕ) (values kept : List ℕ) (is : kept �
   read : (order : List ℕ) → IsByFalling (length values) (at values) order → IsByFalling (length i.jobs) (λ j. f (job_at i j)) order
   read order h = record {
     all = subst (λ n. IsPermutation (range_with_len 0 n) order) values_many h.all;
-    falls = λ a b d l k. subst₂ (λ x y. x ≤ y) (value (get_or order b d) (within b d k)) (value (get_or order a d) (within a d (omega (arith, l, k)))) (h.falls a b d l k);
+    falls = λ a b d l k. subst₂ (λ x y. (x < y) ⊎ ((x ≡ y) × (get_or order a d < get_or order b d)))
+        (value (get_or order b d) (within b d k)) (value (get_or order a d) (within a d (omega (arith, l, k)))) (h.falls a b d l k);
   }
     where
       within : All (λ j. j < length i.jobs) order
@@ -77,8 +83,12 @@ module _ (n : ℕ) (key : ℕ → ℕ) (order : List ℕ) (h : IsByFalling n key
   pub order_falls : (a b : ℕ) → a ≤ b → b < n → key (at order b) ≤ key (at order a)
   order_falls a b l k = by (cases_lt a b)
     where
+      no_greater : (x y : ℕ) → Falls key x y → key y ≤ key x
+      no_greater x y (inl f) = omega (arith, f)
+      no_greater x y (inr f) = omega (arith, f.0)
+
       by : (a < b) ⊎ (b ≤ a) → key (at order b) ≤ key (at order a)
-      by (inl m) = h.falls a b 0 m (omega (arith, k, order_many))
+      by (inl m) = no_greater (at order a) (at order b) (h.falls a b 0 m (omega (arith, k, order_many)))
       by (inr m) = omega (arith, ap (λ x. key (at order x)) same)
         where
           same : a ≡ b

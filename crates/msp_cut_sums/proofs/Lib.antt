@@ -5,6 +5,7 @@ mod Room
 mod Summed
 mod Falling
 mod Rests
+mod Schedules
 mod Stacked
 mod Blocked
 mod Squared

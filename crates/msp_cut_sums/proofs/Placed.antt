@@ -29,7 +29,7 @@ use Rattle.msp_pieces.proofs.feasible.LastEnds.{last_end-least}
 use Rattle.msp_pieces.proofs.feasible.Frames.{IsShaped, rate_on, frame_of, Stands, Fits, Gets, Lasts, part, of_operation, of_one, named_one, Feasible-from_fits}
 use Rattle.msp_route.specs.declared.bounds.TheConstants.{GREATEST_ANSWER_MOMENT}
 use Rattle.msp_route.specs.Bounds.{IsAnswer, answer_unit}
-use Rattle.msp_cut_sums.specs.Pieces.{part as part_at}
+use Rattle.msp_cut_sums.specs.Schedules.{part as part_at}
 
 -- what is read of an instance without arcs and release dates, each of whose jobs has as many operations
 pub record HasOperations (i : Instance) (ops : ℕ) : Type 0 where

@@ -1,5 +1,5 @@
 -- Open shops whose operations take one time: by falling weight, m jobs go round m machines in m slots. The schedule, and what it costs.
-use Rattle.std.proofs.Common.{◌≡◌, ◌≢◌, ℕ, ◌+◌, ◌*◌, ◌-◌, ◌/◌, ◌%◌, ◌<◌, ◌≤◌, ◌⊎◌, inl, inr, List, length, pos, nat_abs, sym, ap, ap₂, subst, ◌∙◌, arith}
+use Rattle.std.proofs.Common.{◌≡◌, ◌≢◌, ℕ, ◌+◌, ◌*◌, ◌-◌, ◌/◌, ◌%◌, ◌<◌, ◌≤◌, ◌⊎◌, inl, inr, List, length, pos, nat_abs, refl, sym, ap, ap₂, subst, ◌∙◌, arith}
 use Rattle.std.proofs.Math.Nat.{div-le_self, div-mul-le_self, mul-le-mul_right}
 use Rattle.std.proofs.lemmas.Nat.{mul-le}
 use Rattle.std.proofs.lemmas.Bool.{cases_lt}
@@ -12,12 +12,14 @@ use Rattle.msp_pieces.specs.Feasible.{HasOperation, MayRun}
 use Rattle.msp_pieces.specs.Loads.{job_length}
 use Rattle.msp_pieces.proofs.bounds.LastEnds.{law_of_last_ends}
 use Rattle.msp_cut_sums.specs.Sums.{at, in_blocks, weight_at, IsByFalling}
+use Rattle.msp_cut_sums.specs.Schedules.{CutsNone, IsRoundSchedule}
 use Rattle.msp_cut_sums.specs.Pieces.{slot, squared}
 use Rattle.msp_cut_sums.proofs.Falling.{order_once, order_many, order_inside, order_falls, order_distinct}
 use Rattle.msp_cut_sums.proofs.InBlocks.{weights_bound}
 use Rattle.msp_cut_sums.proofs.Instances.{IsEvenShop, shop_is, shop_operations, shop_machines, shop_length}
 use Rattle.msp_cut_sums.proofs.Placed.{ArePlaced, placed_is_feasible, placed_is_within, placed_is_answer, placed_ends}
 use Rattle.msp_cut_sums.proofs.Rests.{rests_differ}
+use Rattle.msp_cut_sums.proofs.Schedules.{placed_uncut, round_pieces}
 use Rattle.msp_pieces.proofs.bounds.Room.{end_at}
 use Rattle.msp_cut_sums.proofs.Room.{room_in_order}
 use Rattle.msp_cut_sums.proofs.Summed.{IsSumOf-weights, IsSumAnswer, answered}
@@ -185,3 +187,9 @@ module _ (i : Instance) (h : IsEvenShop i) (order : List ℕ) (sorted : IsByFall
         where
           grouped : (a b c : ℕ) → a * b * c ≡ a * (b * c)
           grouped a b c = omega arith
+
+  pub squared_schedule : IsRoundSchedule i (record { unit = pos 1; pieces = squared m time order })
+  squared_schedule = record { order = order; falls = sorted; unit = refl; pieces = round_pieces m h.machine time n N order place_inside }
+
+  pub squared_uncut : CutsNone (record { unit = pos 1; pieces = squared m time order })
+  squared_uncut = placed_uncut i m N job (λ x. x % m) (λ x. x % m) from to placed

@@ -1,5 +1,6 @@
 -- Jobs by falling time, each behind the job m places behind it: the schedule, and what it costs.
 use Rattle.std.proofs.Common.{◌≡◌, ℕ, zero, suc, ◌+◌, ◌*◌, ◌-◌, ◌/◌, ◌%◌, ◌<◌, ◌≤◌, ◌⊎◌, inl, inr, List, length, map, All, pos, nat_abs, refl, sym, ap, subst, ◌∙◌, arith}
+use Rattle.std.specs.List.{range_with_len}
 use Rattle.std.proofs.Math.ListN.{get_or-eq_default}
 use Rattle.std.proofs.lemmas.Bool.{cases_lt}
 use Rattle.std.proofs.lemmas.List.{length-map, get_or-map}
@@ -12,12 +13,14 @@ use Rattle.msp_pieces.specs.Feasible.{HasOperation, MayRun}
 use Rattle.msp_pieces.specs.BackToBack.{time_at}
 use Rattle.msp_pieces.proofs.bounds.LastEnds.{law_of_last_ends}
 use Rattle.msp_cut_sums.specs.Sums.{at, in_blocks, IsByFalling}
-use Rattle.msp_cut_sums.specs.Pieces.{AreEnds, stacked}
+use Rattle.msp_cut_sums.specs.Schedules.{AreEnds, CutsNone, stacked_piece, IsStackedSchedule}
+use Rattle.msp_cut_sums.specs.Pieces.{stacked}
 use Rattle.msp_cut_sums.proofs.Falling.{order_once, order_many, order_inside, order_falls, order_distinct}
 use Rattle.msp_cut_sums.proofs.InBlocks.{in_blocks-step, times_bound}
 use Rattle.msp_cut_sums.proofs.Instances.{IsSumInstance, sum_operations, sum_times}
 use Rattle.msp_cut_sums.proofs.Placed.{ArePlaced, placed_is_feasible, placed_is_within, placed_is_answer, placed_ends}
 use Rattle.msp_cut_sums.proofs.Rests.{blocks_rise}
+use Rattle.msp_cut_sums.proofs.Schedules.{placed_uncut}
 use Rattle.msp_pieces.proofs.bounds.Room.{end_at}
 use Rattle.msp_cut_sums.proofs.Room.{room_in_order}
 use Rattle.msp_cut_sums.proofs.Summed.{IsSumOf-ones, IsSumAnswer, answered}
@@ -146,3 +149,9 @@ module _ (i : Instance) (h : IsSumInstance i) (order : List ℕ) (sorted : IsByF
     where
       same : (x r : ℕ) → x ≡ r → at ends x ≤ at ends r
       same x r e = omega (arith, ap (at ends) e)
+
+  pub stacked_schedule : IsStackedSchedule i (record { unit = pos 1; pieces = stacked m order ends })
+  stacked_schedule = record { order = order; ends = ends; falls = sorted; are = are; unit = refl; pieces = ap (λ k. map (stacked_piece m order ends) (range_with_len 0 k)) many }
+
+  pub stacked_uncut : CutsNone (record { unit = pos 1; pieces = stacked m order ends })
+  stacked_uncut = placed_uncut i 1 (length order) (at order) (λ k. 0) (λ k. k % m) (λ k. at ends (k + m)) (at ends) placed

@@ -1,5 +1,5 @@
 -- The pieces of the schedules, by the places of the jobs in an order. No public contract cites this file.
-use Rattle.std.specs.Prelude.{◌≡◌, ℕ, ◌+◌, ◌*◌, ◌-◌, ◌/◌, ◌%◌, ◌<◌, ◌≤◌, List, length, map, pos, All}
+use Rattle.std.specs.Prelude.{◌≡◌, ℕ, ◌+◌, ◌*◌, ◌-◌, ◌/◌, ◌%◌, ◌≤◌, List, length, map, All}
 use Rattle.std.specs.List.{range_with_len}
 use Rattle.msp_instance.specs.declared.Instance.{Instance}
 use Rattle.msp_class.specs.declared.sizes.TheConstants.{MOST_JOBS, GREATEST}
@@ -7,26 +7,11 @@ use Rattle.msp_instance.specs.Instance.{common_time}
 use Rattle.msp_pieces.specs.declared.Piece.{Piece}
 use Rattle.msp_pieces.specs.BackToBack.{time_at}
 use Rattle.msp_cut_sums.specs.Sums.{at, weight_at, IsByFalling}
+use Rattle.msp_cut_sums.specs.Schedules.{part, AreEnds, stacked_piece, blocked_piece}
 
--- A piece of an operation on a machine.
-abbrev pub part : ℕ → ℕ → ℕ → ℕ → ℕ → Piece
-part job op machine from to = record { job = job; op = op; machine = machine; from = pos from; to = pos to }
-
--- On m machines the job at a place ends as long after the job m places behind it as it takes. Behind the last place that is 0.
-pub record AreEnds (m : ℕ) (times ends : List ℕ) : Type 0 where
-  pub many : length ends ≡ length times
-  pub each : (k : ℕ) → k < length times → at ends k ≡ at times k + at ends (k + m)
-
--- The pieces of the jobs that end so: place k is on machine k mod m.
-abbrev pub stacked_piece : ℕ → List ℕ → List ℕ → ℕ → Piece
-stacked_piece m order ends k = part (at order k) 0 (k % m) (at ends (k + m)) (at ends k)
-
+-- The pieces of the rules in order of the places.
 abbrev pub stacked : ℕ → List ℕ → List ℕ → List Piece
 stacked m order ends = map (stacked_piece m order ends) (range_with_len 0 (length order))
-
--- The pieces of jobs of one time, m at a time: place k is on machine k mod m in slot k / m.
-abbrev pub blocked_piece : ℕ → ℕ → List ℕ → ℕ → Piece
-blocked_piece m time order k = part (at order k) 0 (k % m) (k / m * time) ((k / m + 1) * time)
 
 abbrev pub blocked : ℕ → ℕ → List ℕ → List Piece
 blocked m time order = map (blocked_piece m time order) (range_with_len 0 (length order))

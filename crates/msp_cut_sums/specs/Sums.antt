@@ -1,5 +1,5 @@
 -- The classes that the rules solve, and what their answers cost.
-use Rattle.std.specs.Prelude.{ℕ, ◌+◌, ◌*◌, ◌/◌, ◌≤◌, true, false, List, length, pos, slice_index_or, AllPairs, IsPermutation}
+use Rattle.std.specs.Prelude.{◌≡◌, ℕ, ◌+◌, ◌*◌, ◌/◌, ◌<◌, ◌⊎◌, true, false, List, length, pos, slice_index_or, AllPairs, IsPermutation}
 use Rattle.std.specs.List.{range_with_len}
 use Rattle.msp_class.specs.declared.class.Class.{Class}
 use Rattle.msp_class.specs.declared.class.Env.TheVariants.{P, O}
@@ -33,10 +33,10 @@ cut_open_weights_class = record { env = O; cut = true; order = Free; heads = fal
 abbrev pub at : List ℕ → ℕ → ℕ
 at xs k = slice_index_or xs k 0
 
--- All numbers below n, each once, by falling key.
+-- All numbers below n, each once, by falling key, ties by number.
 pub record IsByFalling (n : ℕ) (key : ℕ → ℕ) (order : List ℕ) : Type 0 where
   pub all : IsPermutation (range_with_len 0 n) order
-  pub falls : AllPairs (λ a b. key b ≤ key a) order
+  pub falls : AllPairs (λ a b. (key b < key a) ⊎ ((key b ≡ key a) × (a < b))) order
 
 -- A sum in blocks of m places: what stands in the first block counts once, in the second one twice, and so on.
 abbrev pub in_blocks : ℕ → ℕ → (ℕ → ℕ) → ℕ

@@ -6,6 +6,7 @@ ghost use Rattle.msp_instance.specs.Conditions.{Inner};
 ghost use Rattle.msp_pieces.specs.Cost.{IsBest};
 ghost use Rattle.msp_route.specs.Bounds.{IsAnswer};
 ghost use Rattle.msp_cut_sums.specs.Sums.{cut_weights_class, IsWeightsCost};
+ghost use Rattle.msp_cut_sums.specs.Schedules.{CutsNone, IsBlockedSchedule};
 ghost use Rattle.msp_cut_sums.specs.Pieces.{blocked, IsBlocked};
 
 use crate::orders::jobs_by_weight;
@@ -96,6 +97,8 @@ impl Solver for CutWeights {
         ensures best { IfOk result (λ s. IsBest inst.now s) }
         ensures bounds { IfOk result (λ s. IsAnswer inst.now s.schedule) }
         ensures cost { IfOk result (λ s. IsWeightsCost inst.now s.cost) }
+        ensures pieces { IfOk result (λ s. IsBlockedSchedule inst.now s.schedule) }
+        ensures uncut { IfOk result (λ s. CutsNone s.schedule) }
     {
         let pieces = pieces_by_weight(alloc, inst)?;
         let schedule = Schedule { unit: 1, pieces };

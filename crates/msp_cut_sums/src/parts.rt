@@ -1,7 +1,7 @@
 // Pieces of operations.
 ghost use Rattle.std.specs.Prelude.{◌≡◌, ◌+◌, ◌*◌, ◌≤◌, ◌++◌, ◌∷◌, [], OnOk};
 ghost use Rattle.msp_class.specs.declared.sizes.TheConstants.{MOST_JOBS, MOST_MACHINES, GREATEST_EQUAL_TIME};
-ghost use Rattle.msp_cut_sums.specs.Pieces.{part};
+ghost use Rattle.msp_cut_sums.specs.Schedules.{part};
 
 use msp_class::{List, NoMemory};
 use msp_pieces::Piece;

@@ -5,6 +5,7 @@ ghost use Rattle.msp_instance.specs.Conditions.{Inner};
 ghost use Rattle.msp_pieces.specs.Cost.{IsBest};
 ghost use Rattle.msp_route.specs.Bounds.{IsAnswer};
 ghost use Rattle.msp_cut_sums.specs.Sums.{open_weights_class, cut_open_weights_class, IsOpenCost};
+ghost use Rattle.msp_cut_sums.specs.Schedules.{CutsNone, IsRoundSchedule};
 ghost use Rattle.msp_cut_sums.specs.Pieces.{slot, squared, IsSquared};
 
 use crate::blocks::shared_time;
@@ -99,6 +100,8 @@ fn solution(alloc: Global, inst: &Instance) -> Result<Solution, NoMemory>
     ensures best { IfOk result (λ s. IsBest inst.now s) }
     ensures bounds { IfOk result (λ s. IsAnswer inst.now s.schedule) }
     ensures cost { IfOk result (λ s. IsOpenCost inst.now s.cost) }
+    ensures pieces { IfOk result (λ s. IsRoundSchedule inst.now s.schedule) }
+    ensures uncut { IfOk result (λ s. CutsNone s.schedule) }
 {
     let pieces = pieces_by_weight(alloc, inst)?;
     let schedule = Schedule { unit: 1, pieces };
@@ -128,6 +131,8 @@ impl Solver for OpenWeights {
         ensures best { IfOk result (λ s. IsBest inst.now s) }
         ensures bounds { IfOk result (λ s. IsAnswer inst.now s.schedule) }
         ensures cost { IfOk result (λ s. IsOpenCost inst.now s.cost) }
+        ensures pieces { IfOk result (λ s. IsRoundSchedule inst.now s.schedule) }
+        ensures uncut { IfOk result (λ s. CutsNone s.schedule) }
     {
         solution(alloc, inst)
     }
@@ -154,6 +159,8 @@ impl Solver for CutOpenWeights {
         ensures best { IfOk result (λ s. IsBest inst.now s) }
         ensures bounds { IfOk result (λ s. IsAnswer inst.now s.schedule) }
         ensures cost { IfOk result (λ s. IsOpenCost inst.now s.cost) }
+        ensures pieces { IfOk result (λ s. IsRoundSchedule inst.now s.schedule) }
+        ensures uncut { IfOk result (λ s. CutsNone s.schedule) }
     {
         solution(alloc, inst)
     }

@@ -6,7 +6,8 @@ ghost use Rattle.msp_pieces.specs.BackToBack.{time_at};
 ghost use Rattle.msp_pieces.specs.Cost.{IsBest};
 ghost use Rattle.msp_route.specs.Bounds.{IsAnswer};
 ghost use Rattle.msp_cut_sums.specs.Sums.{at, cut_sum_class, IsCutSumCost};
-ghost use Rattle.msp_cut_sums.specs.Pieces.{AreEnds, stacked, IsStacked};
+ghost use Rattle.msp_cut_sums.specs.Schedules.{AreEnds, CutsNone, IsStackedSchedule};
+ghost use Rattle.msp_cut_sums.specs.Pieces.{stacked, IsStacked};
 
 use crate::orders::jobs_by_time;
 use crate::parts::{Task, put};
@@ -141,6 +142,8 @@ impl Solver for CutSum {
         ensures best { IfOk result (λ s. IsBest inst.now s) }
         ensures bounds { IfOk result (λ s. IsAnswer inst.now s.schedule) }
         ensures cost { IfOk result (λ s. IsCutSumCost inst.now s.cost) }
+        ensures pieces { IfOk result (λ s. IsStackedSchedule inst.now s.schedule) }
+        ensures uncut { IfOk result (λ s. CutsNone s.schedule) }
     {
         let pieces = pieces_by_time(alloc, inst)?;
         let schedule = Schedule { unit: 1, pieces };

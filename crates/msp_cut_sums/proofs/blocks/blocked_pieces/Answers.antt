@@ -1,4 +1,4 @@
-use Rattle.msp_cut_sums.specs.Pieces.{blocked_piece}
+use Rattle.msp_cut_sums.specs.Schedules.{blocked_piece}
 use Rattle.msp_cut_sums.proofs.Steps.{pieces_next}
 use Rattle.msp_cut_sums.proofs.blocks.blocked_pieces.Goals as goal
 

@@ -15,3 +15,9 @@ returns-clause-bounds c = (IsSolved-squared c.args.inst.now c.requires.class c.r
 
 pub returns-clause-cost : goal.returns-clause-cost
 returns-clause-cost c = (IsSolved-squared c.args.inst.now c.requires.class c.requires.inner _ c.in_ok-pieces.ensures).cost c.cost-cost.result c.cost-cost.ensures.value
+
+pub returns-clause-pieces : goal.returns-clause-pieces
+returns-clause-pieces c = (IsSolved-squared c.args.inst.now c.requires.class c.requires.inner _ c.in_ok-pieces.ensures).pieces
+
+pub returns-clause-uncut : goal.returns-clause-uncut
+returns-clause-uncut c = (IsSolved-squared c.args.inst.now c.requires.class c.requires.inner _ c.in_ok-pieces.ensures).uncut

@@ -1,6 +1,7 @@
 use Rattle.std.proofs.Common.{◌+◌, ◌*◌, ◌/◌, ◌%◌, [], ◌∷◌, ◌++◌, ap, ◌∙◌}
 use Rattle.msp_cut_sums.specs.Sums.{at}
-use Rattle.msp_cut_sums.specs.Pieces.{part, squared_piece}
+use Rattle.msp_cut_sums.specs.Schedules.{part}
+use Rattle.msp_cut_sums.specs.Pieces.{squared_piece}
 use Rattle.msp_cut_sums.proofs.Steps.{pieces_next}
 use Rattle.msp_cut_sums.proofs.squares.squared_pieces.Goals as goal
 

@@ -6,7 +6,8 @@ use Rattle.msp_class.specs.declared.sizes.TheConstants.{GREATEST}
 use Rattle.msp_pieces.specs.BackToBack.{time_at}
 use Rattle.msp_pieces.proofs.feasible.OfClass.{IsOfClass-from}
 use Rattle.msp_cut_sums.specs.Sums.{cut_sum_class}
-use Rattle.msp_cut_sums.specs.Pieces.{AreEnds, stacked}
+use Rattle.msp_cut_sums.specs.Schedules.{AreEnds}
+use Rattle.msp_cut_sums.specs.Pieces.{stacked}
 use Rattle.msp_cut_sums.proofs.Falling.{order_once, order_many}
 use Rattle.msp_cut_sums.proofs.Instances.{sum_times, sum_times_small}
 use Rattle.msp_cut_sums.proofs.stacks.pieces_by_time.Goals as goal

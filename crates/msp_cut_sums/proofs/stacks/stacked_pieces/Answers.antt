@@ -1,6 +1,6 @@
 use Rattle.std.proofs.Common.{◌%◌, [], ◌∷◌, ◌++◌, ap, ◌∙◌}
 use Rattle.msp_cut_sums.specs.Sums.{at}
-use Rattle.msp_cut_sums.specs.Pieces.{part, stacked_piece}
+use Rattle.msp_cut_sums.specs.Schedules.{part, stacked_piece}
 use Rattle.msp_cut_sums.proofs.Steps.{pieces_next}
 use Rattle.msp_cut_sums.proofs.stacks.stacked_pieces.Goals as goal
 
