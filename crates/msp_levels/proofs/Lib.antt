@@ -1,3 +1,4 @@
+mod ByLevel
 mod JobLevels
 mod Counts
 mod Progress

@@ -1,5 +1,5 @@
 // The levels of jobs, and the jobs by falling level.
-ghost use Rattle.std.specs.Prelude.{◌≡◌, ℕ, ◌<◌, ◌≤◌, slice_index, map, All, AllPairs, IfOk, IsPermutation};
+ghost use Rattle.std.specs.Prelude.{◌≡◌, ℕ, ◌<◌, ◌≤◌, ◌⊎◌, slice_index, map, All, AllPairs, IfOk, IsPermutation};
 ghost use Rattle.std.specs.List.{range_with_len};
 ghost use Rattle.msp_class.specs.declared.sizes.TheConstants.{MOST_JOBS};
 ghost use Rattle.msp_instance.specs.Conditions.{Inner, IsSequence, GoesForward};
@@ -92,7 +92,8 @@ pub fn jobs_by_level(
 ) -> Result<Vec<u32>, NoMemory>
     requires { count ≤ MOST_JOBS }
     ensures all { IfOk result (λ jobs. IsPermutation (range_with_len 0 count) jobs.items) }
-    ensures falling { IfOk result (λ jobs. AllPairs (λ a b. slice_index levels.now b ≤ slice_index levels.now a) jobs.items) }
+    ensures falling { IfOk result
+        (λ jobs. AllPairs (λ a b. (slice_index levels.now b < slice_index levels.now a) ⊎ ((slice_index levels.now b ≡ slice_index levels.now a) × (a < b))) jobs.items) }
 {
     let mut all = ranked_jobs(alloc, count, levels)?;
     sort_by_falling_key(&mut all);

@@ -5,7 +5,7 @@ ghost use Rattle.msp_pieces.specs.Cost.{IsBest};
 ghost use Rattle.msp_pieces.specs.Fraction.{IsLowest};
 ghost use Rattle.msp_pieces.specs.Settled.{IsSettled};
 ghost use Rattle.msp_route.specs.Bounds.{IsAnswer};
-ghost use Rattle.msp_levels.specs.Levels.{levels_class, IsLevelCost};
+ghost use Rattle.msp_levels.specs.Levels.{levels_class, IsLevelCost, IsLevelSchedule};
 
 use crate::level::{jobs_by_level, levels_of};
 use msp_class::{Class, Crit, Env, NoMemory, Order, Times};
@@ -32,6 +32,7 @@ fn schedule_by_levels(alloc: Global, inst: &Instance) -> Result<Solution, NoMemo
     ensures best { IfOk result (λ s. IsBest inst.now s) }
     ensures bounds { IfOk result (λ s. IsAnswer inst.now s.schedule) }
     ensures cost { IfOk result (λ s. IsLevelCost inst.now s.cost) }
+    ensures pieces { IfOk result (λ s. IsLevelSchedule inst.now s.schedule) }
 
     // The form of the answer.
     ensures settled { IfOk result (λ s. IsSettled s.schedule) }
@@ -67,6 +68,7 @@ impl Solver for Levels {
         ensures best { IfOk result (λ s. IsBest inst.now s) }
         ensures bounds { IfOk result (λ s. IsAnswer inst.now s.schedule) }
         ensures cost { IfOk result (λ s. IsLevelCost inst.now s.cost) }
+        ensures pieces { IfOk result (λ s. IsLevelSchedule inst.now s.schedule) }
     {
         schedule_by_levels(alloc, inst)
     }

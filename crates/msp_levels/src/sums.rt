@@ -3,6 +3,7 @@ ghost use Rattle.std.specs.Prelude.{◌≡◌, IfOk};
 ghost use Rattle.msp_instance.specs.Conditions.{Inner};
 ghost use Rattle.msp_pieces.specs.Cost.{IsBest};
 ghost use Rattle.msp_route.specs.Bounds.{IsAnswer};
+ghost use Rattle.msp_levels.specs.Levels.{IsLevelSchedule};
 ghost use Rattle.msp_levels.specs.Sums.{levels_sum_class, IsLeastSum, EndsMost};
 
 use crate::level::{jobs_by_level, levels_of};
@@ -46,6 +47,7 @@ impl Solver for LevelsSum {
         ensures bounds { IfOk result (λ s. IsAnswer inst.now s.schedule) }
         ensures cost { IfOk result (λ s. IsLeastSum inst.now s.cost) }
         ensures most { IfOk result (λ s. EndsMost inst.now s.schedule) }
+        ensures pieces { IfOk result (λ s. IsLevelSchedule inst.now s.schedule) }
     {
         let levels = levels_of(alloc, inst)?;
         let order = jobs_by_level(alloc, inst.jobs.len(), &levels)?;
