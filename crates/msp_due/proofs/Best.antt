@@ -27,6 +27,7 @@ use Rattle.msp_pieces.proofs.costs.Charges.{charge_of, cost_of-bound, job_cost-m
 use Rattle.msp_pieces.proofs.bounds.Certified.{ranked}
 use Rattle.msp_route.specs.Bounds.{IsAnswer}
 use Rattle.msp_route.specs.Halving.{IsLeastBound}
+use Rattle.msp_route.proofs.KeyedJobs.{rises_or_stays}
 use Rattle.msp_slots.specs.Pieces.{piece_at}
 use Rattle.msp_slots.specs.Seating.{one_if, begin_at}
 use Rattle.msp_slots.specs.Places.{ArePlaces, EndAfterPlaces}
@@ -134,7 +135,7 @@ module _ (i : Instance) (t : HasOneTime i) where
                 k,
                 inside,
                 both_is_true (leb (slot k) (slot j)) (eqb (h.schedule.begin k) x)
-                    (le_leb (slot k) (slot j) (stands-in (λ a b. slot a ≤ slot b) h.order k j h.rising ahead)) (eq-eqb (h.schedule.begin k) x at),
+                    (le_leb (slot k) (slot j) (stands-in (λ a b. slot a ≤ slot b) h.order k j (rises_or_stays slot h.order h.rising) ahead)) (eq-eqb (h.schedule.begin k) x at),
                 on,
               )),
           total_below-constant i.machines 1,

@@ -1,5 +1,5 @@
 -- The schedule in slots, as the code makes it.
-use Rattle.std.proofs.Common.{◌≡◌, ℕ, ◌<◌, ◌≤◌, ◌⊎◌, inl, inr, ◌++◌, List, length, get_or, take, drop, ℤ, AllPairs, sym, ap, subst, ◌∙◌, arith}
+use Rattle.std.proofs.Common.{◌≡◌, ℕ, ◌<◌, ◌≤◌, ◌⊎◌, ◌++◌, List, length, get_or, take, drop, ℤ, AllPairs, ap, subst, ◌∙◌, arith}
 use Rattle.std.proofs.lemmas.List.{drop_all, append-nil, take_all}
 use Rattle.msp_instance.specs.declared.Instance.{Instance}
 use Rattle.msp_instance.specs.declared.path_bits.Paths.{Paths}
@@ -24,9 +24,5 @@ listed_at i bound p order slots moved low keys jobs pieces ready e whole dues lo
   dues = dues;
   lowered = subst (λ xs. AreLowered (length i.jobs) i.machines (leads p) (λ j. get_or xs j 0) (λ j. get_or low j 0)) e lowered;
   schedule = schedule;
-  rising = subst (λ xs. AllPairs (λ a b. get_or xs a 0 ≤ get_or xs b 0) jobs) k (λ a b d l m. rises (get_or jobs a d) (get_or jobs b d) (sorted a b d l m));
+  rising = subst (λ xs. AllPairs (λ a b. (get_or xs a 0 < get_or xs b 0) ⊎ ((get_or xs a 0 ≡ get_or xs b 0) × (a ≤ b))) jobs) k sorted;
 }
-  where
-    rises : (a b : ℕ) → (get_or keys a 0 < get_or keys b 0) ⊎ ((get_or keys a 0 ≡ get_or keys b 0) × (a ≤ b)) → get_or keys a 0 ≤ get_or keys b 0
-    rises a b (inl less) = omega (arith, less)
-    rises a b (inr (is, l)) = omega (arith, is)

@@ -75,7 +75,7 @@ pub record IsReady (i : Instance) (p : Paths) (order : List ℕ) : Type 0 where
 abbrev pub CanPlace : Instance → ℤ → Type 0
 CanPlace i bound = (place : ℕ → ℕ) × ArePlaces i place × ((j : ℕ) → j < length i.jobs → cost_in i j (place j + 1) ≤ℤ bound)
 
--- The schedule in slots by the lowered due slots for a bound.
+-- The schedule in slots by the lowered due slots for a bound, ties by number.
 pub record IsListed (i : Instance) (bound : ℤ) (low : List ℕ) (pieces : List Piece) : Type 0 where
   pub leads : ℕ → ℕ → Bool
   pub due : ℕ → ℕ
@@ -85,7 +85,7 @@ pub record IsListed (i : Instance) (bound : ℤ) (low : List ℕ) (pieces : List
   pub dues : (j : ℕ) → j < length i.jobs → IsDueSlot i bound j (due j)
   pub lowered : AreLowered (length i.jobs) i.machines leads due (λ j. slice_index_or low j 0)
   pub schedule : IsListSchedule i order pieces
-  pub rising : AllPairs (λ a b. slice_index_or low a 0 ≤ slice_index_or low b 0) order
+  pub rising : AllPairs (λ a b. (slice_index_or low a 0 < slice_index_or low b 0) ⊎ ((slice_index_or low a 0 ≡ slice_index_or low b 0) × (a ≤ b))) order
 
 -- The number is the greatest cost of the first k jobs, where they end when so many slots are over.
 pub record IsGreatestCost (i : Instance) (slots k : ℕ) (cost : ℤ) : Type 0 where
