@@ -15,6 +15,8 @@ pub mod OneInstances
 pub mod OneEach
 pub mod Owed
 pub mod Laid
+pub mod Placed
+pub mod Turns
 pub mod BackToBackAnswer
 pub mod BackToBackArcs
 pub mod OnTimeFirst

@@ -76,3 +76,15 @@ pub fn jobs_by_key(alloc: Global, keys: &[u64]) -> Result<Vec<u32>, NoMemory>
     sort_by_key(&mut all);
     job_numbers(alloc, all.as_slice())
 }
+
+/// All jobs by falling key, ties by number. The keys stand in order of the jobs.
+pub fn jobs_by_falling_key(alloc: Global, keys: &[u64]) -> Result<Vec<u32>, NoMemory>
+    requires { length keys.now ≤ MOST_JOBS }
+    ensures all { IfOk result (λ jobs. IsPermutation (range_with_len 0 (length keys.now)) jobs.items) }
+    ensures falling { IfOk result
+        (λ jobs. AllPairs (λ a b. (slice_index_or keys.now b 0 < slice_index_or keys.now a 0) ⊎ ((slice_index_or keys.now b 0 ≡ slice_index_or keys.now a 0) × (a ≤ b))) jobs.items) }
+{
+    let mut all = keyed_jobs(alloc, keys)?;
+    sort_by_falling_key(&mut all);
+    job_numbers(alloc, all.as_slice())
+}

@@ -37,7 +37,7 @@ pub use copies::{led, recast};
 pub use dates::jobs_by_date;
 pub use halving::{Range, least_in};
 pub use keeps::{KeepsData, KeepsSchedules};
-pub use keyed::{Keyed, job_numbers, jobs_by_key, sort_by_falling_key};
+pub use keyed::{Keyed, job_numbers, jobs_by_falling_key, jobs_by_key, sort_by_falling_key};
 pub use last_job::last_place;
 pub use laws::law_of_limits;
 pub use question::Question;
