@@ -1,4 +1,4 @@
-mod Turns
+mod Floors
 mod LineBegins
 mod LineFacts
 mod LinePieces

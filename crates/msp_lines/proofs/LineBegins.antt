@@ -1,14 +1,14 @@
 -- What a feasible schedule of a flow shop of unit operations has: its jobs come to the last machine at moments that, rounded down to whole
 -- ones and moved to the front by one for each machine before, are begins on one machine, none of which is too late.
-use Rattle.std.proofs.Common.{◌≡◌, ℕ, zero, suc, ◌+◌, ◌*◌, ◌-◌, ◌/◌, ◌<◌, ◌≤◌, ◌⊎◌, inl, inr, Bool, true, false, eqb, [], ◌∷◌, length, get_or, map, All, Contains, MatchBool, ℤ}
+use Rattle.std.proofs.Common.{◌≡◌, ℕ, zero, suc, ◌+◌, ◌*◌, ◌-◌, ◌/◌, ◌<◌, ◌≤◌, ◌⊎◌, inl, inr, Bool, [], ◌∷◌, length, get_or, map, All, Contains, MatchBool, ℤ}
 use Rattle.std.proofs.Common.{pos, nat_abs, ◌-ℤ◌, ◌*ℤ◌, ◌≤ℤ◌, ◌<ℤ◌, refl, sym, ap, ap₂, subst, subst₂, ◌∙◌, arith}
 use Rattle.std.specs.Prelude.{◌==◌, ◌&&◌}
-use Rattle.std.proofs.lemmas.Bool.{eqb-true, ne_eqb}
+use Rattle.std.proofs.lemmas.Bool.{eqb-true}
 use Rattle.std.proofs.lemmas.Int.{ints}
 use Rattle.std.proofs.lemmas.List.Elements.{All-contains}
 use Rattle.msp_class.specs.Env.{kind_of}
 use Rattle.msp_class.proofs.IntegerRing.{natural, pos-le, le-pos, ≤ℤ_trans, *ℤ-one}
-use Rattle.msp_class.proofs.Sums.{AllPairs-contains, Contains-from_filter, total_below-none}
+use Rattle.msp_class.proofs.Sums.{AllPairs-contains, Contains-from_filter}
 use Rattle.msp_instance.specs.declared.Instance.{Instance}
 use Rattle.msp_instance.specs.Instance.{job_at, need_at}
 use Rattle.msp_pieces.specs.declared.Piece.{Piece}
@@ -18,34 +18,10 @@ use Rattle.msp_pieces.specs.Feasible.{Feasible, HasPlace, MayRun, FollowsRoute, 
 use Rattle.msp_pieces.specs.Cost.{end_of}
 use Rattle.msp_pieces.proofs.feasible.OneMachine.{IsTimed-from_span, apart_in_nat, both_true}
 use Rattle.msp_pieces.proofs.feasible.LastEnds.{last_end-contains}
-use Rattle.msp_slots.specs.Seating.{one_if, begin_at, IsSeated}
-use Rattle.msp_slots.proofs.Begins.{head_at}
-use Rattle.msp_lines.proofs.Turns.{floor_from, floors_differ, floor_to}
+use Rattle.msp_slots.proofs.Seats.{one_at_most}
+use Rattle.msp_slots.proofs.Begins.{head_at, HasBeginsOn}
+use Rattle.msp_lines.proofs.Floors.{floor_from, floors_differ, floor_to}
 use Rattle.msp_lines.proofs.LineFacts.{IsLineShop, own, ones, operations}
-
--- begins that differ are one at a time
-module _ (n : ℕ) (begin : ℕ → ℕ) (x : ℕ) (apart : (a b : ℕ) → a < suc n → b < suc n → begin a ≡ begin b → a ≡ b) where
-  other : begin n ≡ x → (j : ℕ) → j < n → one_if (eqb (begin j) x) ≡ 0
-  other e j l = ap one_if (ne_eqb (begin j) x (λ f. differ (apart j n (omega (arith, l)) (omega arith) (f ∙ sym e))))
-    where
-      differ : j ≡ n → ⊥
-      differ e = omega (arith, l, e)
-
-  one_more : begin_at n begin x ≤ 1 → begin_at (suc n) begin x ≤ 1
-  one_more rest = by (eqb (begin n) x) refl
-    where
-      by : (b : Bool) → eqb (begin n) x ≡ b → begin_at (suc n) begin x ≤ 1
-      by true e = omega (arith, ap one_if e, total_below-none n (λ j. one_if (eqb (begin j) x)) (other (eqb-true (begin n) x e)))
-      by false e = omega (arith, ap one_if e, rest)
-
-pub one_at_most : (n : ℕ) (begin : ℕ → ℕ) (x : ℕ) → ((a b : ℕ) → a < n → b < n → begin a ≡ begin b → a ≡ b) → begin_at n begin x ≤ 1
-one_at_most zero begin x apart = omega arith
-one_at_most (suc n) begin x apart = one_more n begin x apart (one_at_most n begin x (λ a b l k. apart a b (omega (arith, l)) (omega (arith, k))))
-
--- the jobs may begin at whole moments on one machine, and end no earlier than as many units of time later as there are machines
-pub record HasLineBegins (i : Instance) (s : Schedule) (begin : ℕ → ℕ) : Type 0 where
-  pub seated : IsSeated (length i.jobs) 1 (head_at i) begin
-  pub ends : (j : ℕ) → j < length i.jobs → (s.unit *ℤ pos (begin j + i.machines)) ≤ℤ end_of s j
 
 module _ (i : Instance) (late : Bool) (h : IsLineShop i late) (s : Schedule) (f : Feasible i s) where
   abbrev n : ℕ
@@ -172,5 +148,5 @@ module _ (i : Instance) (late : Bool) (h : IsLineShop i late) (s : Schedule) (f 
       ≤ℤ_trans (subst₂ (λ v x. (v *ℤ pos (begin j + i.machines)) ≤ℤ x) (sym unit_is) (sym e.timed.to) (pos-le reached))
       (subst (λ k. (piece j last).to ≤ℤ end_of s k) e.job (last_end-contains s.pieces (piece j last) e.among))
 
-  pub line_begins : (begin : ℕ → ℕ) × HasLineBegins i s begin
+  pub line_begins : (begin : ℕ → ℕ) × HasBeginsOn i 1 i.machines s begin
   line_begins = (begin, record { seated = record { released = λ j l. omega (arith, floor j l); few = λ x. one_at_most n begin x apart }; ends = ends })

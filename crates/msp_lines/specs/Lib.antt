@@ -1,3 +1,2 @@
 pub mod Classes
-pub mod Costs
 pub mod LineSteps

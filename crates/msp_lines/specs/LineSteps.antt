@@ -1,24 +1,18 @@
 -- The pieces of jobs that begin in slots of the earliest schedule on one machine. No public contract cites this file.
-use Rattle.std.specs.Prelude.{◌≡◌, ℕ, ◌+◌, ◌*◌, ◌/◌, ◌%◌, Bool, true, false, List, length, map, pos, IsPermutation}
+use Rattle.std.specs.Prelude.{◌≡◌, ℕ, ◌+◌, ◌*◌, ◌/◌, ◌%◌, Bool, List, length, map, pos}
 use Rattle.std.specs.List.{range_with_len}
 use Rattle.msp_class.specs.declared.class.Class.{Class}
-use Rattle.msp_class.specs.declared.class.Crit.{Crit}
-use Rattle.msp_class.specs.declared.class.Crit.TheVariants.{SumWT, SumWU}
 use Rattle.msp_instance.specs.declared.Instance.{Instance}
 use Rattle.msp_pieces.specs.declared.Piece.{Piece}
 use Rattle.msp_slots.specs.declared.earliest.Slot.{Slot}
-use Rattle.msp_slots.specs.Earliest.{start_in, AreSlots}
-use Rattle.msp_assign.specs.Prices.{IsAssigned, IsLeast, column_of}
+use Rattle.msp_slots.specs.Earliest.{start_in}
+use Rattle.msp_assign.specs.Prices.{column_of}
+use Rattle.msp_total.specs.LeastSlots.{slot_crit, AreLeastSlots}
 use Rattle.msp_lines.specs.Classes.{lines_late_class}
-use Rattle.msp_lines.specs.Costs.{line_cost}
 
 -- The class that is solved: by the weighted tardiness, or where `late` is false, by the weighted number of late jobs.
-abbrev pub line_crit : Bool → Crit
-line_crit true = SumWT
-line_crit false = SumWU
-
 abbrev pub line_class : Bool → Class
-line_class late = record lines_late_class { crit = line_crit late }
+line_class late = record lines_late_class { crit = slot_crit late }
 
 -- The operation of a job that begins at the moment: on the machine of its number, as many units of time later.
 abbrev pub line_part : ℕ → ℕ → ℕ → Piece
@@ -35,13 +29,9 @@ lines_from n m begin = map (line_piece m begin) (range_with_len 0 (n * m))
 abbrev pub lined : ℕ → List Slot → List ℕ → List Piece
 lined m slots column = lines_from (length column) m (λ j. start_in slots (column_of column j))
 
--- The jobs begin in slots of the earliest schedule on one machine, at least cost.
-pub record AreLeastLined (i : Instance) (pieces : List Piece) : Type 0 where
-  pub heads : List ℕ
+-- The jobs begin in slots of the earliest schedule on one machine, at least cost, and end as many units of time later as there are machines.
+pub record AreLeastLined (i : Instance) (late : Bool) (pieces : List Piece) : Type 0 where
   pub slots : List Slot
   pub column : List ℕ
-  pub all : IsPermutation (map (λ j. j.release) i.jobs) heads
-  pub filled : AreSlots 1 heads slots
-  pub assigned : IsAssigned (length i.jobs) (length i.jobs) column
-  pub least : IsLeast (length i.jobs) (length i.jobs) (line_cost i slots) column
+  pub least : AreLeastSlots i late 1 i.machines slots column
   pub laid : pieces ≡ lined i.machines slots column

@@ -1,6 +1,6 @@
 // Flow shops of unit operations with release dates, `F|r,p=1|sumwT` and `F|r,p=1|sumwU`: in the slots of the earliest schedule on one
 // machine, at least cost.
-ghost use Rattle.std.specs.Prelude.{◌≡◌, ◌<◌, ◌≤◌, ◌⊎◌, length, All, IfOk};
+ghost use Rattle.std.specs.Prelude.{◌≡◌, ◌<◌, ◌≤◌, length, All, IfOk};
 ghost use Rattle.msp_class.specs.declared.sizes.TheConstants.{MOST_JOBS, MOST_MACHINES};
 ghost use Rattle.msp_instance.specs.Conditions.{Inner};
 ghost use Rattle.msp_pieces.specs.Cost.{IsBest};
@@ -8,14 +8,12 @@ ghost use Rattle.msp_route.specs.Bounds.{IsAnswer};
 ghost use Rattle.msp_lines.specs.Classes.{lines_late_class, lines_count_class};
 ghost use Rattle.msp_lines.specs.LineSteps.{line_class, line_part, lined, AreLeastLined};
 
-use crate::line_assignment::assigned;
-use crate::line_costs::LineCosts;
-use msp_assign::Assignment;
 use msp_class::{Class, Crit, Env, List, NoMemory, Order, Times};
 use msp_instance::Instance;
 use msp_pieces::{Piece, Schedule, Solution};
 use msp_route::Solver;
-use msp_slots::{Slot, earliest_slots, sorted_releases};
+use msp_slots::Slot;
+use msp_total::{JobSlots, least_slots};
 use std::alloc::Global;
 
 /// The class of unit operations with release dates in flow shops, by weighted tardiness or by the weight of late jobs.
@@ -70,34 +68,29 @@ fn laid_out(
 }
 
 /// The pieces of a schedule of least cost.
-fn least_pieces(alloc: Global, inst: &Instance) -> Result<List<Piece>, NoMemory>
+fn least_pieces(alloc: Global, inst: &Instance, late: bool) -> Result<List<Piece>, NoMemory>
     requires inner { Inner inst.now }
-    requires class { (inst.now.class ≡ lines_late_class) ⊎ (inst.now.class ≡ lines_count_class) }
-    ensures { IfOk result (AreLeastLined inst.now) }
+    requires class { inst.now.class ≡ line_class late }
+    ensures { IfOk result (AreLeastLined inst.now late) }
 {
-    let heads = sorted_releases(alloc, inst.jobs.as_slice())?;
-    let slots = earliest_slots(alloc, heads.as_slice(), 1)?;
-    let table = LineCosts {
-        inst,
-        slots: slots.as_slice(),
-    };
-    let Assignment { column, .. } = assigned(alloc, &table)?;
+    let machines = inst.machines;
+    let JobSlots { slots, column } = least_slots(alloc, inst, late, 1, machines)?;
     laid_out(
         alloc,
         slots.as_slice(),
         column.as_slice(),
-        inst.machines as usize,
+        machines as usize,
     )
 }
 
-/// A schedule of least cost, with it.
-fn schedule_in_lines(alloc: Global, inst: &Instance) -> Result<Solution, NoMemory>
+/// A schedule of least weighted tardiness, or where `late` is false, of least weight of late jobs, with its cost.
+fn schedule_in_lines(alloc: Global, inst: &Instance, late: bool) -> Result<Solution, NoMemory>
     requires inner { Inner inst.now }
-    requires class { (inst.now.class ≡ lines_late_class) ⊎ (inst.now.class ≡ lines_count_class) }
+    requires class { inst.now.class ≡ line_class late }
     ensures best { IfOk result (λ s. IsBest inst.now s) }
     ensures bounds { IfOk result (λ s. IsAnswer inst.now s.schedule) }
 {
-    let pieces = least_pieces(alloc, inst)?;
+    let pieces = least_pieces(alloc, inst, late)?;
     let schedule = Schedule { unit: 1, pieces };
     let cost = msp_pieces::cost(inst, &schedule);
     Ok(Solution { schedule, cost })
@@ -120,7 +113,7 @@ impl Solver for LinesLate {
     }
 
     fn solve(&self, alloc: Global, inst: &Instance) -> Result<Solution, NoMemory> {
-        schedule_in_lines(alloc, inst)
+        schedule_in_lines(alloc, inst, true)
     }
 }
 
@@ -140,6 +133,6 @@ impl Solver for LinesCount {
     }
 
     fn solve(&self, alloc: Global, inst: &Instance) -> Result<Solution, NoMemory> {
-        schedule_in_lines(alloc, inst)
+        schedule_in_lines(alloc, inst, false)
     }
 }

@@ -30,10 +30,13 @@ use Rattle.msp_slots.specs.Seating.{one_if, begin_at, IsSeated}
 abbrev pub head_at : Instance → ℕ → ℕ
 head_at i j = (job_at i j).release
 
--- the jobs may begin at whole moments, and end no earlier than one unit of time later
-pub record HasBegins (i : Instance) (s : Schedule) (begin : ℕ → ℕ) : Type 0 where
-  pub seated : IsSeated (length i.jobs) i.machines (head_at i) begin
-  pub ends : (j : ℕ) → j < length i.jobs → (s.unit *ℤ pos (begin j + 1)) ≤ℤ end_of s j
+-- the jobs may begin at whole moments on so many machines, and end no earlier than the span later
+pub record HasBeginsOn (i : Instance) (machines span : ℕ) (s : Schedule) (begin : ℕ → ℕ) : Type 0 where
+  pub seated : IsSeated (length i.jobs) machines (head_at i) begin
+  pub ends : (j : ℕ) → j < length i.jobs → (s.unit *ℤ pos (begin j + span)) ≤ℤ end_of s j
+
+abbrev pub HasBegins : Instance → Schedule → (ℕ → ℕ) → Type 0
+HasBegins i s begin = HasBeginsOn i i.machines 1 s begin
 
 module _ (i : Instance) (kind : kind_of i.class.env ≡ Identical) (ones : (k : ℕ) → k < length i.jobs → (need_at i k 0).time ≡ 1) where
   works : HasWork (frame_of i)

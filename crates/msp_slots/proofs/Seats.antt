@@ -41,6 +41,25 @@ total_below-changed (suc n) f g j l same = elim (cases_lt j n) [
       omega (arith, total_below-same n f g (λ k b. same k (λ q. absurd (omega (arith, q, b, more)))), ap f e, ap g e)
 ]
 
+-- ---- begins that differ are one at a time
+module _ (n : ℕ) (begin : ℕ → ℕ) (x : ℕ) (apart : (a b : ℕ) → a < suc n → b < suc n → begin a ≡ begin b → a ≡ b) where
+  other : begin n ≡ x → (j : ℕ) → j < n → one_if (eqb (begin j) x) ≡ 0
+  other e j l = ap one_if (ne_eqb (begin j) x (λ f. differ (apart j n (omega (arith, l)) (omega arith) (f ∙ sym e))))
+    where
+      differ : j ≡ n → ⊥
+      differ e = omega (arith, l, e)
+
+  one_more : begin_at n begin x ≤ 1 → begin_at (suc n) begin x ≤ 1
+  one_more rest = by (eqb (begin n) x) refl
+    where
+      by : (b : Bool) → eqb (begin n) x ≡ b → begin_at (suc n) begin x ≤ 1
+      by true e = omega (arith, ap one_if e, total_below-none n (λ j. one_if (eqb (begin j) x)) (other (eqb-true (begin n) x e)))
+      by false e = omega (arith, ap one_if e, rest)
+
+pub one_at_most : (n : ℕ) (begin : ℕ → ℕ) (x : ℕ) → ((a b : ℕ) → a < n → b < n → begin a ≡ begin b → a ≡ b) → begin_at n begin x ≤ 1
+one_at_most zero begin x apart = omega arith
+one_at_most (suc n) begin x apart = one_more n begin x apart (one_at_most n begin x (λ a b l k. apart a b (omega (arith, l)) (omega (arith, k))))
+
 -- ---- how many jobs of the first n begin before the moment, and are released by it
 abbrev pub begin_before : ℕ → (ℕ → ℕ) → ℕ → ℕ
 begin_before n begin x = total_below n (λ j. one_if (ltb (begin j) x))

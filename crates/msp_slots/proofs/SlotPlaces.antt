@@ -35,7 +35,7 @@ module _ (m : ℕ) (heads : List ℕ) (slots : List Slot) (h : AreSlots m heads 
 pub heads_many : (i : Instance) (heads : List ℕ) → IsPermutation (map (λ j. j.release) i.jobs) heads → length heads ≡ length i.jobs
 heads_many i heads p = length_permutation (map (λ j. j.release) i.jobs) heads p ∙ length-map i.jobs (λ j. j.release)
 
-pub released-sorted : (i : Instance) (heads : List ℕ)
+released-sorted : (i : Instance) (heads : List ℕ)
     → IsPermutation (map (λ j. j.release) i.jobs) heads → (x : ℕ) → released_by (length i.jobs) (head_at i) x ≡ released_by (length i.jobs) (head_in heads) x
 released-sorted i heads p x =
     sym (sum_by-places (λ j. one_if (leb j.release x)) i.jobs no_job) ∙ sym (sum_by-map (λ r. one_if (leb r x)) (λ j. j.release) i.jobs)
@@ -43,13 +43,12 @@ released-sorted i heads p x =
     ∙ sum_by-places (λ r. one_if (leb r x)) heads 0 ∙ ap (λ n. total_below n (λ k. one_if (leb (head_in heads k) x))) (heads_many i heads p)
 
 -- ---- a slot for each job
-pub seats_in : (i : Instance) (heads : List ℕ) (slots : List Slot) → IsPermutation (map (λ j. j.release) i.jobs) heads
-    → AreSlots i.machines heads slots → (begin : ℕ → ℕ) → IsSeated (length i.jobs) i.machines (head_at i) begin
-    → (seat : ℕ → ℕ) × HasSeats (length i.jobs) (head_at i) begin (start_in slots) seat
-seats_in i heads slots p h begin s =
-    law_of_seats (length i.jobs) i.machines (head_at i) begin (head_in heads) (start_in slots) s
-    (subst (λ k. IsSeated k i.machines (head_in heads) (start_in slots)) many h.seated)
-    (subst (λ k. IsTight k i.machines (head_in heads) (start_in slots)) many h.tight) (subst (λ k. Rises k (start_in slots)) many h.rises)
+pub seats_in : (i : Instance) {m : ℕ} (heads : List ℕ) (slots : List Slot) → IsPermutation (map (λ j. j.release) i.jobs) heads → AreSlots m heads slots
+    → (begin : ℕ → ℕ) → IsSeated (length i.jobs) m (head_at i) begin → (seat : ℕ → ℕ) × HasSeats (length i.jobs) (head_at i) begin (start_in slots) seat
+seats_in i {m} heads slots p h begin s =
+    law_of_seats (length i.jobs) m (head_at i) begin (head_in heads) (start_in slots) s
+    (subst (λ k. IsSeated k m (head_in heads) (start_in slots)) many h.seated)
+    (subst (λ k. IsTight k m (head_in heads) (start_in slots)) many h.tight) (subst (λ k. Rises k (start_in slots)) many h.rises)
     (released-sorted i heads p)
   where
     many : length heads ≡ length i.jobs

@@ -8,7 +8,8 @@ mod UniformBest
 mod UniformOrder
 mod UniformAnswer
 mod Laid
-mod SlotFacts
+pub mod SlotFacts
+pub mod LeastSlots
 mod SlotBest
 mod UnrelatedFacts
 mod ColumnSteps

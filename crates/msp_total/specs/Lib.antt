@@ -2,6 +2,7 @@ pub mod Classes
 pub mod Places
 pub mod Multipliers
 pub mod Turns
+pub mod LeastSlots
 pub mod SlotSteps
 pub mod Slots
 pub mod Positions

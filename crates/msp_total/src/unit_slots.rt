@@ -10,23 +10,21 @@
 // begins no later and not before its release date (`msp_slots/proofs/SlotPlaces.antt`); fractions are no help, as begins may be rounded
 // down (`law_of_floors` of `msp_pieces`). Costs do not fall with ends, so the assignment costs no more; and it never takes a slot before
 // a release date, since the jobs fit without.
-ghost use Rattle.std.specs.Prelude.{◌≡◌, ◌<◌, ◌≤◌, length, map, All, IfOk};
-ghost use Rattle.msp_class.specs.declared.sizes.TheConstants.{MOST_JOBS, GREATEST};
+ghost use Rattle.std.specs.Prelude.{◌≡◌, ◌<◌, ◌≤◌, length, All, IfOk};
+ghost use Rattle.msp_class.specs.declared.sizes.TheConstants.{MOST_JOBS};
 ghost use Rattle.msp_instance.specs.Conditions.{Inner};
 ghost use Rattle.msp_pieces.specs.Cost.{IsBest};
 ghost use Rattle.msp_route.specs.Bounds.{IsAnswer};
 ghost use Rattle.msp_total.specs.Slots.{tardiness_class, late_jobs_class};
 ghost use Rattle.msp_slots.specs.Earliest.{slot_piece};
-ghost use Rattle.msp_total.specs.SlotSteps.{slot_class, IsTable, AreLaid, AreLeastLaid};
+ghost use Rattle.msp_total.specs.SlotSteps.{slot_class, AreLaid, AreLeastLaid};
 
-use crate::slot_assignment::assigned;
-use crate::slot_table::Slots;
-use msp_assign::Assignment;
+use crate::job_slots::{JobSlots, least_slots};
 use msp_class::{Class, Crit, Env, List, NoMemory, Order, Times};
-use msp_instance::{Instance, Job};
+use msp_instance::Instance;
 use msp_pieces::{Piece, Schedule, Solution};
 use msp_route::Solver;
-use msp_slots::{Slot, earliest_slots, releases_of, sorted_releases, starts_of};
+use msp_slots::Slot;
 use std::alloc::Global;
 
 /// The class of unit jobs with release dates on identical machines, by weighted tardiness or by the weight of late jobs.
@@ -42,39 +40,6 @@ fn class_of(late: bool) -> Class
         times: Times::Unit,
         crit,
     }
-}
-
-fn dues_of(alloc: Global, jobs: &[Job]) -> Result<Vec<i64>, NoMemory>
-    ensures { IfOk result (λ all. all.items ≡ map (λ j. j.due) jobs.now) }
-{
-    Ok(jobs.iter().map(|job| job.due).collect(alloc)?)
-}
-
-fn weights_of(alloc: Global, jobs: &[Job]) -> Result<Vec<u64>, NoMemory>
-    ensures { IfOk result (λ all. all.items ≡ map (λ j. j.weight) jobs.now) }
-{
-    Ok(jobs.iter().map(|job| job.weight).collect(alloc)?)
-}
-
-/// What the jobs cost in the slots.
-fn table_of(alloc: Global, inst: &Instance, slots: &[Slot], late: bool) -> Result<Slots, NoMemory>
-    requires jobs { length inst.now.jobs ≤ MOST_JOBS }
-    requires slots { length slots.now ≤ MOST_JOBS }
-    requires light { All (λ w. w ≤ GREATEST) (map (λ j. j.weight) inst.now.jobs) }
-    ensures { IfOk result (IsTable inst.now late slots.now) }
-{
-    let jobs = inst.jobs.as_slice();
-    let start = List::from_vec(starts_of(alloc, slots)?);
-    let release = List::from_vec(releases_of(alloc, jobs)?);
-    let due = List::from_vec(dues_of(alloc, jobs)?);
-    let weight = List::from_vec(weights_of(alloc, jobs)?);
-    Ok(Slots {
-        late,
-        start,
-        release,
-        due,
-        weight,
-    })
 }
 
 fn piece_of(job: u32, slot: &Slot) -> Piece
@@ -109,10 +74,7 @@ fn least_pieces(alloc: Global, inst: &Instance, late: bool) -> Result<List<Piece
     requires class { inst.now.class ≡ slot_class late }
     ensures { IfOk result (AreLeastLaid inst.now late) }
 {
-    let heads = sorted_releases(alloc, inst.jobs.as_slice())?;
-    let slots = earliest_slots(alloc, heads.as_slice(), inst.machines)?;
-    let table = table_of(alloc, inst, slots.as_slice(), late)?;
-    let Assignment { column, .. } = assigned(alloc, &table)?;
+    let JobSlots { slots, column } = least_slots(alloc, inst, late, inst.machines, 1)?;
     laid_out(alloc, slots.as_slice(), column.as_slice())
 }
 

@@ -2,7 +2,7 @@ use Rattle.std.proofs.Common.{[], ◌∷◌, ◌++◌, ap, ◌∙◌}
 use Rattle.msp_slots.specs.Earliest.{start_in}
 use Rattle.msp_assign.specs.Prices.{column_of}
 use Rattle.msp_lines.specs.LineSteps.{line_piece}
-use Rattle.msp_lines.proofs.Turns.{turns_next}
+use Rattle.msp_route.proofs.Turns.{turns_next}
 use Rattle.msp_lines.proofs.unit_lines.laid_out.Goals as goal
 
 pub loop-turn-preserved : goal.loop-turn-preserved
