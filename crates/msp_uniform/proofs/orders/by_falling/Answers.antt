@@ -1,6 +1,5 @@
-use Rattle.msp_uniform.proofs.OrderRead.{by_lacks}
+use Rattle.msp_uniform.proofs.OrderRead.{read_order}
 use Rattle.msp_uniform.proofs.orders.by_falling.Goals as goal
 
 pub returns : goal.returns
-returns c = by_lacks c.args.values.now c.requires.small c.as_slice.result.now _ (λ o. o.items)
-    c.in_ok-keys.ensures c.as_slice.ensures.value c.jobs_by_key.result c.jobs_by_key.ensures.all c.jobs_by_key.ensures.rising
+returns c = read_order c.args.values.now (λ o. o.items) c.jobs_by_falling_key.result c.jobs_by_falling_key.ensures.all c.jobs_by_falling_key.ensures.falling

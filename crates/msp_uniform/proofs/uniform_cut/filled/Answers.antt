@@ -5,25 +5,15 @@ use Rattle.msp_uniform.proofs.LeastEnd.{order_within, order_length}
 use Rattle.msp_uniform.proofs.DataFacts.{times_few, speeds_few, speeds_some, times_fit, speeds_fit, speeds_multiple, IsTask-of, IsAsked-of, IsTaskOf-made, laid_out}
 use Rattle.msp_uniform.proofs.uniform_cut.filled.Goals as goal
 
-pub by_falling-requires-clause-small : goal.by_falling-requires-clause-small
-by_falling-requires-clause-small c k d l = (times_fit c.args.inst.now c.requires.class c.requires.inner c.as_slice-durations.result.now c.as_slice-rates.result.now
-    (c.as_slice-durations.ensures.value ∙ c.in_ok-times.ensures) (c.as_slice-rates.ensures.value ∙ c.in_ok-speeds.ensures.items ∙ c.as_slice.ensures) k d l).1
-
-pub by_falling-requires-clause-few : goal.by_falling-requires-clause-few
-by_falling-requires-clause-few c = times_few c.args.inst.now c.requires.class c.requires.inner c.as_slice-durations.result.now c.as_slice-rates.result.now
+pub by_falling-requires : goal.by_falling-requires
+by_falling-requires c = times_few c.args.inst.now c.requires.class c.requires.inner c.as_slice-durations.result.now c.as_slice-rates.result.now
     (c.as_slice-durations.ensures.value ∙ c.in_ok-times.ensures) (c.as_slice-rates.ensures.value ∙ c.in_ok-speeds.ensures.items ∙ c.as_slice.ensures)
 
-pub by_falling-requires-2-clause-few : goal.by_falling-requires-2-clause-few
-by_falling-requires-2-clause-few c =
+pub by_falling-requires-2 : goal.by_falling-requires-2
+by_falling-requires-2 c =
     let few = speeds_few c.args.inst.now c.requires.class c.requires.inner c.as_slice-durations.result.now c.as_slice-rates.result.now
     (c.as_slice-durations.ensures.value ∙ c.in_ok-times.ensures) (c.as_slice-rates.ensures.value ∙ c.in_ok-speeds.ensures.items ∙ c.as_slice.ensures) in
     omega (arith, few)
-
-pub by_falling-requires-2-clause-small : goal.by_falling-requires-2-clause-small
-by_falling-requires-2-clause-small c k d l =
-    let fit = speeds_fit c.args.inst.now c.requires.class c.requires.inner c.as_slice-durations.result.now c.as_slice-rates.result.now
-    (c.as_slice-durations.ensures.value ∙ c.in_ok-times.ensures) (c.as_slice-rates.ensures.value ∙ c.in_ok-speeds.ensures.items ∙ c.as_slice.ensures) k d l in
-    omega (arith, fit.1)
 
 pub greatest_quotient-least-requires-clause-speeds : goal.greatest_quotient-least-requires-clause-speeds
 greatest_quotient-least-requires-clause-speeds c k d l =
