@@ -1,173 +1,68 @@
-// Each solver in the time of a test: two hundred drawn jobs of each class, four hundred on unrelated machines, four hundred blocks.
+// Each solver in the time of a test: two hundred and four hundred drawn jobs of each class, four hundred blocks.
 use crate::calls::{calling, gives, outcome};
 use std::alloc::Global;
 use std::process::Abort;
 
-/// Two hundred drawn jobs of each class that has a solver: how the answer begins.
-pub const DRAWN: &[(&str, &[u8])] = &[
-    (
-        "1||sumwC",
-        b"class 1||sumwC\njobs 200\nseed 1\nsolver smith\nrows 0\n",
-    ),
-    (
-        "1|prec|fmax",
-        b"class 1|prec|fmax\njobs 200\nseed 1\nsolver lawler\nrows 0\n",
-    ),
-    (
-        "1||sumU",
-        b"class 1||sumU\njobs 200\nseed 1\nsolver moore\nrows 0\n",
-    ),
-    (
-        "1|outtree|sumwC",
-        b"class 1|outtree|sumwC\njobs 200\nseed 1\nsolver horn\nrows 0\n",
-    ),
-    (
-        "1|pmtn,prec,r|fmax",
-        b"class 1|pmtn,prec,r|fmax\njobs 200\nseed 1\nsolver blocks\nrows 0\n",
-    ),
-    (
-        "1|prec,r,p=1|fmax",
-        b"class 1|prec,r,p=1|fmax\njobs 200\nseed 1\nsolver unit-blocks\nrows 0\n",
-    ),
-    (
-        "1|pmtn,r|sumC",
-        b"class 1|pmtn,r|sumC\njobs 200\nseed 1\nsolver shortest\nrows 0\n",
-    ),
-    (
-        "P|pmtn|Cmax",
-        b"class P|pmtn|Cmax\njobs 200\nseed 1\nsolver wrap\nrows 0\n",
-    ),
-    (
-        "P|intree,p=1|Cmax",
-        b"class P|intree,p=1|Cmax\njobs 200\nseed 1\nsolver levels\nrows 0\n",
-    ),
-    (
-        "Q||sumC",
-        b"class Q||sumC\njobs 200\nseed 1\nsolver uniform\nrows 0\n",
-    ),
-    (
-        "R||sumC",
-        b"class R||sumC\njobs 200\nseed 1\nsolver unrelated\nrows 0\n",
-    ),
-    (
-        "P|r,p=1|sumwT",
-        b"class P|r,p=1|sumwT\njobs 200\nseed 1\nsolver slots-late\nrows 0\n",
-    ),
-    (
-        "P|r,p=1|sumwU",
-        b"class P|r,p=1|sumwU\njobs 200\nseed 1\nsolver slots-count\nrows 0\n",
-    ),
-    (
-        "F2||Cmax",
-        b"class F2||Cmax\njobs 200\nseed 1\nsolver johnson\nrows 0\n",
-    ),
-    (
-        "J2|n<=2|Cmax",
-        b"class J2|n<=2|Cmax\njobs 200\nseed 1\nsolver jackson\nrows 0\n",
-    ),
-    (
-        "O2||Cmax",
-        b"class O2||Cmax\njobs 200\nseed 1\nsolver open2\nrows 0\n",
-    ),
-    (
-        "O|pmtn|Cmax",
-        b"class O|pmtn|Cmax\njobs 200\nseed 1\nsolver open-cut\nrows 0\n",
-    ),
-    (
-        "Q|pmtn|Cmax",
-        b"class Q|pmtn|Cmax\njobs 200\nseed 1\nsolver uniform-cut\nrows 0\n",
-    ),
-    (
-        "P2|prec,p=1|Cmax",
-        b"class P2|prec,p=1|Cmax\njobs 200\nseed 1\nsolver lexical\nrows 0\n",
-    ),
-    (
-        "1||sumwU",
-        b"class 1||sumwU\njobs 200\nseed 1\nsolver late-table\nrows 0\n",
-    ),
-    (
-        "P|r,p=1|Lmax",
-        b"class P|r,p=1|Lmax\njobs 200\nseed 1\nsolver search\nrows 0\n",
-    ),
-    (
-        "R|intree,p=p|fmax",
-        b"class R|intree,p=p|fmax\njobs 200\nseed 1\nsolver tree-due\nrows 0\n",
-    ),
-    (
-        "R2|prec,p=p|fmax",
-        b"class R2|prec,p=p|fmax\njobs 200\nseed 1\nsolver pair-due\nrows 0\n",
-    ),
-    (
-        "P|pmtn|sumC",
-        b"class P|pmtn|sumC\njobs 200\nseed 1\nsolver cut-sum\nrows 0\n",
-    ),
-    (
-        "P|pmtn,p=p|sumwC",
-        b"class P|pmtn,p=p|sumwC\njobs 200\nseed 1\nsolver cut-weights\nrows 0\n",
-    ),
-    (
-        "O|p=1|sumwC",
-        b"class O|p=1|sumwC\njobs 200\nseed 1\nsolver open-weights\nrows 0\n",
-    ),
-    (
-        "O|pmtn,p=p|sumwC",
-        b"class O|pmtn,p=p|sumwC\njobs 200\nseed 1\nsolver cut-open-weights\nrows 0\n",
-    ),
-    (
-        "P|pmtn|Lmax",
-        b"class P|pmtn|Lmax\njobs 200\nseed 1\nsolver stairs\nrows 0\n",
-    ),
-    (
-        "Q|p=p|fmax",
-        b"class Q|p=p|fmax\njobs 200\nseed 1\nsolver places-most\nrows 0\n",
-    ),
-    (
-        "Q|p=p|sumwT",
-        b"class Q|p=p|sumwT\njobs 200\nseed 1\nsolver places-late\nrows 0\n",
-    ),
-    (
-        "Q|p=p|sumwU",
-        b"class Q|p=p|sumwU\njobs 200\nseed 1\nsolver places-count\nrows 0\n",
-    ),
-    (
-        "P|outtree,p=1|sumC",
-        b"class P|outtree,p=1|sumC\njobs 200\nseed 1\nsolver levels-sum\nrows 0\n",
-    ),
-    (
-        "1|prec,r,p=p|sumC",
-        b"class 1|prec,r,p=p|sumC\njobs 200\nseed 1\nsolver equal-heads\nrows 0\n",
-    ),
-    (
-        "J2|pmtn,n<=2|Cmax",
-        b"class J2|pmtn,n<=2|Cmax\njobs 200\nseed 1\nsolver jackson-cut\nrows 0\n",
-    ),
-    (
-        "F|r,p=1|sumwT",
-        b"class F|r,p=1|sumwT\njobs 200\nseed 1\nsolver lines-late\nrows 0\n",
-    ),
-    (
-        "F|r,p=1|sumwU",
-        b"class F|r,p=1|sumwU\njobs 200\nseed 1\nsolver lines-count\nrows 0\n",
-    ),
+/// Each class that has a solver, with it: jobs of each are drawn.
+pub const DRAWN: &[(&str, &str)] = &[
+    ("1||sumwC", "smith"),
+    ("1|prec|fmax", "lawler"),
+    ("1||sumU", "moore"),
+    ("1|outtree|sumwC", "horn"),
+    ("1|pmtn,prec,r|fmax", "blocks"),
+    ("1|prec,r,p=1|fmax", "unit-blocks"),
+    ("1|pmtn,r|sumC", "shortest"),
+    ("P|pmtn|Cmax", "wrap"),
+    ("P|intree,p=1|Cmax", "levels"),
+    ("Q||sumC", "uniform"),
+    ("R||sumC", "unrelated"),
+    ("P|r,p=1|sumwT", "slots-late"),
+    ("P|r,p=1|sumwU", "slots-count"),
+    ("F2||Cmax", "johnson"),
+    ("J2|n<=2|Cmax", "jackson"),
+    ("O2||Cmax", "open2"),
+    ("O|pmtn|Cmax", "open-cut"),
+    ("Q|pmtn|Cmax", "uniform-cut"),
+    ("P2|prec,p=1|Cmax", "lexical"),
+    ("1||sumwU", "late-table"),
+    ("P|r,p=1|Lmax", "search"),
+    ("R|intree,p=p|fmax", "tree-due"),
+    ("R2|prec,p=p|fmax", "pair-due"),
+    ("P|pmtn|sumC", "cut-sum"),
+    ("P|pmtn,p=p|sumwC", "cut-weights"),
+    ("O|p=1|sumwC", "open-weights"),
+    ("O|pmtn,p=p|sumwC", "cut-open-weights"),
+    ("P|pmtn|Lmax", "stairs"),
+    ("Q|p=p|fmax", "places-most"),
+    ("Q|p=p|sumwT", "places-late"),
+    ("Q|p=p|sumwU", "places-count"),
+    ("P|outtree,p=1|sumC", "levels-sum"),
+    ("1|prec,r,p=p|sumC", "equal-heads"),
+    ("J2|pmtn,n<=2|Cmax", "jackson-cut"),
+    ("F|r,p=1|sumwT", "lines-late"),
+    ("F|r,p=1|sumwU", "lines-count"),
 ];
 
-/// Whether the trial answers status 0 and a report that begins so.
-fn begins(rt: &impl Abort, alloc: Global, class: &str, jobs: &str, front: &[u8]) -> bool {
+/// Whether the trial of so many jobs answers status 0 and a report that names the solver, with no row before it.
+fn tries(rt: &impl Abort, alloc: Global, class: &str, solver: &str, jobs: &str) -> bool {
     let seen = outcome(rt, alloc, &calling(&["trial", class, jobs, "1"], b""));
-    seen.status == 0 && seen.out.as_slice().starts_with(front)
+    let front = format!(in alloc; "class {class}\njobs {jobs}\nseed 1\nsolver {solver}\nrows 0\n");
+    let front = front.expect(rt, "memory");
+    seen.status == 0 && seen.out.as_slice().starts_with(front.as_bytes())
 }
 
 #[test]
 fn two_hundred_jobs_of_each_class(rt: HostRuntime) {
-    for (class, front) in DRAWN {
-        assert!(rt; begins(&rt, rt.alloc(), class, "200", front), "{class}");
+    for (class, solver) in DRAWN {
+        assert!(rt; tries(&rt, rt.alloc(), class, solver, "200"), "{class}");
     }
 }
 
 #[test]
-fn four_hundred_jobs_on_unrelated_machines(rt: HostRuntime) {
-    let front = b"class R||sumC\njobs 400\nseed 1\nsolver unrelated\nrows 0\n";
-    assert!(rt; begins(&rt, rt.alloc(), "R||sumC", "400", front));
+fn four_hundred_jobs_of_each_class(rt: HostRuntime) {
+    for (class, solver) in DRAWN {
+        assert!(rt; tries(&rt, rt.alloc(), class, solver, "400"), "{class}");
+    }
 }
 
 const BLOCKS: &[u8] = b"msp 1\nclass 1|pmtn,prec,r|fmax\n";
