@@ -16,8 +16,8 @@ use Rattle.msp_cut_sums.specs.Schedules.{CutsNone, blocked_piece, IsBlockedSched
 use Rattle.msp_cut_sums.specs.Pieces.{blocked}
 use Rattle.msp_cut_sums.proofs.Falling.{order_once, order_many, order_inside, order_falls, order_distinct}
 use Rattle.msp_cut_sums.proofs.InBlocks.{weights_bound}
-use Rattle.msp_cut_sums.proofs.Instances.{IsWeightsInstance, weights_operations, weights_time, weights_span}
-use Rattle.msp_cut_sums.proofs.Placed.{ArePlaced, placed_is_feasible, placed_is_within, placed_is_answer, placed_ends}
+use Rattle.msp_cut_sums.proofs.Instances.{IsWeightsInstance, no_route, weights_operations, weights_time, weights_span}
+use Rattle.msp_route.proofs.Placed.{Places, ArePlaced, placed_is_feasible, placed_is_within, placed_is_answer, placed_ends}
 use Rattle.msp_cut_sums.proofs.Rests.{blocks_rise}
 use Rattle.msp_cut_sums.proofs.Schedules.{placed_uncut}
 use Rattle.msp_pieces.proofs.bounds.Room.{end_at}
@@ -43,7 +43,10 @@ module _ (i : Instance) (h : IsWeightsInstance i) (order : List ℕ) (sorted : I
   abbrev end : ℕ → ℕ
   end k = (k / m + 1) * span
 
-  placed : ArePlaced i 1 (length order) (at order) (λ k. 0) (λ k. k % m) (λ k. k / m * span) end
+  abbrev places : Places
+  places = record { count = length order; job = at order; op = λ k. 0; machine = λ k. k % m; from = λ k. k / m * span; to = end }
+
+  placed : ArePlaced i 1 places
   placed = record {
     count = omega (arith, many);
     few = omega (arith, many, h.few);
@@ -56,6 +59,8 @@ module _ (i : Instance) (h : IsWeightsInstance i) (order : List ℕ) (sorted : I
     some = λ x l. omega (arith, weights_time i h (at order x) (inside x (omega (arith, l, many))), (weights_span i h).0);
     on_machine = λ x y l b e. inl (mul-le-mul_right span (more (x / m) (y / m) (blocks_rise m x y l e)));
     of_job = λ x y l b e. absurd (differ x y l b e);
+    routed = λ e. absurd (no_route (weights_operations i h) e);
+    released = λ x l. omega (arith, (weights_operations i h).release (at order x) (inside x (omega (arith, l, many))));
     early = λ x l. omega (arith, mul-le (x / m + 1) span MOST_JOBS GREATEST_EQUAL_TIME (omega (arith, div-le_self x m, l, many, h.few)) (weights_span i h).1);
   }
     where
@@ -74,11 +79,10 @@ module _ (i : Instance) (h : IsWeightsInstance i) (order : List ℕ) (sorted : I
   pub blocked_answer : IsSumAnswer i value (record { unit = pos 1; pieces = blocked m span order })
   blocked_answer = answered i (weight_at i) (IsSumOf-weights i h.crit) order (order_once n (weight_at i) order sorted) (blocked m span order) value end
       (total_below-same n _ _ (λ k l. moved (weight_at i (at order k)) (k / m + 1) span))
-      (placed_is_feasible i 1 (length order) (at order) (λ k. 0) (λ k. k % m) (λ k. k / m * span) end (weights_operations i h) placed)
-      (placed_is_within i 1 (length order) (at order) (λ k. 0) (λ k. k % m) (λ k. k / m * span) end (weights_operations i h) placed)
-      (placed_is_answer i 1 (length order) (at order) (λ k. 0) (λ k. k % m) (λ k. k / m * span) end (weights_operations i h) placed)
-      (λ r l. placed_ends i 1 (length order) (at order) (λ k. 0) (λ k. k % m) (λ k. k / m * span) end (weights_operations i h)
-      placed (at order r) (end r) (λ x b e. same x r (order_distinct n (weight_at i) order sorted x r (omega (arith, b, many)) l e)))
+      (placed_is_feasible i 1 places (weights_operations i h).operations placed)
+      (placed_is_within i 1 places (weights_operations i h).operations placed)
+      (placed_is_answer i 1 places (weights_operations i h).operations placed (weights_operations i h).unit)
+      (λ r l. placed_ends i 1 places (weights_operations i h).operations placed (at order r) (end r) (λ x b e. same x r (order_distinct n (weight_at i) order sorted x r (omega (arith, b, many)) l e)))
       (λ t f. weights_bound n m (nat_abs t.unit) (λ r. time_at i (at order r)) (λ r. end_at t (at order r)) h.machine
       (room_in_order i t f (time_at i) (λ test moment. law_of_last_ends.machines i t test moment h.kind f) order (order_once n (weight_at i) order sorted))
       span (λ r l. weights_time i h (at order r) (inside r l)) (λ k. weight_at i (at order k)) (order_falls n (weight_at i) order sorted))
@@ -93,4 +97,4 @@ module _ (i : Instance) (h : IsWeightsInstance i) (order : List ℕ) (sorted : I
   blocked_schedule = record { order = order; falls = sorted; unit = refl; pieces = ap (λ k. map (blocked_piece m span order) (range_with_len 0 k)) many }
 
   pub blocked_uncut : CutsNone (record { unit = pos 1; pieces = blocked m span order })
-  blocked_uncut = placed_uncut i 1 (length order) (at order) (λ k. 0) (λ k. k % m) (λ k. k / m * span) end placed
+  blocked_uncut = placed_uncut i 1 places placed

@@ -1,73 +1,45 @@
 -- The jobs by falling time or weight, as they are sorted.
-use Rattle.std.proofs.Common.{◌≡◌, ◌≢◌, ℕ, ◌-◌, ◌<◌, ◌≤◌, ◌⊎◌, inl, inr, List, length, map, get_or, All, AllPairs, IfOk, IsPermutation, Result, Ok, Err, ap, sym, subst, subst₂, ◌∙◌, arith}
+use Rattle.std.proofs.Common.{◌≡◌, ◌≢◌, ℕ, ◌<◌, ◌≤◌, ◌⊎◌, inl, inr, List, length, map, get_or, All, AllPairs, IfOk, IsPermutation, Result, Ok, Err, ap, sym, subst, ◌∙◌, arith}
 use Rattle.std.specs.List.{range_with_len}
 use Rattle.std.proofs.lemmas.Bool.{cases_lt}
 use Rattle.std.proofs.lemmas.List.{get_or-map, length-map}
-use Rattle.std.proofs.lemmas.List.Elements.{All-map}
-use Rattle.msp_class.specs.declared.sizes.TheConstants.{GREATEST}
 use Rattle.msp_class.proofs.Sums.{OnceBelow, OnceBelow-from_permutation, OnceBelow-distinct, length-OnceBelow}
 use Rattle.msp_instance.specs.declared.Job.{Job}
 use Rattle.msp_instance.specs.declared.Instance.{Instance}
 use Rattle.msp_instance.specs.Instance.{no_job, job_at}
+use Rattle.msp_route.proofs.KeyedJobs.{Falls as KeysFall}
 use Rattle.msp_cut_sums.specs.Sums.{at, IsByFalling}
 
 -- x comes before y
 abbrev Falls : (ℕ → ℕ) → ℕ → ℕ → Type 0
 Falls key x y = (key y < key x) ⊎ ((key y ≡ key x) × (x < y))
 
-module _ (values : List ℕ) (small : All (λ v. v ≤ GREATEST) values) (keys : List ℕ) (is : keys ≡ map (λ v. GREATEST - v) values) where
-  many : length keys ≡ length values
-  many = ap length is ∙ length-map values (λ v. GREATEST - v)
-
-  key_is : (j : ℕ) → j < length values → at keys j ≡ GREATEST - at values j
-  key_is j l = ap (λ ks. at ks j) is ∙ get_or-map (λ v. GREATEST - v) values j 0 0 l
-
-  IsByFalling-lacks : (order : List ℕ) → IsPermutation (range_with_len 0 (length keys)) order
-      → AllPairs (λ a b. (at keys a < at keys b) ⊎ ((at keys a ≡ at keys b) × (a ≤ b))) order → IsByFalling (length values) (at values) order
-  IsByFalling-lacks order all rising = record {
-    all = subst (λ n. IsPermutation (range_with_len 0 n) order) many all;
-    falls = λ a b d l k. by (get_or order a d) (get_or order b d)
-        (within a d (omega (arith, l, k))) (within b d k) (OnceBelow-distinct (OnceBelow-from_permutation all) a b d l k) (rising a b d l k);
-  }
-    where
-      within : All (λ j. j < length values) order
-      within k d l = omega (arith, many, (OnceBelow-from_permutation all).within k d l)
-
-      by : (x y : ℕ) → x < length values → y < length values → x ≢ y → (at keys x < at keys y) ⊎ ((at keys x ≡ at keys y) × (x ≤ y)) → Falls (at values) x y
-      by x y p q n (inl l) = inl (omega (arith, l, key_is x p, key_is y q, small x 0 p, small y 0 q))
-      by x y p q n (inr l) = inr (omega (arith, l.0, key_is x p, key_is y q, small x 0 p, small y 0 q), omega (arith, l.1, n))
-
-pub by_lacks : {V E : Type 0} (values : List ℕ) (small : All (λ v. v ≤ GREATEST) values) (keys kept : List ℕ) (items : V → List ℕ)
-    → kept ≡ map (λ v. GREATEST - v) values → keys ≡ kept → (r : Result V E) → IfOk r (λ o. IsPermutation (range_with_len 0 (length keys)) (items o))
-    → IfOk r (λ o. AllPairs (λ a b. (at keys a < at keys b) ⊎ ((at keys a ≡ at keys b) × (a ≤ b))) (items o)) → IfOk r (λ o. IsByFalling (length values) (at values) (items o))
-by_lacks values small keys kept items e f (Ok o) p q = IsByFalling-lacks values small keys (f ∙ e) (items o) p q
-by_lacks values small keys kept items e f (Err x) p q = tt
-
 -- ---- numbers that are read of the jobs
 module _ (i : Instance) (f : Job → ℕ) (values kept : List ℕ) (is : kept ≡ map f i.jobs) (same : values ≡ kept) where
   pub values_many : length values ≡ length i.jobs
   values_many = ap length (same ∙ is) ∙ length-map i.jobs f
 
-  pub values_small : All (λ j. f j ≤ GREATEST) i.jobs → All (λ v. v ≤ GREATEST) values
-  values_small h = subst (All (λ v. v ≤ GREATEST)) (sym (same ∙ is)) (All-map (λ v. v ≤ GREATEST) f i.jobs h)
-
-  read : (order : List ℕ) → IsByFalling (length values) (at values) order → IsByFalling (length i.jobs) (λ j. f (job_at i j)) order
-  read order h = record {
-    all = subst (λ n. IsPermutation (range_with_len 0 n) order) values_many h.all;
-    falls = λ a b d l k. subst₂ (λ x y. (x < y) ⊎ ((x ≡ y) × (get_or order a d < get_or order b d)))
-        (value (get_or order b d) (within b d k)) (value (get_or order a d) (within a d (omega (arith, l, k)))) (h.falls a b d l k);
+  read : (order : List ℕ) → IsPermutation (range_with_len 0 (length values)) order → AllPairs (KeysFall (at values)) order → IsByFalling (length i.jobs) (λ j. f (job_at i j)) order
+  read order all falls = record {
+    all = subst (λ n. IsPermutation (range_with_len 0 n) order) values_many all;
+    falls = λ a b d l k. by (get_or order a d) (get_or order b d) (value (get_or order a d) (within a d (omega (arith, l, k)))) (value (get_or order b d) (within b d k))
+        (OnceBelow-distinct (OnceBelow-from_permutation all) a b d l k) (falls a b d l k);
   }
     where
       within : All (λ j. j < length i.jobs) order
-      within k d l = omega (arith, values_many, (OnceBelow-from_permutation h.all).within k d l)
+      within k d l = omega (arith, values_many, (OnceBelow-from_permutation all).within k d l)
 
       value : (j : ℕ) → j < length i.jobs → at values j ≡ f (job_at i j)
       value j l = ap (λ vs. at vs j) (same ∙ is) ∙ get_or-map f i.jobs j no_job 0 l
 
-  pub read_order : {V E : Type 0} (items : V → List ℕ) (r : Result V E)
-      → IfOk r (λ o. IsByFalling (length values) (at values) (items o)) → IfOk r (λ o. IsByFalling (length i.jobs) (λ j. f (job_at i j)) (items o))
-  read_order items (Ok o) h = read (items o) h
-  read_order items (Err x) h = tt
+      by : (x y : ℕ) → at values x ≡ f (job_at i x) → at values y ≡ f (job_at i y) → x ≢ y → KeysFall (at values) x y → Falls (λ j. f (job_at i j)) x y
+      by x y e g n (inl l) = inl (omega (arith, l, e, g))
+      by x y e g n (inr l) = inr (omega (arith, l.0, e, g), omega (arith, l.1, n))
+
+  pub read_order : {V E : Type 0} (items : V → List ℕ) (r : Result V E) → IfOk r (λ o. IsPermutation (range_with_len 0 (length values)) (items o))
+      → IfOk r (λ o. AllPairs (KeysFall (at values)) (items o)) → IfOk r (λ o. IsByFalling (length i.jobs) (λ j. f (job_at i j)) (items o))
+  read_order items (Ok o) all falls = read (items o) all falls
+  read_order items (Err x) all falls = tt
 
 -- ---- by places
 module _ (n : ℕ) (key : ℕ → ℕ) (order : List ℕ) (h : IsByFalling n key order) where

@@ -1,5 +1,5 @@
 -- What the instances of the classes have.
-use Rattle.std.proofs.Common.{◌≡◌, ℕ, ◌*◌, ◌<◌, ◌≤◌, Bool, true, false, not, [], length, get_or, All, pos, ◌≤ℤ◌, inl, inr, ◌⊎◌, sym, ap, subst, ◌∙◌, arith, slice_index_or}
+use Rattle.std.proofs.Common.{◌≡◌, ℕ, ◌*◌, ◌<◌, ◌≤◌, Bool, true, false, [], length, get_or, pos, ◌≤ℤ◌, inl, inr, ◌⊎◌, sym, ap, subst, ◌∙◌, arith}
 use Rattle.std.proofs.lemmas.Int.{ints}
 use Rattle.std.proofs.lemmas.List.{get_or_default}
 use Rattle.msp_class.specs.declared.sizes.TheConstants.{MOST_JOBS, MOST_MACHINES, GREATEST, GREATEST_EQUAL_TIME}
@@ -21,8 +21,21 @@ use Rattle.msp_pieces.proofs.lists.Places.{sum_by-places}
 use Rattle.msp_pieces.proofs.feasible.Frames.{IsShaped-from_identical, rate_on}
 use Rattle.msp_pieces.proofs.feasible.OfClass.{IsOfClass, IsOfClass-from}
 use Rattle.msp_route.specs.Bounds.{answer_unit}
+use Rattle.msp_route.proofs.Placed.{HasOperations}
 use Rattle.msp_cut_sums.specs.Sums.{cut_sum_class, cut_weights_class, open_weights_class, cut_open_weights_class}
-use Rattle.msp_cut_sums.proofs.Placed.{HasOperations}
+
+-- nothing is released later than at 0, operations have no route, and an answer may have the unit 1
+pub record HasFreeOperations (i : Instance) (ops : ℕ) : Type 0 where
+  pub operations : HasOperations i ops
+  pub mirror : is_mirror_kind (kind_of i.class.env) ≡ true
+  pub release : (j : ℕ) → j < length i.jobs → (job_at i j).release ≡ 0
+  pub unit : pos 1 ≤ℤ answer_unit (kind_of i.class.env)
+
+pub no_route : {i : Instance} {ops : ℕ} → HasFreeOperations i ops → is_mirror_kind (kind_of i.class.env) ≡ false → ⊥
+no_route h e = never (sym h.mirror ∙ e)
+  where
+    never : true ≡ false → ⊥
+    never e = cc
 
 -- ---- identical machines
 abbrev pub IsSumInstance : Instance → Type 0
@@ -31,14 +44,16 @@ IsSumInstance i = IsOfClass i cut_sum_class
 abbrev pub IsWeightsInstance : Instance → Type 0
 IsWeightsInstance i = IsOfClass i cut_weights_class
 
-pub HasOperations-identical : (i : Instance) → kind_of i.class.env ≡ Identical → i.arcs ≡ [] → ((j : ℕ) → j < length i.jobs → (job_at i j).release ≡ 0) → HasOperations i 1
-HasOperations-identical i kind arcs release = record {
-  shaped = IsShaped-from_identical i kind;
-  has = λ j o l h. first o (subst (λ k. HasOperation k i j o) kind h);
-  rate = λ j m. ap (λ k. rate_on k i j m) kind;
-  want = λ j o. ap (λ k. whole_work k i j o) kind;
-  unrouted = ap (λ k. not (is_mirror_kind k)) kind;
-  arcs = arcs;
+HasFreeOperations-identical : (i : Instance) → kind_of i.class.env ≡ Identical → i.arcs ≡ [] → ((j : ℕ) → j < length i.jobs → (job_at i j).release ≡ 0) → HasFreeOperations i 1
+HasFreeOperations-identical i kind arcs release = record {
+  operations = record {
+    shaped = IsShaped-from_identical i kind;
+    has = λ j o l h. first o (subst (λ k. HasOperation k i j o) kind h);
+    rate = λ j m. ap (λ k. rate_on k i j m) kind;
+    want = λ j o. ap (λ k. whole_work k i j o) kind;
+    arcs = arcs;
+  };
+  mirror = ap is_mirror_kind kind;
   release = release;
   unit = subst (λ k. pos 1 ≤ℤ answer_unit k) (sym kind) (omega (arith, ints));
 }
@@ -47,27 +62,21 @@ HasOperations-identical i kind arcs release = record {
     first o e = omega (arith, e)
 
 module _ (i : Instance) (h : IsSumInstance i) where
-  pub sum_operations : HasOperations i 1
-  sum_operations = HasOperations-identical i h.kind h.arcs (λ j l. (h.jobs j no_job l).release)
+  pub sum_operations : HasFreeOperations i 1
+  sum_operations = HasFreeOperations-identical i h.kind h.arcs (λ j l. (h.jobs j no_job l).release)
 
   pub sum_times : (j : ℕ) → j < length i.jobs → (1 ≤ time_at i j) × (time_at i j ≤ GREATEST)
   sum_times j l = let n = (h.jobs j no_job l).needs in n.times 0 no_need (omega (arith, n.shape.0))
 
-  pub sum_times_small : All (λ j. (slice_index_or j.needs 0 no_need).time ≤ GREATEST) i.jobs
-  sum_times_small k d l = let n = (h.jobs k d l).needs in (n.times 0 no_need (omega (arith, n.shape.0))).1
-
 module _ (i : Instance) (h : IsWeightsInstance i) where
-  pub weights_operations : HasOperations i 1
-  weights_operations = HasOperations-identical i h.kind h.arcs (λ j l. (h.jobs j no_job l).release)
+  pub weights_operations : HasFreeOperations i 1
+  weights_operations = HasFreeOperations-identical i h.kind h.arcs (λ j l. (h.jobs j no_job l).release)
 
   pub weights_time : (j : ℕ) → j < length i.jobs → time_at i j ≡ common_time i
   weights_time j l = (h.jobs j no_job l).times 0 no_need (omega (arith, (h.jobs j no_job l).needs.shape.0))
 
   pub weights_span : (1 ≤ common_time i) × (common_time i ≤ GREATEST_EQUAL_TIME)
   weights_span = let n = (h.jobs 0 no_job (omega (arith, h.some))).needs in n.times 0 no_need (omega (arith, n.shape.0))
-
-  pub weights_small : All (λ j. j.weight ≤ GREATEST) i.jobs
-  weights_small k d l = (h.jobs k d l).weight.1
 
 -- ---- open shops
 -- an open shop without arcs and release dates, whose operations all take one time
@@ -84,7 +93,6 @@ pub record IsEvenShop (i : Instance) : Type 0 where
   pub own : (j o : ℕ) → j < length i.jobs → o < i.machines → (need_at i j o).machine ≡ o
   pub time : (j o : ℕ) → j < length i.jobs → o < i.machines → (need_at i j o).time ≡ common_time i
   pub span : (1 ≤ common_time i) × (common_time i ≤ GREATEST_EQUAL_TIME)
-  pub weights : All (λ j. j.weight ≤ GREATEST) i.jobs
 
 even_shop : (i : Instance) (cut : Bool) (times : Times) → IsOfClass i (record cut_open_weights_class { cut = cut; times = times })
     → ((j o : ℕ) → j < length i.jobs → o < i.machines → (need_at i j o).time ≡ common_time i) → (1 ≤ common_time i) × (common_time i ≤ GREATEST_EQUAL_TIME) → IsEvenShop i
@@ -101,7 +109,6 @@ even_shop i cut times h time span = record {
   own = λ j o l b. let s = (h.jobs j no_job l).needs.shape in s.1 o (omega (arith, s.0, b));
   time = time;
   span = span;
-  weights = λ k d l. (h.jobs k d l).weight.1;
 }
 
 pub IsEvenShop-from : (i : Instance) → (i.class ≡ open_weights_class) ⊎ (i.class ≡ cut_open_weights_class) → Inner i → IsEvenShop i
@@ -127,14 +134,16 @@ module _ (i : Instance) (h : IsEvenShop i) where
   pub shop_is : is_shop i.class.env ≡ true
   shop_is = ap is_shop_kind h.kind
 
-  pub shop_operations : HasOperations i i.machines
+  pub shop_operations : HasFreeOperations i i.machines
   shop_operations = record {
-    shaped = record { unrelated = λ e. absurd (never (sym h.kind ∙ e)) };
-    has = λ j o l has. inside j o l (subst (λ k. HasOperation k i j o) h.kind has).0;
-    rate = λ j m. ap (λ k. rate_on k i j m) h.kind;
-    want = λ j o. ap (λ k. whole_work k i j o) h.kind;
-    unrouted = ap (λ k. not (is_mirror_kind k)) h.kind;
-    arcs = h.arcs;
+    operations = record {
+      shaped = record { unrelated = λ e. absurd (never (sym h.kind ∙ e)) };
+      has = λ j o l has. inside j o l (subst (λ k. HasOperation k i j o) h.kind has).0;
+      rate = λ j m. ap (λ k. rate_on k i j m) h.kind;
+      want = λ j o. ap (λ k. whole_work k i j o) h.kind;
+      arcs = h.arcs;
+    };
+    mirror = ap is_mirror_kind h.kind;
     release = h.release;
     unit = subst (λ k. pos 1 ≤ℤ answer_unit k) (sym h.kind) (omega (arith, ints));
   }

@@ -1,5 +1,4 @@
 mod InBlocks
-mod Placed
 mod Instances
 mod Room
 mod Summed

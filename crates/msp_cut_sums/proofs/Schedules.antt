@@ -7,21 +7,21 @@ use Rattle.msp_class.proofs.Quotients.{block_and_rest, rest_small, same_block}
 use Rattle.msp_instance.specs.declared.Instance.{Instance}
 use Rattle.msp_pieces.specs.declared.Piece.{Piece}
 use Rattle.msp_pieces.proofs.changes.Moves.{AllPairs-map}
+use Rattle.msp_route.proofs.Placed.{Places, piece_at, pieces_at, ArePlaced}
 use Rattle.msp_cut_sums.specs.Schedules.{part, round_piece}
 use Rattle.msp_cut_sums.specs.Pieces.{squared_piece}
-use Rattle.msp_cut_sums.proofs.Placed.{ArePlaced}
 
 -- the pieces of places, each with an operation of its own
-module _ (i : Instance) (ops N : ℕ) (job op machine from to : ℕ → ℕ) (placed : ArePlaced i ops N job op machine from to) where
-  pub placed_uncut : AllPairs (λ p q. p.job ≡ q.job → p.op ≢ q.op) (map (λ x. part (job x) (op x) (machine x) (from x) (to x)) (range_with_len 0 N))
-  placed_uncut = AllPairs-map (λ (p q : Piece). p.job ≡ q.job → p.op ≢ q.op) (λ x. part (job x) (op x) (machine x) (from x) (to x)) (range_with_len 0 N) apart
+module _ (i : Instance) (ops : ℕ) (ps : Places) (placed : ArePlaced i ops ps) where
+  pub placed_uncut : AllPairs (λ p q. p.job ≡ q.job → p.op ≢ q.op) (pieces_at ps)
+  placed_uncut = AllPairs-map (λ (p q : Piece). p.job ≡ q.job → p.op ≢ q.op) (piece_at ps) (range_with_len 0 ps.count) apart
     where
-      apart : AllPairs (λ x y. job x ≡ job y → op x ≢ op y) (range_with_len 0 N)
+      apart : AllPairs (λ x y. ps.job x ≡ ps.job y → ps.op x ≢ ps.op y) (range_with_len 0 ps.count)
       apart a b d l k e f =
-          let inside : b < N = omega (arith, k, length-range_with_len 0 N) in
-          let first : get_or (range_with_len 0 N) a d ≡ a = get_or-range_with_len 0 N a d (omega (arith, l, inside)) ∙ zero-add a in
-          let second : get_or (range_with_len 0 N) b d ≡ b = get_or-range_with_len 0 N b d inside ∙ zero-add b in
-          placed.once a b l inside (ap job (sym first) ∙ e ∙ ap job second) (ap op (sym first) ∙ f ∙ ap op second)
+          let inside : b < ps.count = omega (arith, k, length-range_with_len 0 ps.count) in
+          let first : get_or (range_with_len 0 ps.count) a d ≡ a = get_or-range_with_len 0 ps.count a d (omega (arith, l, inside)) ∙ zero-add a in
+          let second : get_or (range_with_len 0 ps.count) b d ≡ b = get_or-range_with_len 0 ps.count b d inside ∙ zero-add b in
+          placed.once a b l inside (ap ps.job (sym first) ∙ e ∙ ap ps.job second) (ap ps.op (sym first) ∙ f ∙ ap ps.op second)
 
 -- ---- round the machines
 module _ (m : ℕ) (some : 1 ≤ m) where

@@ -1,6 +1,6 @@
 -- Open shops whose operations take one time: by falling weight, m jobs go round m machines in m slots. The schedule, and what it costs.
 use Rattle.std.proofs.Common.{◌≡◌, ◌≢◌, ℕ, ◌+◌, ◌*◌, ◌-◌, ◌/◌, ◌%◌, ◌<◌, ◌≤◌, ◌⊎◌, inl, inr, List, length, pos, nat_abs, refl, sym, ap, ap₂, subst, ◌∙◌, arith}
-use Rattle.std.proofs.Math.Nat.{div-le_self, div-mul-le_self, mul-le-mul_right}
+use Rattle.std.proofs.Math.Nat.{div-le_self, mul-le-mul_right}
 use Rattle.std.proofs.lemmas.Nat.{mul-le}
 use Rattle.std.proofs.lemmas.Bool.{cases_lt}
 use Rattle.msp_class.specs.declared.sizes.TheConstants.{MOST_JOBS, MOST_MACHINES, GREATEST, GREATEST_EQUAL_TIME}
@@ -11,13 +11,14 @@ use Rattle.msp_instance.specs.Instance.{common_time, need_at}
 use Rattle.msp_pieces.specs.Feasible.{HasOperation, MayRun}
 use Rattle.msp_pieces.specs.Loads.{job_length}
 use Rattle.msp_pieces.proofs.bounds.LastEnds.{law_of_last_ends}
+use Rattle.msp_route.proofs.Turns.{turn_inside}
 use Rattle.msp_cut_sums.specs.Sums.{at, in_blocks, weight_at, IsByFalling}
 use Rattle.msp_cut_sums.specs.Schedules.{CutsNone, IsRoundSchedule}
 use Rattle.msp_cut_sums.specs.Pieces.{slot, squared}
 use Rattle.msp_cut_sums.proofs.Falling.{order_once, order_many, order_inside, order_falls, order_distinct}
 use Rattle.msp_cut_sums.proofs.InBlocks.{weights_bound}
-use Rattle.msp_cut_sums.proofs.Instances.{IsEvenShop, shop_is, shop_operations, shop_machines, shop_length}
-use Rattle.msp_cut_sums.proofs.Placed.{ArePlaced, placed_is_feasible, placed_is_within, placed_is_answer, placed_ends}
+use Rattle.msp_cut_sums.proofs.Instances.{IsEvenShop, no_route, shop_is, shop_operations, shop_machines, shop_length}
+use Rattle.msp_route.proofs.Placed.{Places, ArePlaced, placed_is_feasible, placed_is_within, placed_is_answer, placed_ends}
 use Rattle.msp_cut_sums.proofs.Rests.{rests_differ}
 use Rattle.msp_cut_sums.proofs.Schedules.{placed_uncut, round_pieces}
 use Rattle.msp_pieces.proofs.bounds.Room.{end_at}
@@ -96,11 +97,7 @@ module _ (i : Instance) (h : IsEvenShop i) (order : List ℕ) (sorted : IsByFall
 
   -- the place of a turn
   place_inside : (x : ℕ) → x < N → x / m < n
-  place_inside x l = by (cases_lt (x / m) n)
-    where
-      by : (x / m < n) ⊎ (n ≤ x / m) → x / m < n
-      by (inl b) = b
-      by (inr b) = absurd (omega (arith, l, ap (λ k. k * m) many, mul-le-mul_right m b, div-mul-le_self x m))
+  place_inside x l = turn_inside n m x (omega (arith, l, ap (λ k. k * m) many))
 
   on : (x : ℕ) → x % m < m
   on x = rest_small m x h.machine
@@ -132,7 +129,10 @@ module _ (i : Instance) (h : IsEvenShop i) (order : List ℕ) (sorted : IsByFall
   not_same : (x y : ℕ) → x < y → x ≡ y → ⊥
   not_same x y l e = omega (arith, l, e)
 
-  placed : ArePlaced i m N job (λ x. x % m) (λ x. x % m) from to
+  abbrev places : Places
+  places = record { count = N; job = job; op = λ x. x % m; machine = λ x. x % m; from = from; to = to }
+
+  placed : ArePlaced i m places
   placed = record {
     count = ap (λ k. k * m) many;
     few = omega (arith, mul-le (length order) m MOST_JOBS MOST_MACHINES (omega (arith, many, h.few)) h.machines);
@@ -146,6 +146,8 @@ module _ (i : Instance) (h : IsEvenShop i) (order : List ℕ) (sorted : IsByFall
     on_machine = λ x y l b e. apart (slot_at x) (slot_at y) time (λ s. not_same x y l (same_turn x y (slot_of_machine m h.machine (x / m) (y / m) (y % m) (ap (slot m (x / m)) (sym e) ∙ s)) e));
     of_job = λ x y l b e. let p = same_place x y (omega (arith, l, b)) b e in
         apart (slot_at x) (slot_at y) time (λ s. not_same x y l (same_turn x y p (slot_of_place m h.machine (y / m) (x % m) (y % m) (on x) (on y) (ap (λ k. slot m k (x % m)) (sym p) ∙ s))));
+    routed = λ e. absurd (no_route (shop_operations i h) e);
+    released = λ x l. omega (arith, h.release (job x) (inside x l));
     early = λ x l. early x l;
   }
     where
@@ -170,11 +172,10 @@ module _ (i : Instance) (h : IsEvenShop i) (order : List ℕ) (sorted : IsByFall
   pub squared_answer : IsSumAnswer i value (record { unit = pos 1; pieces = squared m time order })
   squared_answer = answered i (weight_at i) (IsSumOf-weights i h.crit) order (order_once n (weight_at i) order sorted) (squared m time order) value end
       (total_below-same n _ _ (λ k l. moved (weight_at i (at order k)) (k / m + 1) span))
-      (placed_is_feasible i m N job (λ x. x % m) (λ x. x % m) from to (shop_operations i h) placed)
-      (placed_is_within i m N job (λ x. x % m) (λ x. x % m) from to (shop_operations i h) placed)
-      (placed_is_answer i m N job (λ x. x % m) (λ x. x % m) from to (shop_operations i h) placed)
-      (λ r l. placed_ends i m N job (λ x. x % m) (λ x. x % m) from to
-      (shop_operations i h) placed (at order r) (end r) (λ x b e. ends x r (order_distinct n (weight_at i) order sorted (x / m) r (place_inside x b) l e)))
+      (placed_is_feasible i m places (shop_operations i h).operations placed)
+      (placed_is_within i m places (shop_operations i h).operations placed)
+      (placed_is_answer i m places (shop_operations i h).operations placed (shop_operations i h).unit)
+      (λ r l. placed_ends i m places (shop_operations i h).operations placed (at order r) (end r) (λ x b e. ends x r (order_distinct n (weight_at i) order sorted (x / m) r (place_inside x b) l e)))
       (λ t f. weights_bound n m (nat_abs t.unit) (λ r. job_length i (at order r)) (λ r. end_at t (at order r)) h.machine
       (room_in_order i t f (job_length i) (λ test moment. law_of_last_ends.shops i t test moment (shop_is i h) (shop_machines i h) f) order (order_once n (weight_at i) order sorted))
       span (λ r l. shop_length i h (at order r) (order_inside n (weight_at i) order sorted r l)) (λ k. weight_at i (at order k)) (order_falls n (weight_at i) order sorted))
@@ -192,4 +193,4 @@ module _ (i : Instance) (h : IsEvenShop i) (order : List ℕ) (sorted : IsByFall
   squared_schedule = record { order = order; falls = sorted; unit = refl; pieces = round_pieces m h.machine time n N order place_inside }
 
   pub squared_uncut : CutsNone (record { unit = pos 1; pieces = squared m time order })
-  squared_uncut = placed_uncut i m N job (λ x. x % m) (λ x. x % m) from to placed
+  squared_uncut = placed_uncut i m places placed

@@ -17,8 +17,8 @@ use Rattle.msp_cut_sums.specs.Schedules.{AreEnds, CutsNone, stacked_piece, IsSta
 use Rattle.msp_cut_sums.specs.Pieces.{stacked}
 use Rattle.msp_cut_sums.proofs.Falling.{order_once, order_many, order_inside, order_falls, order_distinct}
 use Rattle.msp_cut_sums.proofs.InBlocks.{in_blocks-step, times_bound}
-use Rattle.msp_cut_sums.proofs.Instances.{IsSumInstance, sum_operations, sum_times}
-use Rattle.msp_cut_sums.proofs.Placed.{ArePlaced, placed_is_feasible, placed_is_within, placed_is_answer, placed_ends}
+use Rattle.msp_cut_sums.proofs.Instances.{IsSumInstance, no_route, sum_operations, sum_times}
+use Rattle.msp_route.proofs.Placed.{Places, ArePlaced, placed_is_feasible, placed_is_within, placed_is_answer, placed_ends}
 use Rattle.msp_cut_sums.proofs.Rests.{blocks_rise}
 use Rattle.msp_cut_sums.proofs.Schedules.{placed_uncut}
 use Rattle.msp_pieces.proofs.bounds.Room.{end_at}
@@ -103,7 +103,10 @@ module _ (i : Instance) (h : IsSumInstance i) (order : List ℕ) (sorted : IsByF
           by : (d : ℕ) → q ≡ p + 1 + d → x + m + d * m ≡ y
           by d w = omega (arith, e, f, g, ap (λ z. z * m) w)
 
-  placed : ArePlaced i 1 (length order) (at order) (λ k. 0) (λ k. k % m) (λ k. at ends (k + m)) (at ends)
+  abbrev places : Places
+  places = record { count = length order; job = at order; op = λ k. 0; machine = λ k. k % m; from = λ k. at ends (k + m); to = at ends }
+
+  placed : ArePlaced i 1 places
   placed = record {
     count = omega (arith, many);
     few = omega (arith, many, h.few);
@@ -116,6 +119,8 @@ module _ (i : Instance) (h : IsSumInstance i) (order : List ℕ) (sorted : IsByF
     some = λ x l. (sum_times i h (at order x) (order_inside n (time_at i) order sorted x (omega (arith, l, many)))).0;
     on_machine = λ x y l b e. inr (later_ends x y l e);
     of_job = λ x y l b e. absurd (differ x y l b e);
+    routed = λ e. absurd (no_route (sum_operations i h) e);
+    released = λ x l. omega (arith, (sum_operations i h).release (at order x) (order_inside n (time_at i) order sorted x (omega (arith, l, many))));
     early = λ x l. omega (arith, small x 0 (omega (arith, l, many, ends_many)));
   }
     where
@@ -137,11 +142,10 @@ module _ (i : Instance) (h : IsSumInstance i) (order : List ℕ) (sorted : IsByF
   pub stacked_answer : IsSumAnswer i value (record { unit = pos 1; pieces = stacked m order ends })
   stacked_answer = answered i (λ _. 1) (IsSumOf-ones i h.crit) order (order_once n (time_at i) order sorted) (stacked m order ends) value (at ends)
       (ones (at ends) ∙ ends_by_blocks n n m (λ k. time_at i (at order k)) (at ends) h.machine (omega arith) end_is no_end)
-      (placed_is_feasible i 1 (length order) (at order) (λ k. 0) (λ k. k % m) (λ k. at ends (k + m)) (at ends) (sum_operations i h) placed)
-      (placed_is_within i 1 (length order) (at order) (λ k. 0) (λ k. k % m) (λ k. at ends (k + m)) (at ends) (sum_operations i h) placed)
-      (placed_is_answer i 1 (length order) (at order) (λ k. 0) (λ k. k % m) (λ k. at ends (k + m)) (at ends) (sum_operations i h) placed)
-      (λ r l. placed_ends i 1 (length order) (at order) (λ k. 0) (λ k. k % m) (λ k. at ends (k + m)) (at ends)
-      (sum_operations i h) placed (at order r) (at ends r) (λ x b e. same x r (order_distinct n (time_at i) order sorted x r (omega (arith, b, many)) l e)))
+      (placed_is_feasible i 1 places (sum_operations i h).operations placed)
+      (placed_is_within i 1 places (sum_operations i h).operations placed)
+      (placed_is_answer i 1 places (sum_operations i h).operations placed (sum_operations i h).unit)
+      (λ r l. placed_ends i 1 places (sum_operations i h).operations placed (at order r) (at ends r) (λ x b e. same x r (order_distinct n (time_at i) order sorted x r (omega (arith, b, many)) l e)))
       (λ t f. subst (λ x. nat_abs t.unit * value ≤ x) (sym (ones (λ r. end_at t (at order r))))
       (times_bound n m (nat_abs t.unit) (λ r. time_at i (at order r)) (λ r. end_at t (at order r)) h.machine
       (room_in_order i t f (time_at i) (λ test moment. law_of_last_ends.machines i t test moment h.kind f) order (order_once n (time_at i) order sorted))
@@ -154,4 +158,4 @@ module _ (i : Instance) (h : IsSumInstance i) (order : List ℕ) (sorted : IsByF
   stacked_schedule = record { order = order; ends = ends; falls = sorted; are = are; unit = refl; pieces = ap (λ k. map (stacked_piece m order ends) (range_with_len 0 k)) many }
 
   pub stacked_uncut : CutsNone (record { unit = pos 1; pieces = stacked m order ends })
-  stacked_uncut = placed_uncut i 1 (length order) (at order) (λ k. 0) (λ k. k % m) (λ k. at ends (k + m)) (at ends) placed
+  stacked_uncut = placed_uncut i 1 places placed

@@ -1,12 +1,9 @@
--- What the loops keep: the ends from the last place on, and the pieces so far.
-use Rattle.std.proofs.Common.{◌≡◌, ℕ, ◌+◌, ◌*◌, ◌-◌, ◌/◌, ◌<◌, ◌≤◌, ◌⊎◌, inl, inr, List, [], ◌∷◌, ◌++◌, length, map, All, set, sym, ap, subst, ◌∙◌, arith, zero-add}
-use Rattle.std.specs.List.{range_with_len}
+-- What the loop keeps: the ends from the last place on.
+use Rattle.std.proofs.Common.{◌≡◌, ℕ, ◌+◌, ◌*◌, ◌-◌, ◌<◌, ◌≤◌, ◌⊎◌, inl, inr, List, length, All, set, sym, ap, subst, ◌∙◌, arith}
 use Rattle.std.proofs.lemmas.Bool.{cases_lt}
 use Rattle.std.proofs.lemmas.List.{length-set, get_or-set_same, get_or-set_other}
 use Rattle.std.proofs.lemmas.List.Elements.{All-set}
-use Rattle.std.proofs.lemmas.List.FromFn.{map-range_with_len_more}
 use Rattle.std.proofs.Math.ListN.{get_or-eq_default}
-use Rattle.std.proofs.Math.Nat.{div-mul-le_self, mul-le-mul_right}
 use Rattle.msp_class.specs.declared.sizes.TheConstants.{GREATEST}
 use Rattle.msp_cut_sums.specs.Sums.{at}
 
@@ -60,15 +57,3 @@ module _ (m back : ℕ) (times ends : List ℕ) (some : 1 ≤ m) (inside : back 
             where
               same : place ≡ k
               same = omega (arith, o, l, inside)
-
--- ---- pieces of one place more
-pub pieces_next : {X : Type 0} (make : ℕ → X) (k : ℕ) (old new : List X) → new ≡ old ++ make k ∷ [] → old ≡ map make (range_with_len 0 k) → new ≡ map make (range_with_len 0 (k + 1))
-pieces_next make k old new e is = e ∙ ap (λ l. l ++ make k ∷ []) is ∙ sym (map-range_with_len_more make 0 k k (zero-add k))
-
--- ---- turns
-pub turn_inside : (n m turn : ℕ) → turn < n * m → turn / m < n
-turn_inside n m turn l = by (cases_lt (turn / m) n)
-  where
-    by : (turn / m < n) ⊎ (n ≤ turn / m) → turn / m < n
-    by (inl b) = b
-    by (inr b) = absurd (omega (arith, l, mul-le-mul_right m b, div-mul-le_self turn m))

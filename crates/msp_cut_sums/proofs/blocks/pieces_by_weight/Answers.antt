@@ -4,11 +4,8 @@ use Rattle.msp_pieces.proofs.feasible.OfClass.{IsOfClass-from}
 use Rattle.msp_cut_sums.specs.Sums.{cut_weights_class, weight_at}
 use Rattle.msp_cut_sums.specs.Pieces.{blocked}
 use Rattle.msp_cut_sums.proofs.Falling.{order_many}
-use Rattle.msp_cut_sums.proofs.Instances.{weights_span, weights_small}
+use Rattle.msp_cut_sums.proofs.Instances.{weights_span}
 use Rattle.msp_cut_sums.proofs.blocks.pieces_by_weight.Goals as goal
-
-pub jobs_by_weight-requires-clause-small : goal.jobs_by_weight-requires-clause-small
-jobs_by_weight-requires-clause-small c = weights_small c.args.inst.now (IsOfClass-from c.args.inst.now cut_weights_class c.requires.class c.requires.inner)
 
 pub blocked_pieces-requires-clause-few : goal.blocked_pieces-requires-clause-few
 blocked_pieces-requires-clause-few c =

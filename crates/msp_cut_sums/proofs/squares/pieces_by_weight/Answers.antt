@@ -6,9 +6,6 @@ use Rattle.msp_cut_sums.proofs.Falling.{order_many}
 use Rattle.msp_cut_sums.proofs.Instances.{IsEvenShop-from}
 use Rattle.msp_cut_sums.proofs.squares.pieces_by_weight.Goals as goal
 
-pub jobs_by_weight-requires-clause-small : goal.jobs_by_weight-requires-clause-small
-jobs_by_weight-requires-clause-small c = (IsEvenShop-from c.args.inst.now c.requires.class c.requires.inner).weights
-
 pub squared_pieces-requires-clause-few : goal.squared_pieces-requires-clause-few
 squared_pieces-requires-clause-few c =
     let i = c.args.inst.now in

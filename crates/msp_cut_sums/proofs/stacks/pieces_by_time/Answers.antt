@@ -9,11 +9,8 @@ use Rattle.msp_cut_sums.specs.Sums.{cut_sum_class}
 use Rattle.msp_cut_sums.specs.Schedules.{AreEnds}
 use Rattle.msp_cut_sums.specs.Pieces.{stacked}
 use Rattle.msp_cut_sums.proofs.Falling.{order_once, order_many}
-use Rattle.msp_cut_sums.proofs.Instances.{sum_times, sum_times_small}
+use Rattle.msp_cut_sums.proofs.Instances.{sum_times}
 use Rattle.msp_cut_sums.proofs.stacks.pieces_by_time.Goals as goal
-
-pub jobs_by_time-requires-clause-small : goal.jobs_by_time-requires-clause-small
-jobs_by_time-requires-clause-small c = sum_times_small c.args.inst.now (IsOfClass-from c.args.inst.now cut_sum_class c.requires.class c.requires.inner)
 
 pub times_in-requires : goal.times_in-requires
 times_in-requires c =
