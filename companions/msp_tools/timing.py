@@ -1,0 +1,205 @@
+"""Timing: how an order of jobs becomes a schedule, in three named ways, how pieces move early, and how an order is read where work may be cut.
+
+- `list`: at the earliest moment at which a machine is free and a job can begin, the first such job of the order begins, on the free machine
+  of least number. The order may name a job before one that it comes after.
+- `serial`: in the order, each job as early as the ones in front of it allow; a machine may wait. On one machine and on machines that are
+  alike some order gives a best schedule.
+- `active`, in shops: of all operations that could begin before the earliest end of one on its machine, that of the first job begins.
+- `early`: pieces keep their order, machines and lengths, and each moves as early as it can. No job ends later.
+
+On machines that are not alike a job goes where it ends first. Where work may be cut, the first jobs of the order run from each end and each
+release date on.
+"""
+from __future__ import annotations
+
+from bisect import bisect_right, insort
+from fractions import Fraction
+from heapq import heapify, heappop, heappush
+from typing import Callable, Dict, Iterable, Iterator, List, Sequence, Tuple
+
+from .problems import Order, Placed, Problem, Step
+from .schedules import Piece
+from .texts import Instance
+
+Choice = Callable[[int, Step, int], Tuple[float, ...]]  # (of a job, its operation and a moment: the least goes first)
+
+
+def early(pieces: Iterable[Piece], instance: Instance) -> list[Piece]:
+    """The pieces, each as early as the pieces before it on its machine and of its job allow, its release date, and the ends of the jobs that it
+    comes after."""
+    before: Dict[str, List[str]] = {}
+    for first, then in instance.arcs:
+        before.setdefault(then, []).append(first)
+    machines: Dict[int, Fraction] = {}
+    jobs = {it.name: Fraction(it.release_date) for it in instance.jobs}
+    found = []
+    for it in sorted(pieces, key=lambda it: (it.start, it.end)):
+        start = max([machines.get(it.machine, Fraction(0)), jobs[it.job], *(jobs[other] for other in before.get(it.job, []))])
+        end = start + it.end - it.start
+        machines[it.machine] = jobs[it.job] = end
+        found.append(Piece(it.job, it.operation, it.machine, start, end, it.line))
+    return found
+
+
+def allowed(problem: Problem, order: Sequence[int]) -> Order:
+    """The order in which each job stands behind those that it comes after: the first job of the order that may go next, always."""
+    if not problem.bound:
+        return list(order)
+    places = {job: at for at, job in enumerate(order)}
+    waits = [len(it) for it in problem.before]
+    ready = [places[job] for job in order if not waits[job]]
+    heapify(ready)
+    found: Order = []
+    while ready:
+        job = order[heappop(ready)]
+        found.append(job)
+        for other in problem.after[job]:
+            waits[other] -= 1
+            if not waits[other]:
+                heappush(ready, places[other])
+    return found
+
+
+# One operation for each job
+
+def by_places(order: Sequence[int]) -> Choice:
+    """The choice that an order makes: the job that stands first, and of its operations that on the machine of least number."""
+    places = {job: at for at, job in enumerate(order)}
+    return lambda job, step, now: (places[job], step.machine)
+
+
+def listed(problem: Problem, order: Sequence[int]) -> list[Placed]:
+    """The schedule of an order by `list`."""
+    return chosen(problem, by_places(order))
+
+
+def soonest(free: Sequence[int], times: Sequence[int], now: int) -> int:
+    """The machine on which a job ends first that may begin now, by when the machines are free, and its times on them."""
+    return min(range(len(free)), key=lambda it: max(free[it], now) + times[it])
+
+
+def chosen(problem: Problem, choice: Choice) -> list[Placed]:
+    """The schedule in which a choice says what begins at the earliest moment at which something can."""
+    if problem.shop:
+        return dispatched(problem, choice, False)
+    free, now = [0] * problem.machines, list(problem.release)
+    waits = [len(it) for it in problem.before]
+    steps = [Step(1, 0, min(it)) for it in problem.times]
+    there = {job for job in range(problem.count) if not waits[job]}
+    found = []
+    while there:
+        first = max(min(free), min(now[it] for it in there))
+        job = min((it for it in there if now[it] <= first), key=lambda it: choice(it, steps[it], first))
+        times = problem.times[job]
+        at = next(it for it in range(problem.machines) if free[it] <= first) if problem.alike else soonest(free, times, first)
+        start = max(free[at], first)
+        free[at] = start + times[at]
+        found.append(Placed(job, 1, at, start, free[at]))
+        there.remove(job)
+        for other in problem.after[job]:
+            waits[other] -= 1
+            now[other] = max(now[other], free[at])
+            if not waits[other]:
+                there.add(other)
+    return found
+
+
+def serial(problem: Problem, order: Sequence[int]) -> list[Placed]:
+    """The schedule of an order by `serial`."""
+    if problem.shop:
+        return serial_shop(problem, allowed(problem, order))
+    free = [(0, at) for at in range(problem.machines)]
+    ends, found = [0] * problem.count, []
+    for job in allowed(problem, order):
+        now = max([problem.release[job], *(ends[it] for it in problem.before[job])])
+        times = problem.times[job]
+        if problem.alike:
+            # (of the machines that are free by then the last one, so that the others can take what begins earlier)
+            place = max(bisect_right(free, (now, problem.machines)) - 1, 0)
+        else:
+            begins = [begin for begin, _ in sorted(free, key=lambda it: it[1])]
+            place = [at for _, at in free].index(soonest(begins, times, now))
+        before, at = free.pop(place)
+        start = max(before, now)
+        ends[job] = start + times[at]
+        insort(free, (ends[job], at))
+        found.append(Placed(job, 1, at, start, ends[job]))
+    return found
+
+
+# Shops
+
+def serial_shop(problem: Problem, order: Order) -> list[Placed]:
+    """The schedule of a shop, one job behind another; in an open shop the operation goes next that can begin first."""
+    free, ends, found = [0] * problem.machines, [0] * problem.count, []
+    for job in order:
+        now = max([problem.release[job], *(ends[it] for it in problem.before[job])])
+        rest = list(problem.steps[job])
+        while rest:
+            step = rest[0]
+            if problem.open:
+                step = min((max(free[it.machine], now), -it.time, it) for it in rest)[2]
+            rest.remove(step)
+            start = max(free[step.machine], now)
+            now = free[step.machine] = start + step.time
+            found.append(Placed(job, step.number, step.machine, start, now))
+        ends[job] = now
+    return found
+
+
+class Shop:
+    """A shop whose operations are placed one after another: what may go next, and when it could begin."""
+
+    def __init__(self, problem: Problem) -> None:
+        self.problem = problem
+        self.free = [0] * problem.machines
+        self.now = list(problem.release)
+        self.rest = [list(it) for it in problem.steps]
+        self.waits = [len(it) for it in problem.before]
+        self.there = [job for job in range(problem.count) if not self.waits[job]]
+
+    def next(self) -> Iterator[tuple[int, Step, int]]:
+        """The operations that may go next: a job, the operation, and when it could begin."""
+        free, open_shop = self.free, self.problem.open
+        for job in self.there:
+            now = self.now[job]
+            for step in self.rest[job] if open_shop else self.rest[job][:1]:
+                begin = free[step.machine]
+                yield job, step, begin if begin > now else now
+
+    def place(self, job: int, step: Step, start: int) -> Placed:
+        """Places an operation."""
+        end = start + step.time
+        self.free[step.machine] = self.now[job] = end
+        self.rest[job].remove(step)
+        if not self.rest[job]:
+            self.there.remove(job)
+            for other in self.problem.after[job]:
+                self.waits[other] -= 1
+                self.now[other] = max(self.now[other], end)
+                if not self.waits[other]:
+                    self.there.append(other)
+        return Placed(job, step.number, step.machine, start, end)
+
+
+def dispatched(problem: Problem, choice: Choice, delays: bool) -> list[Placed]:
+    """The schedule of a shop in which a choice decides what goes next: of what could begin first, or with delays by `active`."""
+    shop, found = Shop(problem), []
+    while shop.there:
+        those = list(shop.next())
+        if delays:
+            end, machine = min((start + step.time, step.machine) for _, step, start in those)
+            those = [it for it in those if it[1].machine == machine and it[2] < end]
+        else:
+            first = min(start for _, _, start in those)
+            those = [it for it in those if it[2] == first]
+        found.append(shop.place(*min(those, key=lambda it: choice(*it))))
+    return found
+
+
+def active(problem: Problem, order: Sequence[int]) -> list[Placed]:
+    """The schedule of an order by `active`."""
+    return dispatched(problem, by_places(order), True)
+
+
+TIMINGS: Dict[str, Callable[[Problem, Sequence[int]], List[Placed]]] = {"list": listed, "serial": serial, "active": active}
