@@ -270,21 +270,6 @@ def times_by_machine(job: Job, given: Instance) -> list[int]:
     return found
 
 
-def any_order(kind: ClassName) -> ClassName | None:
-    """An open shop for a flow or a job shop; for the latter one that may be cut."""
-    if kind.kind not in "FJ":
-        return None
-    to = replace(kind, environment="O" + kind.environment[1:])
-    return to if kind.kind == "F" else with_item(without(to, "p=1", "p=p", "n<=2"), "pmtn")
-
-
-def in_any_order(given: Instance) -> Instance:
-    """Operations go in any order; those of a job on one machine are one."""
-    if given.kind.kind == "F":
-        return given
-
-    return replace(each(given, lambda job: {"times": times_by_machine(job, given), "route": []}), time=None)
-
 
 # Precedence
 
@@ -475,7 +460,6 @@ STEPS = {it.name: it for it in (
     Loosening("fastest", "each machine as fast as the fastest", fastest, all_fastest,
               lambda cost, given: divided(cost, given, max(given.speeds))),
     Loosening("least-times", "each job takes its least time on every machine", least_times, of_least_times),
-    Loosening("any-order", "operations in any order", any_order, in_any_order),
     Loosening("heads", "release dates raised along the arcs", heads, with_heads, fits=has_arcs),
     Loosening("tails", "due dates lowered along the arcs", tails, with_tails, fits=has_arcs),
     Loosening("least-weight", "all weights the least one", other(*LEAST_WEIGHT), as_it_is, lambda cost, given: cost * least_weight(given)),
