@@ -267,3 +267,12 @@ def bounds_of(instance: Instance, program: Program | None = None, tell: Tell = s
         if key not in found or len(found[key].steps) > len(bound.steps):
             found[key] = bound
     return tuple(sorted(found.values(), key=lambda it: (-it.value, it.word != "proved", len(it.steps))))
+
+
+def of_each_class(bounds: Sequence[Bound]) -> Iterator[Bound]:
+    """The first of the bounds of each class that was solved, and of each kind of certificate."""
+    seen: set[str] = set()
+    for bound in bounds:
+        if bound.solved not in seen:
+            seen.add(bound.solved)
+            yield bound

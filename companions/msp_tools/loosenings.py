@@ -453,7 +453,7 @@ GREATEST_COST = ("sumU Lmax", "sumT Lmax", "sumwU fmax", "sumwT fmax")
 STEPS = {it.name: it for it in (
     Loosening("cut", "jobs may be cut", cut),
     Loosening("no-precedence", "precedence left out", no_precedence, lambda given: replace(given, arcs=[])),
-    Loosening("no-release", "all jobs are there at the least release date", no_release, from_first, after_first),
+    Loosening("no-release", "release dates left out but for the least one", no_release, from_first, after_first),
     Loosening("equal", "each operation takes the least time of all", equal, of_least_time, fits=has_equal),
     Loosening("unit", "time in units of the shared time, release dates rounded down and due dates up", unit, in_units, by_units),
     Loosening("one-machine", "one machine, as fast as all of them", one_machine, fast, from_fast),
