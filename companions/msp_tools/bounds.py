@@ -151,11 +151,11 @@ class Finder:
             return
         yield from self.one_job(first)
         for one in self.ways(first, *CRITERIA.get(self.given.kind.criterion, ())):
-            for two in self.ways(one, *(["fastest"] if self.given.kind.precedence else []), "least-times", "any-order"):
+            for two in self.ways(one, *(["fastest"] if self.given.kind.precedence else []), "least-times"):
                 dated = self.with_dates(two)
                 for three in [two, dated] if dated.steps != two.steps else [two]:
                     yield from self.left_out(three)
-                for three in self.in_shop(dated) if two.steps == one.steps else ():
+                for three in self.in_shop(dated):
                     yield from self.left_out(three)
 
 
@@ -244,15 +244,18 @@ def by_slots(given: Instance) -> Iterator[Instance]:
 
 
 def by_certificates(program: Program, given: Instance) -> Iterator[Bound]:
-    """The bounds that `accept` takes on the instance itself."""
-    for it in certified(given):
+    """The bounds that `accept` takes on the instance itself; or, of lateness on one machine, on it with the lateness as a curve."""
+    curved = STEPS["curves"].made(given) if (given.kind.kind, given.kind.criterion) == ("1", "Lmax") else None
+    steps = (Step("curves", STEPS["curves"].words, curved.text()),) if curved else ()
+    judged = curved or given
+    for it in certified(judged):
         status, report, _ = program.call(["certify"], it.text())
         if status == 0:
             text = report[report.index("certificate\n"):]
-            said = program.call(["accept"], given.text() + text)
+            said = program.call(["accept"], judged.text() + text)
             found = dict(line.split(" ", 1) for line in said.report.splitlines() if " " in line)
             if said.status == 0 and found["accepted"] == "yes":
-                yield Bound(fraction(found["bound"], "bound"), (), found["kind"], "proved", text)
+                yield Bound(fraction(found["bound"], "bound"), steps, found["kind"], "argued" if steps else "proved", text)
 
 
 def bounds_of(instance: Instance, program: Program | None = None, tell: Tell = silent) -> tuple[Bound, ...]:
@@ -264,3 +267,12 @@ def bounds_of(instance: Instance, program: Program | None = None, tell: Tell = s
         if key not in found or len(found[key].steps) > len(bound.steps):
             found[key] = bound
     return tuple(sorted(found.values(), key=lambda it: (-it.value, it.word != "proved", len(it.steps))))
+
+
+def of_each_class(bounds: Sequence[Bound]) -> Iterator[Bound]:
+    """The first of the bounds of each class that was solved, and of each kind of certificate."""
+    seen: set[str] = set()
+    for bound in bounds:
+        if bound.solved not in seen:
+            seen.add(bound.solved)
+            yield bound

@@ -270,21 +270,6 @@ def times_by_machine(job: Job, given: Instance) -> list[int]:
     return found
 
 
-def any_order(kind: ClassName) -> ClassName | None:
-    """An open shop for a flow or a job shop; for the latter one that may be cut."""
-    if kind.kind not in "FJ":
-        return None
-    to = replace(kind, environment="O" + kind.environment[1:])
-    return to if kind.kind == "F" else with_item(without(to, "p=1", "p=p", "n<=2"), "pmtn")
-
-
-def in_any_order(given: Instance) -> Instance:
-    """Operations go in any order; those of a job on one machine are one."""
-    if given.kind.kind == "F":
-        return given
-
-    return replace(each(given, lambda job: {"times": times_by_machine(job, given), "route": []}), time=None)
-
 
 # Precedence
 
@@ -468,14 +453,13 @@ GREATEST_COST = ("sumU Lmax", "sumT Lmax", "sumwU fmax", "sumwT fmax")
 STEPS = {it.name: it for it in (
     Loosening("cut", "jobs may be cut", cut),
     Loosening("no-precedence", "precedence left out", no_precedence, lambda given: replace(given, arcs=[])),
-    Loosening("no-release", "all jobs are there at the least release date", no_release, from_first, after_first),
+    Loosening("no-release", "release dates left out but for the least one", no_release, from_first, after_first),
     Loosening("equal", "each operation takes the least time of all", equal, of_least_time, fits=has_equal),
     Loosening("unit", "time in units of the shared time, release dates rounded down and due dates up", unit, in_units, by_units),
     Loosening("one-machine", "one machine, as fast as all of them", one_machine, fast, from_fast),
     Loosening("fastest", "each machine as fast as the fastest", fastest, all_fastest,
               lambda cost, given: divided(cost, given, max(given.speeds))),
     Loosening("least-times", "each job takes its least time on every machine", least_times, of_least_times),
-    Loosening("any-order", "operations in any order", any_order, in_any_order),
     Loosening("heads", "release dates raised along the arcs", heads, with_heads, fits=has_arcs),
     Loosening("tails", "due dates lowered along the arcs", tails, with_tails, fits=has_arcs),
     Loosening("least-weight", "all weights the least one", other(*LEAST_WEIGHT), as_it_is, lambda cost, given: cost * least_weight(given)),

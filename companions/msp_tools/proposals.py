@@ -51,6 +51,7 @@ class Proposal:
     pieces: List[Piece]
     candidates: List[Candidate] = field(default_factory=list)
     interrupted: bool = False
+    bounds: Sequence[Bound] = field(default=(), repr=False)
 
     def text(self) -> str:
         """The report: lines on cost and bound, and the schedule text."""
@@ -219,7 +220,7 @@ class Planner:
         bound = next(iter(bounds), None)
         gap = None if bound is None else cost - bound.value
         word = bound.word if bound is not None and gap == 0 else "open"
-        return Proposal(self.instance, str(self.instance.kind), cost, name, bound, gap, word, pieces, self.candidates(), self.interrupted)
+        return Proposal(self.instance, str(self.instance.kind), cost, name, bound, gap, word, pieces, self.candidates(), self.interrupted, bounds)
 
     def candidates(self) -> List[Candidate]:
         """What was tried, the best first."""

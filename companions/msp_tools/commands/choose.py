@@ -5,12 +5,13 @@ import re
 import sys
 from dataclasses import dataclass, field
 
+from ..bounds import Bound, bounds_of, of_each_class
 from ..classes import ClassName
 from ..faults import Misfit
 from ..files import need_file, read_text
 from ..literature import lines_of
 from ..naming import Meaning, Variant, meaning_in_words, meaning_of
-from ..nearby import Bound, Near, Served, Solver, bounding, bounds_for, schedules_for, serving, solver_of
+from ..nearby import Near, Served, Solver, bounding, schedules_for, serving, solver_of
 from ..program import Program, need_program
 from ..texts import Instance, read_instance_at
 from ..units import Units, UnitWords
@@ -40,6 +41,7 @@ QUESTIONS = (("environment", "machines: 1, P (identical), Q (uniform), R (unrela
              ("releases", "release dates? yes or no"), ("times", "times: any, equal or unit"),
              ("criterion", "criterion: Cmax, Lmax, fmax, sumC, sumwC, sumU, sumwU, sumT or sumwT"))
 YES, NO = ("y", "yes", "j", "ja", "oui"), ("n", "no", "nein", "non")
+MOST_BOUNDS = 5
 TIMES: dict[str, list[str]] = {"any": [], "": [], "equal": ["p=p"], "unit": ["p=1"]}
 
 
@@ -130,7 +132,7 @@ def found_of(program: Program, kind: ClassName, results: str, given: Instance | 
     why = program.report(["why", str(kind)], results).report.splitlines()[:-1]
     found = Found(str(kind), why, solver_of(program, kind))
     if found.solver is None and given:
-        found.bounds, found.schedules = bounds_for(program, given), schedules_for(program, given)
+        found.bounds, found.schedules = list(of_each_class(bounds_of(given, program)))[:MOST_BOUNDS], schedules_for(program, given)
     elif found.solver is None:
         found.bounding, found.serving = bounding(program, kind), serving(program, kind)
     return found
@@ -175,7 +177,8 @@ def show_instance(found: Found, given: Instance, units: Units) -> None:
     criterion = given.kind.criterion
     print(f"lower bounds, by relaxation, {counted}:" if found.bounds else "lower bounds, by relaxation: none near by")
     for bound in found.bounds:
-        print(f"  at least {units.cost(bound.cost, criterion)}    {bound.near.name}    {', '.join(bound.near.moves)}")
+        by = bound.solved if "|" in bound.solved else f"certificate of the kind {bound.solved}"
+        print(f"  at least {units.cost(bound.value, criterion)}    {bound.word}    {'    '.join([by, *filter(None, [', '.join(it.words for it in bound.steps)])])}")
     print(f"schedules that fit, by check, {counted}:" if found.schedules else "schedules that fit, by check: none near by")
     for served in found.schedules:
         print(f"  cost {units.cost(served.cost, criterion)}    {served.near.name}    {', '.join(served.near.moves)}")

@@ -4,11 +4,12 @@ from __future__ import annotations
 from dataclasses import dataclass, field
 from typing import List
 
+from ..evidence import write_evidence
+from ..files import read_text
 from ..numbers import said
 from ..program import need_program
 from ..proposals import Candidate, Proposal, Search, candidates_of, proposal_of
-from ..schedules import read_schedule
-from ..files import read_text
+from ..schedules import read_schedule, text_of
 from ..texts import Instance, read_instance, read_instance_at
 from ..units import Units, UnitWords
 from .frame import Command, Parser, Tell, add_program, positive
@@ -44,6 +45,7 @@ class Wanted:
     candidates: bool = False
     progress: bool = False
     names: str | None = None
+    evidence: str | None = None
     program: str | None = None
 
 
@@ -70,6 +72,8 @@ def answer(wanted: Wanted, tell: Tell) -> Answer:
     if wanted.candidates:
         return Answer(None, candidates_of(program, given, search), units)
     found = proposal_of(program, given, search)
+    if wanted.evidence:
+        write_evidence(wanted.evidence, given, text_of(found.pieces, found.cost), found.bounds)
     if wanted.names:
         tell(in_words(found, units))
     return Answer(found, None, units)
@@ -108,6 +112,8 @@ def words(parser: Parser) -> None:
     parser.add_argument("--candidates", action="store_true", help="prints what each rule gives, and does not search")
     parser.add_argument("--progress", action="store_true", help="tells bound and each better cost on standard error")
     parser.add_argument("--names", metavar="FILE", help="the file that from-csv --names wrote: cost and bound are told in the units of the list, too")
+    parser.add_argument("--evidence", metavar="FOLDER", help="writes instance, schedule, each loosened instance with what solve says of it, and a "
+                        "certificate where there is one, into a new folder that verify judges")
     add_program(parser)
 
 
