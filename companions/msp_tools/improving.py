@@ -18,7 +18,7 @@ S = TypeVar("S")
 MOST_STARTS = 3
 # (operations that are looked at, in the standard effort: for each job, and at least)
 EFFORT_FOR_A_JOB = 100_000
-LEAST_EFFORT = 3_000_000
+LEAST_EFFORT = 6_000_000
 LEAST_TRIES, MOST_TRIES, MOST_TRIES_FOR_A_JOB = 2_000, 100_000, 2_000
 FINE = 2**40  # (into so many parts a cost is divided where it is no whole number)
 

@@ -12,11 +12,12 @@ from typing import Callable, Iterator, List, Mapping, Sequence, Tuple
 
 from .bounds import Bound, bounds_of
 from .cutting import cut_cost, cut_pieces
-from .faults import Fault
+from .faults import Fault, Misfit
 from .improving import cut, standard_tries, uncut
 from .judging import AsTheyStand, Verdict, Words, judge
 from .priorities import Tried, tried
 from .problems import Placed, Problem, ends_of
+from .minizinc import schedule_by
 from .numbers import said
 from .program import Program
 from .schedules import Piece, Schedule, read_schedule, text_of
@@ -65,11 +66,12 @@ class Proposal:
 
 @dataclass
 class Search:
-    """How a plan is looked for: how many neighbours are looked at (without it the standard), a seed, a schedule to begin with, and who hears of
-    better ones."""
+    """How a plan is looked for: how many neighbours are looked at (without it the standard), a seed, a schedule to begin with, within how many
+    nodes Gecode is asked (without it not at all), and who hears of better ones."""
     tries: int | None = None
     seed: int = 1
     begin: Schedule | None = None
+    nodes: int | None = None
     heard: Heard = field(default=lambda line: None, repr=False)
     more: Sequence[Tuple[str, Schedule]] = ()
 
@@ -177,6 +179,17 @@ class Planner:
             self.wanted.heard(f"cost {said(verdict.cost or Fraction(0))}, of {name}")
         self.tried += tried(self.problem)
 
+    def ask_gecode(self) -> None:
+        """Takes the schedule of Gecode as one more."""
+        if self.wanted.nodes is None:
+            return
+        if self.problem.cut:
+            raise Misfit("--by minizinc is for classes in which work is not cut")
+        placed = schedule_by(self.problem, self.wanted.nodes, self.wanted.seed)
+        if placed:
+            self.plans.append(("minizinc", self.problem.pieces(placed)))
+            self.tried.append(begun(self.problem, "minizinc", self.problem.pieces(placed)))
+
     def keep_best_rule(self) -> None:
         """Keeps the schedule of the best rule as a plan."""
         best = min(self.tried, key=lambda it: it.cost)
@@ -204,6 +217,7 @@ class Planner:
         try:
             self.begin()
             self.tried += self.related(bounds)
+            self.ask_gecode()
         except KeyboardInterrupt:
             self.interrupted = True
         if self.tried:
@@ -239,4 +253,5 @@ def candidates_of(program: Program, instance: Instance, wanted: Search) -> List[
     planner.need_judge()
     planner.begin()
     planner.tried += planner.related(planner.bounds())
+    planner.ask_gecode()
     return planner.candidates()

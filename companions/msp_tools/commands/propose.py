@@ -4,8 +4,11 @@ from __future__ import annotations
 from dataclasses import dataclass, field
 from typing import List
 
+from ..benchmarks import jssp, taillard
 from ..evidence import write_evidence
+from ..faults import Misfit
 from ..files import read_text
+from ..minizinc import NODES
 from ..numbers import said
 from ..program import need_program
 from ..proposals import Candidate, Proposal, Search, candidates_of, proposal_of
@@ -42,6 +45,11 @@ class Wanted:
     tries: int | None = None
     seed: int = 1
     begin: str | None = None
+    by: str | None = None
+    nodes: int = NODES
+    taillard: bool = False
+    jssp: bool = False
+    number: int = 1
     candidates: bool = False
     progress: bool = False
     names: str | None = None
@@ -58,8 +66,15 @@ class Answer:
 
 
 def instance_of(wanted: Wanted) -> Instance:
-    """The instance of a file, or of standard input."""
-    return read_instance_at(wanted.file) if wanted.file else read_instance(read_text(None))
+    """The instance of a file, or of standard input; of a text of benchmarks that of the number."""
+    if wanted.taillard and wanted.jssp:
+        raise Misfit("--taillard and --jssp: a text is of one kind")
+    if not (wanted.taillard or wanted.jssp):
+        return read_instance_at(wanted.file) if wanted.file else read_instance(read_text(None))
+    those = list(taillard(read_text(wanted.file)) if wanted.taillard else jssp(read_text(wanted.file)))
+    if wanted.number > len(those):
+        raise Misfit(f"--number {wanted.number}, and the text has {len(those)} instances")
+    return those[wanted.number - 1]
 
 
 def answer(wanted: Wanted, tell: Tell) -> Answer:
@@ -68,7 +83,7 @@ def answer(wanted: Wanted, tell: Tell) -> Answer:
     given = instance_of(wanted)
     units.need(None, given)
     begin = read_schedule(read_text(wanted.begin)) if wanted.begin else None
-    search = Search(wanted.tries, wanted.seed, begin, tell if wanted.progress else lambda line: None)
+    search = Search(wanted.tries, wanted.seed, begin, wanted.nodes if wanted.by else None, tell if wanted.progress else lambda line: None)
     if wanted.candidates:
         return Answer(None, candidates_of(program, given, search), units)
     found = proposal_of(program, given, search)
@@ -109,6 +124,12 @@ def words(parser: Parser) -> None:
     parser.add_argument("--tries", metavar="N", type=positive, help="how many schedules the search looks at; without it what takes seconds")
     parser.add_argument("--seed", metavar="N", type=positive, default=1, help="another sequence of what the search draws; without it 1")
     parser.add_argument("--from", metavar="SCHEDULE", dest="begin", help="a schedule text to begin with, as one's own plan")
+    parser.add_argument("--by", choices=["minizinc"], help="takes a schedule of Gecode, which MiniZinc calls, as one more to begin with; no cuts")
+    parser.add_argument("--nodes", metavar="N", type=positive, default=NODES, help=f"how many nodes Gecode looks at; without it {NODES}")
+    parser.add_argument("--jssp", action="store_true", help="FILE is a usual text of job shops: numbers of jobs and machines, and for each job its "
+                        "machines from 0 with their times")
+    parser.add_argument("--taillard", action="store_true", help="FILE is a text of Taillard's flow shops or job shops")
+    parser.add_argument("--number", metavar="N", type=positive, default=1, help="which instance of such a text; without it the first")
     parser.add_argument("--candidates", action="store_true", help="prints what each rule gives, and does not search")
     parser.add_argument("--progress", action="store_true", help="tells bound and each better cost on standard error")
     parser.add_argument("--names", metavar="FILE", help="the file that from-csv --names wrote: cost and bound are told in the units of the list, too")
