@@ -53,7 +53,7 @@ class Lanes:
         self.ranks = ranked(problem)
         self.counted = problem.criterion[-1] == "U"
         self.dated = problem.dated
-        span = max(problem.release) + sum(max(it) for it in problem.times) + 1
+        span = max([*problem.release, *problem.begins]) + sum(max(it) for it in problem.times) + 1
         self.base = span * span * self.machines if problem.criterion == "Cmax" else span * self.machines if self.counted else 1
         self.lanes: Sequences = [[] for _ in range(self.machines)]
         self.values: list[int] = []
@@ -68,8 +68,8 @@ class Lanes:
         """When the jobs of a sequence end on a machine."""
         times = self.times[at]
         if not self.dated:
-            return list(accumulate(map(times.__getitem__, sequence)))
-        release, now, found = self.problem.release, 0, []
+            return list(accumulate(map(times.__getitem__, sequence), initial=self.problem.begins[at]))[1:]
+        release, now, found = self.problem.release, self.problem.begins[at], []
         for job in sequence:
             if release[job] > now:
                 now = release[job]
@@ -91,7 +91,7 @@ class Lanes:
     def counted_value(self, at: int, sequence: Sequence[int]) -> int:
         """The weight of the jobs that are late where none that would be late runs, and when the others end."""
         times, release, due, weight = self.times[at], self.problem.release, self.problem.due, self.problem.weight
-        now = late = 0
+        now, late = self.problem.begins[at], 0
         for job in sequence:
             begin = release[job]
             end = (begin if begin > now else now) + times[job]
@@ -213,7 +213,7 @@ class Lanes:
 
     def behind(self, at: int, lane: Sequence[int]) -> list[int]:
         """A sequence with the jobs that would be late behind the others."""
-        now, kept, late = 0, [], []
+        now, kept, late = self.problem.begins[at], [], []
         for job in lane:
             end = max(now, self.problem.release[job]) + self.times[at][job]
             if end <= self.problem.due[job]:

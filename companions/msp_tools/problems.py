@@ -8,8 +8,9 @@ import math
 from dataclasses import dataclass, field
 from fractions import Fraction
 from operator import mul
-from typing import List, NamedTuple, Sequence
+from typing import List, Mapping, NamedTuple, Sequence
 
+from .numbers import Number
 from .schedules import Piece
 from .texts import Instance
 
@@ -42,13 +43,17 @@ def parts_of(instance: Instance) -> int:
 
 @dataclass
 class Problem:
-    """An instance in whole numbers. `times` has for each job its time on each machine (but in shops), `steps` the operations of a shop."""
+    """An instance in whole numbers. `times` has for each job its time on each machine (but in shops), `steps` the operations of a shop, `free` when
+    each machine is free first, and `later` when jobs may begin that may not begin at their release dates; both are given in units."""
     instance: Instance
+    free: Sequence[Number] = ()
+    later: Mapping[str, Number] = field(default_factory=dict)
     parts: int = 1
     count: int = 0
     machines: int = 1
     times: list[list[int]] = field(default_factory=list)
     steps: list[list[Step]] = field(default_factory=list)
+    begins: list[int] = field(default_factory=list)  # (of the machines, in parts)
     release: list[int] = field(default_factory=list)
     due: list[int] = field(default_factory=list)
     weight: list[int] = field(default_factory=list)
@@ -59,9 +64,11 @@ class Problem:
     def __post_init__(self) -> None:
         """Fills what follows from the instance."""
         given = self.instance
-        self.parts, self.count, self.machines = parts_of(given), len(given.jobs), given.machines
+        self.parts = math.lcm(parts_of(given), *(Fraction(it).denominator for it in (*self.free, *self.later.values())))
+        self.count, self.machines = len(given.jobs), given.machines
+        self.begins = [int(it * self.parts) for it in self.free] or [0] * self.machines
         self.names = {it.name: at for at, it in enumerate(given.jobs)}
-        self.release = [it.release_date * self.parts for it in given.jobs]
+        self.release = [int(max(it.release_date, self.later.get(it.name, 0)) * self.parts) for it in given.jobs]
         self.due = [(it.due or 0) * self.parts for it in given.jobs]
         self.weight = [it.factor for it in given.jobs]
         self.before, self.after = [[] for _ in given.jobs], [[] for _ in given.jobs]

@@ -73,7 +73,6 @@ class Search:
     begin: Schedule | None = None
     nodes: int | None = None
     heard: Heard = field(default=lambda line: None, repr=False)
-    more: Sequence[Tuple[str, Schedule]] = ()
 
 
 def by_names(problem: Problem, ends: Mapping[str, Fraction]) -> List[int]:
@@ -121,7 +120,7 @@ class Planner:
             if not bound.evidence.startswith("start "):
                 continue
             ends = read_schedule(bound.evidence).ends()
-            if set(ends) != names:
+            if not names.issubset(ends):
                 continue
             order = by_names(problem, ends)
             rule = f"schedule of {bound.solved}"
@@ -145,16 +144,16 @@ class Planner:
         tries = standard_tries(self.problem) if self.wanted.tries is None else self.wanted.tries
         effort, draw = Effort(tries, self.target(bound), self.heard), Draw(self.wanted.seed)
         if self.problem.cut:
-            self.plans.append((SEARCH, cut(self.problem, self.tried, effort, draw)))
+            self.plans.append((SEARCH, self.whole(cut(self.problem, self.tried, effort, draw))))
             self.without_cuts(tries, bound)
         else:
-            self.plans.append((SEARCH, self.problem.pieces(uncut(self.problem, self.tried, effort, draw))))
+            self.plans.append((SEARCH, self.whole(self.problem.pieces(uncut(self.problem, self.tried, effort, draw)))))
         self.interrupted = self.interrupted or effort.interrupted
 
     def without_cuts(self, tries: int, bound: Bound | None) -> None:
         """Searches for a schedule that cuts nothing."""
         kind = replace(self.instance.kind, items=tuple(it for it in self.instance.kind.items if it != "pmtn"))
-        problem = Problem(replace(self.instance, kind=kind))
+        problem = Problem(replace(self.instance, kind=kind), self.problem.free, self.problem.later)
         effort = Effort(tries, self.target(bound), self.heard)
         if not self.interrupted:
             self.plans.append((f"{SEARCH} without cuts", problem.pieces(uncut(problem, list(tried(problem)), effort, Draw(self.wanted.seed)))))
@@ -169,13 +168,13 @@ class Planner:
 
     def begin(self) -> None:
         """Takes the schedules that are given, and tries the rules."""
-        given = [*([("the given schedule", self.wanted.begin)] if self.wanted.begin else []), *self.wanted.more]
-        for name, schedule in given:
-            verdict = self.judged(schedule.pieces)
+        if self.wanted.begin:
+            name, pieces = "the given schedule", self.wanted.begin.pieces
+            verdict = self.judged(pieces)
             if not verdict.feasible:
                 raise Fault(f"{name} is not feasible: {verdict.broken}")
-            self.plans.append((name, schedule.pieces))
-            self.tried.append(begun(self.problem, name, schedule.pieces))
+            self.plans.append((name, pieces))
+            self.tried.append(begun(self.problem, name, pieces))
             self.wanted.heard(f"cost {said(verdict.cost or Fraction(0))}, of {name}")
         self.tried += tried(self.problem)
 
@@ -194,7 +193,11 @@ class Planner:
         """Keeps the schedule of the best rule as a plan."""
         best = min(self.tried, key=lambda it: it.cost)
         pieces = cut_pieces(self.problem, best.order) if self.problem.cut else self.problem.pieces(best.placed)
-        self.plans.append((f"{best.rule} by {best.timing}", pieces))
+        self.plans.append((f"{best.rule} by {best.timing}", self.whole(pieces)))
+
+    def whole(self, pieces: List[Piece]) -> List[Piece]:
+        """The plan of the pieces that were searched for."""
+        return pieces
 
     def need_judge(self) -> None:
         """Refuses an instance that has a fault, and a class of which `check` judges no schedule."""
@@ -213,7 +216,11 @@ class Planner:
         if solved is not None:
             schedule = read_schedule(solved.evidence)
             self.plans.append((f"solver {schedule.solver}", schedule.pieces))
-            return
+        else:
+            self.look_further(bounds)
+
+    def look_further(self, bounds: Sequence[Bound]) -> None:
+        """Tries the rules, and searches."""
         try:
             self.begin()
             self.tried += self.related(bounds)

@@ -33,17 +33,19 @@ class Trial(NamedTuple):
 
 
 class Routes:
-    """A space of graphs. Nodes are the operations, then the heads of the jobs (their release dates), then the ground (0)."""
+    """A space of graphs. Nodes are the operations, then the heads of the jobs (their release dates), then the grounds: when each machine is free
+    first, and behind them the last one, which stands for none."""
 
     def __init__(self, problem: Problem, draw: Draw) -> None:
         self.problem, self.draw = problem, draw
         self.jobs = [job for job in range(problem.count) for _ in problem.steps[job]]
         self.steps = [step for job in range(problem.count) for step in problem.steps[job]]
         self.count = len(self.steps)
-        self.ground = self.count + problem.count
-        self.times = [it.time for it in self.steps] + [0] * (problem.count + 1)
-        self.heads_move = problem.bound
+        self.grounds = self.count + problem.count
+        self.ground = self.grounds + problem.machines
         size = self.ground + 1
+        self.times = [it.time for it in self.steps] + [0] * (size - self.count)
+        self.heads_move = problem.bound
         self.held = State([], [self.ground] * size, [self.ground] * size, [self.ground] * size, [self.ground] * size)
         self.ends = [0] * size
         self.last = [0] * problem.count
@@ -61,8 +63,7 @@ class Routes:
             self.places[node] = at
         self.settle_last()
         self.ends = [0] * (self.ground + 1)
-        for job, release in enumerate(self.problem.release):
-            self.ends[self.count + job] = release
+        self.ends[self.count: self.ground] = [*self.problem.release, *self.problem.begins]
         self.run(self.held.topo, self.ends)
         self.value = self.problem.cost([self.ends[it] for it in self.last])
         self.arcs = None
@@ -106,7 +107,7 @@ class Routes:
                 continue
             seen[node] = True
             if node >= count:
-                if node < self.ground:
+                if node < self.grounds:
                     stack += [self.last[it] for it in self.problem.before[node - count] if ends[self.last[it]] == ends[node]]
                 continue
             start = ends[node] - times[node]
@@ -209,7 +210,7 @@ class Routes:
         """The state of a schedule."""
         nodes = {(self.jobs[node], self.steps[node].number): node for node in range(self.count)}
         found = State([], *([self.ground] * (self.ground + 1) for _ in range(4)))
-        last_on: Dict[int, int] = {}
+        last_on = {machine: self.grounds + machine for machine in range(self.problem.machines)}
         last_of: Dict[int, int] = {}
         order = sorted(placed, key=lambda it: (it.start, it.end))
         for it in order:
@@ -219,7 +220,7 @@ class Routes:
                 found.topo.extend([self.count + it.job] * self.heads_move)
             for lasts, key, before, after in ((last_on, it.machine, found.machine_before, found.machine_after),
                                               (last_of, it.job, found.job_before, found.job_after)):
-                front = lasts.get(key, self.ground)
+                front = lasts[key]
                 before[node] = front
                 if front < self.count:
                     after[front] = node

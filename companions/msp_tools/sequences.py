@@ -98,7 +98,7 @@ def by_serial(problem: Problem) -> Decode:
     first_times = [it[0] for it in problem.times]
 
     def cost_alike(order: Sequence[int], _: Sequence[int]) -> int:
-        free, ends = [0] * problem.machines, [0] * count
+        free, ends = sorted(problem.begins), [0] * count
         for job in order:
             now = release[job]
             for other in before[job]:
@@ -118,7 +118,7 @@ def by_serial(problem: Problem) -> Decode:
 
 def placed_apart(problem: Problem, order: Sequence[int], fixed: Sequence[int]) -> list[tuple[int, int]]:
     """The machine and the end of each job, in an order, on machines that are not alike."""
-    free = [0] * problem.machines
+    free = list(problem.begins)
     found = [(0, 0)] * problem.count
     for job in order:
         now = max([problem.release[job], *(found[it][1] for it in problem.before[job])])
@@ -137,7 +137,7 @@ def by_permutation(problem: Problem) -> Decode:
     pairs = [[(it.machine, it.time) for it in those] for those in problem.steps]
 
     def cost(order: Sequence[int], _: Sequence[int]) -> int:
-        free, ends = [0] * problem.machines, [0] * problem.count
+        free, ends = list(problem.begins), [0] * problem.count
         for job in order:
             now = problem.release[job]
             for other in problem.before[job]:

@@ -82,7 +82,7 @@ def chosen(problem: Problem, choice: Choice) -> list[Placed]:
     """The schedule in which a choice says what begins at the earliest moment at which something can."""
     if problem.shop:
         return dispatched(problem, choice, False)
-    free, now = [0] * problem.machines, list(problem.release)
+    free, now = list(problem.begins), list(problem.release)
     waits = [len(it) for it in problem.before]
     steps = [Step(1, 0, min(it)) for it in problem.times]
     there = {job for job in range(problem.count) if not waits[job]}
@@ -108,7 +108,7 @@ def serial(problem: Problem, order: Sequence[int]) -> list[Placed]:
     """The schedule of an order by `serial`."""
     if problem.shop:
         return serial_shop(problem, allowed(problem, order))
-    free = [(0, at) for at in range(problem.machines)]
+    free = sorted((begin, at) for at, begin in enumerate(problem.begins))
     ends, found = [0] * problem.count, []
     for job in allowed(problem, order):
         now = max([problem.release[job], *(ends[it] for it in problem.before[job])])
@@ -131,7 +131,7 @@ def serial(problem: Problem, order: Sequence[int]) -> list[Placed]:
 
 def serial_shop(problem: Problem, order: Order) -> list[Placed]:
     """The schedule of a shop, one job behind another; in an open shop the operation goes next that can begin first."""
-    free, ends, found = [0] * problem.machines, [0] * problem.count, []
+    free, ends, found = list(problem.begins), [0] * problem.count, []
     for job in order:
         now = max([problem.release[job], *(ends[it] for it in problem.before[job])])
         rest = list(problem.steps[job])
@@ -152,7 +152,7 @@ class Shop:
 
     def __init__(self, problem: Problem) -> None:
         self.problem = problem
-        self.free = [0] * problem.machines
+        self.free = list(problem.begins)
         self.now = list(problem.release)
         self.rest = [list(it) for it in problem.steps]
         self.waits = [len(it) for it in problem.before]
