@@ -9,14 +9,15 @@ docs/bounds.md has the steps with their proofs.
 from __future__ import annotations
 
 import itertools
-import math
 from dataclasses import dataclass, field, replace
 from fractions import Fraction
 from typing import Callable, Dict, Iterator, Sequence, Tuple
 
 from .classes import ClassName
 from .faults import Fault
-from .loosenings import STEPS, Loosening, alone, beyond, is_whole, least_time, lone, machine, times_by_machine
+from .factors import factors_for, moments_for, shares_for
+from .loosenings import (STEPS, Loosening, alone, beyond, fast, is_whole, lateness, least_time, lone, machine, released_from,
+                         times_by_machine)
 from .numbers import fraction
 from .program import Program, need_program
 from .schedules import read_schedule
@@ -27,7 +28,7 @@ Tell = Callable[[str], None]
 
 @dataclass(frozen=True)
 class Step:
-    """A step that was made: its name, what it did, and the text of the loosened instance, which is empty where none was made."""
+    """A step that was made: its name, with numbers or a job behind a colon; what it did; and the text of the instance behind it."""
     name: str
     words: str
     text: str = field(repr=False)
@@ -70,10 +71,9 @@ class Chain:
 
 # (steps to other criteria)
 CRITERIA: dict[str, Sequence[str]] = {
-    "Cmax": ("mean",), "Lmax": ("mean",), "sumwC": ("least-weight",), "sumU": ("greatest",),
-    "sumwU": ("least-weight", "greatest", "least-weight greatest"), "sumT": ("no-due-dates", "late-by-one", "greatest"),
-    "sumwT": ("least-weight", "no-due-dates", "least-weight no-due-dates", "late-by-one", "least-weight late-by-one", "greatest",
-              "least-weight greatest")}
+    "sumwC": ("least-weight",), "sumU": ("greatest",), "sumwU": ("least-weight", "greatest", "least-weight greatest"),
+    "sumT": ("late-by-one", "greatest"),
+    "sumwT": ("least-weight", "late-by-one", "least-weight late-by-one", "greatest", "least-weight greatest")}
 # (what is left out, in the order in which the steps are made; of each place one further is looser)
 LEFT_OUT = (("", "no-precedence"), ("", "no-release"), ("", "equal", "equal unit"), ("", "cut", "one-machine"))
 
@@ -90,15 +90,19 @@ class Finder:
             made = step.made(chain.last)
             fault = beyond(made) if made else None
             if fault:
-                self.tell(f"no step {step.name} from {chain.last.kind}: {fault}")
+                self.tell(f"no step {step.name.split(':')[0]} from {chain.last.kind}: {fault}")
             if made is None or fault:
                 return None
             chain = Chain((*chain.steps, step), (*chain.instances, made))
         return chain
 
     def by_names(self, chain: Chain, names: str) -> Chain | None:
-        """The same with steps by their names."""
-        return self.further(chain, *(STEPS[it] for it in names.split()))
+        """The same with steps by their names; unrelated machines become one by shares."""
+        found: Chain | None = chain
+        for name in names.split():
+            shared = found and name == "one-machine" and found.last.kind.kind == "R" and found.last.kind.general
+            found = self.further(found, fast(shares_for(found.last)) if shared else STEPS[name]) if found else None
+        return found
 
     def ways(self, chain: Chain, *several: str) -> Iterator[Chain]:
         """The chain itself, and those with steps more, as far as they can be made."""
@@ -120,13 +124,29 @@ class Finder:
                     found.append(places)
                     yield further
 
+    def by_lateness(self, chain: Chain) -> Iterator[Chain]:
+        """The chains to sums of completion times for tardiness, but in shops."""
+        if chain.last.kind.criterion in ("sumT", "sumwT") and chain.last.kind.kind in "1PQR":
+            for factors, scale in factors_for(chain.last):
+                found = self.further(chain, lateness(factors, scale))
+                yield from self.ways(found, "least-weight") if found else ()
+
     def in_shop(self, chain: Chain) -> Iterator[Chain]:
-        """The chains to one machine of a shop."""
+        """The chains to one machine of a shop, and on to the lateness there."""
         if chain.last.kind.kind in "OFJ":
             for number in range(1, chain.last.machines + 1):
                 found = self.further(chain, machine(number))
                 if found:
                     yield found
+                    yield from self.by_lateness(found)
+
+    def later_jobs(self, chain: Chain) -> Iterator[Chain]:
+        """The chains to the jobs that are released from some moment on, on identical machines."""
+        loose = class_behind(chain.last.kind, "no-precedence cut") or class_behind(chain.last.kind, "cut")
+        if chain.last.kind.kind == "P" and loose and not self.solved(loose):
+            for moment in moments_for(chain.last):
+                found = self.further(chain, released_from(moment))
+                yield from self.left_out(found) if found else ()
 
     def with_dates(self, chain: Chain) -> Chain:
         """The chain with release dates raised and due dates lowered along the arcs, as far as that can be."""
@@ -150,11 +170,13 @@ class Finder:
             yield first
             return
         yield from self.one_job(first)
-        for one in self.ways(first, *CRITERIA.get(self.given.kind.criterion, ())):
+        criteria = self.ways(first, *CRITERIA.get(self.given.kind.criterion, ()))
+        for one in itertools.chain(criteria, self.by_lateness(first)):
             for two in self.ways(one, *(["fastest"] if self.given.kind.precedence else []), "least-times"):
                 dated = self.with_dates(two)
                 for three in [two, dated] if dated.steps != two.steps else [two]:
                     yield from self.left_out(three)
+                yield from self.later_jobs(dated)
                 for three in self.in_shop(dated):
                     yield from self.left_out(three)
 
@@ -205,12 +227,11 @@ def by_steps(asked: Asked, given: Instance, tell: Tell) -> Iterator[Bound]:
     for chain in Finder(given, asked.solved, tell).all():
         report = asked.report(chain.last.text())
         if report is not None:
-            value = chain.value(read_schedule(report).cost)
+            cost = read_schedule(report).cost
+            if chain.steps and is_whole(given.kind) and chain.value(cost).denominator > 1:
+                chain = Chain((STEPS["whole"], *chain.steps), (given, *chain.instances))
             steps = [Step(step.name, step.words, it.text()) for step, it in zip(chain.steps, chain.instances[1:])]
-            if steps and is_whole(given.kind) and value.denominator > 1:
-                value = Fraction(math.ceil(value))
-                steps.append(Step("whole", "the least cost is a whole number", ""))
-            yield Bound(value, tuple(steps), str(chain.last.kind), "argued" if steps else "proved", report)
+            yield Bound(chain.value(cost), tuple(steps), str(chain.last.kind), "argued" if steps else "proved", report)
 
 
 def certified(given: Instance) -> Iterator[Instance]:

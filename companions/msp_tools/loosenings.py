@@ -5,9 +5,10 @@ again by other code.
 """
 from __future__ import annotations
 
+import math
 from dataclasses import dataclass, replace
 from fractions import Fraction
-from typing import Any, Callable, Dict, Iterable
+from typing import Any, Callable, Dict, Iterable, Sequence
 
 from .classes import ITEMS, ClassName
 from .limits import GREATEST, GREATEST_EQUAL_TIME, said
@@ -85,6 +86,12 @@ def each(given: Instance, change: Callable[[Job], Dict[str, Any]]) -> Instance:
     return replace(given, jobs=[replace(job, **change(job)) for job in given.jobs])
 
 
+def kept(given: Instance, jobs: list[Job]) -> Instance:
+    """The instance with some of its jobs, and the arcs between them."""
+    names = {it.name for it in jobs}
+    return replace(given, jobs=jobs, arcs=[it for it in given.arcs if names.issuperset(it)])
+
+
 def least_time(job: Job, given: Instance) -> int:
     """The least time from a job's begin to its end, on machines without speeds."""
     return sum(time for _, time in given.operations(job))
@@ -98,11 +105,6 @@ def earliest(job: Job, given: Instance) -> int:
 def alone(given: Instance, jobs: Iterable[Job]) -> list[Fraction]:
     """What jobs cost at their earliest ends."""
     return [Fraction(cost_at(given, job, earliest(job, given))) for job in jobs]
-
-
-def due_by_job(given: Instance) -> int:
-    """The weighted sum of due dates."""
-    return sum(it.factor * it.due_date for it in given.jobs)
 
 
 def least_weight(given: Instance) -> int:
@@ -169,6 +171,17 @@ def after_first(cost: Fraction, given: Instance) -> Fraction:
     return cost + first_release(given) * counted.get(given.kind.criterion, 0)
 
 
+def released_from(moment: int) -> Loosening:
+    """The step to the jobs that are released at a moment or later."""
+    return Loosening(f"from:{moment}", f"the jobs that are released from {moment} on", later_ones,
+                     lambda given: kept(given, [it for it in given.jobs if it.release_date >= moment]))
+
+
+def later_ones(kind: ClassName) -> ClassName | None:
+    """The class of some of the jobs, where the greatest cost counts."""
+    return kind if "r" in kind.items and kind.criterion in GREATEST_OF_ALL else None
+
+
 # Times
 
 def equal(kind: ClassName) -> ClassName | None:
@@ -219,27 +232,41 @@ def by_units(cost: Fraction, given: Instance) -> Fraction:
 # Machines
 
 def one_machine(kind: ClassName) -> ClassName | None:
-    """One machine, on which jobs may be cut, for identical and uniform ones."""
-    return with_item(replace(kind, environment="1"), "pmtn") if kind.kind in "PQ" else None
+    """One machine, on which jobs may be cut, for identical, uniform and unrelated ones."""
+    return with_item(replace(kind, environment="1"), "pmtn") if kind.kind in "PQ" or kind.kind == "R" and kind.general else None
 
 
-def speeds(given: Instance) -> list[int]:
-    """The speeds of identical or uniform machines."""
-    return given.speeds or [1] * given.machines
+def shares_of(given: Instance, shares: Sequence[int]) -> Sequence[int]:
+    """Of each machine its speed, or on unrelated ones its share of a fast one."""
+    return given.speeds or shares or [1] * given.machines
 
 
-def fast(given: Instance) -> Instance:
-    """One machine of the speed of all, with moments multiplied by it."""
-    return replace(multiplied(given, sum(speeds(given))), machines=1, speeds=[])
+def work_of(job: Job, given: Instance, shares: Sequence[int]) -> int:
+    """The time of a job on a machine as fast as all together, times the sum of the shares."""
+    return min(it * time for it, time in zip(shares, job.times)) if job.times else least_time(job, given)
 
 
-def from_fast(cost: Fraction, given: Instance) -> Fraction:
-    """The bound by one fast machine; for sums of completion times it counts besides that a job runs on one machine at a time."""
-    total, most = sum(speeds(given)), max(speeds(given))
-    bound = divided(cost, given, total)
-    if given.kind.criterion in ("sumC", "sumwC") and not given.kind.precedence and "r" not in given.kind.items:
-        bound += Fraction(total - most, 2 * total * most) * sum(it.factor * least_time(it, given) for it in given.jobs)
-    return bound
+def gains(given: Instance, shares: Sequence[int]) -> list[Fraction]:
+    """For each job half of the time by which it takes longer on one machine than on the fast one."""
+    total, most = sum(shares), max(given.speeds, default=1)
+    return [(Fraction(least_time(it, given), most) - Fraction(work_of(it, given, shares), total)) / 2 for it in given.jobs]
+
+
+def fast(shares: Sequence[int] = ()) -> Loosening:
+    """The step to one machine as fast as all of them together."""
+    def edit(given: Instance) -> Instance:
+        those = shares_of(given, shares)
+        timed = each(given, lambda job: {"time": work_of(job, given, those), "times": []}) if given.kind.kind == "R" else given
+        return replace(multiplied(timed, sum(those)), machines=1, speeds=[])
+
+    def value(cost: Fraction, given: Instance) -> Fraction:
+        those = shares_of(given, shares)
+        bound = divided(cost, given, sum(those))
+        if given.kind.criterion in ("sumC", "sumwC") and not given.kind.precedence and "r" not in given.kind.items:
+            bound += sum(it.factor * gain for it, gain in zip(given.jobs, gains(given, those)))
+        return bound
+    listed = ":" + ",".join(map(str, shares)) if shares else ""
+    return Loosening(f"one-machine{listed}", "one machine, as fast as all of them", one_machine, edit, value)
 
 
 def fastest(kind: ClassName) -> ClassName | None:
@@ -370,9 +397,7 @@ def machine(number: int) -> Loosening:
             if stay:
                 fields = {**later(job, stay.tail), "time": stay.time, "release": stay.head, "times": [], "route": []}
                 jobs.append(replace(job, **fields))
-        names = {it.name for it in jobs}
-        arcs = [it for it in given.arcs if names.issuperset(it)]
-        return replace(given, machines=1, time=None, jobs=jobs, arcs=arcs)
+        return replace(kept(given, jobs), machines=1, time=None)
 
     def value(cost: Fraction, given: Instance) -> Fraction:
         stays = [(job, stay_of(job, given, number)) for job in given.jobs]
@@ -381,7 +406,7 @@ def machine(number: int) -> Loosening:
             return max([cost, *rest])
         ends = given.kind.criterion in ("sumC", "sumwC")
         return cost + sum(rest) + sum(job.factor * stay.tail for job, stay in stays if ends and stay)
-    return Loosening(f"machine {number}", f"machine {number} alone, each job with the least time in front of it and behind it", of_one, edit, value)
+    return Loosening(f"machine:{number}", f"machine {number} alone, each job with the least time in front of it and behind it", of_one, edit, value)
 
 
 def curve_of(job: Job, criterion: str) -> list[int]:
@@ -404,7 +429,7 @@ def lone(name: str) -> Loosening:
         if given.kind.criterion in GREATEST_OF_ALL:
             return cost
         return max(cost, Fraction(0)) + sum(alone(given, [it for it in given.jobs if it.name != name]))
-    return Loosening(f"job {name}", f"job {name} alone, the others at their earliest ends",
+    return Loosening(f"job:{name}", f"job {name} alone, the others at their earliest ends",
                      lambda kind: None if kind.kind == "Q" else ClassName("1", ("pmtn", "r"), "fmax"), edit, value)
 
 
@@ -426,14 +451,16 @@ def is_whole(kind: ClassName) -> bool:
     return "pmtn" not in kind.items and kind.kind != "Q"
 
 
-def mean(kind: ClassName) -> ClassName | None:
-    """The class of the sum of completion times, but in shops."""
-    return other("Cmax sumC", "Lmax sumC")(kind) if kind.kind in "1PQR" else None
+def lateness(factors: Sequence[int], scale: int) -> Loosening:
+    """The step from tardiness to lateness, of each job with a factor over a scale, at most its weight; jobs of factor 0 are left out."""
+    def edit(given: Instance) -> Instance:
+        return kept(given, [replace(job, weight=factor) for job, factor in zip(given.jobs, factors) if factor])
 
-
-def by_mean(cost: Fraction, given: Instance) -> Fraction:
-    """The mean of completion times, or of lateness."""
-    return (cost - (due_by_job(given) if given.kind.criterion == "Lmax" else 0)) / len(given.jobs)
+    def value(cost: Fraction, given: Instance) -> Fraction:
+        due = sum(factor * job.due_date for job, factor in zip(given.jobs, factors))
+        return max((cost - due) / scale, Fraction(0))
+    return Loosening(f"lateness:{','.join(map(str, factors))}/{scale}", "tardiness is at least lateness, weighed by factors",
+                     other("sumT sumwC", "sumwT sumwC"), edit, value)
 
 
 def with_curves(given: Instance) -> Instance:
@@ -456,16 +483,15 @@ STEPS = {it.name: it for it in (
     Loosening("no-release", "release dates left out but for the least one", no_release, from_first, after_first),
     Loosening("equal", "each operation takes the least time of all", equal, of_least_time, fits=has_equal),
     Loosening("unit", "time in units of the shared time, release dates rounded down and due dates up", unit, in_units, by_units),
-    Loosening("one-machine", "one machine, as fast as all of them", one_machine, fast, from_fast),
+    fast(),
     Loosening("fastest", "each machine as fast as the fastest", fastest, all_fastest,
               lambda cost, given: divided(cost, given, max(given.speeds))),
     Loosening("least-times", "each job takes its least time on every machine", least_times, of_least_times),
     Loosening("heads", "release dates raised along the arcs", heads, with_heads, fits=has_arcs),
     Loosening("tails", "due dates lowered along the arcs", tails, with_tails, fits=has_arcs),
     Loosening("least-weight", "all weights the least one", other(*LEAST_WEIGHT), as_it_is, lambda cost, given: cost * least_weight(given)),
-    Loosening("no-due-dates", "tardiness is at least lateness", other("sumT sumC", "sumwT sumwC"), as_it_is,
-              lambda cost, given: max(cost - due_by_job(given), Fraction(0))),
     Loosening("late-by-one", "a late job is late by 1 at least", late_by_one),
     Loosening("greatest", "a sum is at least its greatest part", other(*GREATEST_COST), with_curves, by_greatest),
-    Loosening("mean", "the greatest value is at least the mean one", mean, as_it_is, by_mean),
+    Loosening("whole", "the least cost is a whole number", lambda kind: kind if is_whole(kind) else None, as_it_is,
+              lambda cost, given: Fraction(math.ceil(cost))),
     Loosening("curves", "lateness as a curve", other("Cmax fmax", "Lmax fmax"), with_curves))}

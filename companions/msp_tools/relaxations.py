@@ -9,7 +9,7 @@ from dataclasses import dataclass, replace
 from typing import Callable, Iterator, List
 
 from .classes import ClassName, class_named
-from .loosenings import STEPS, Edit, as_it_is, each, of_one, with_item, without
+from .loosenings import STEPS, Edit, as_it_is, each, lateness, of_one, with_item, without
 from .texts import Instance, Job
 
 
@@ -57,12 +57,13 @@ def by_hand(name: str, before: ClassName, after: ClassName) -> str | None:
 def relaxations(kind: ClassName) -> Iterator[Move]:
     """The moves to classes whose best cost bounds that of each instance from below: the steps of docs/bounds.md that lead to a wider class."""
     for name, step in STEPS.items():
-        to = step.to(kind) if name not in ("heads", "tails", "curves") else None
+        to = step.to(kind) if name not in ("heads", "tails", "curves", "whole") else None
         if to:
             yield Move(to, step.words, by_hand(name, kind, to))
-    to = of_one(kind)
-    if to:
-        yield Move(to, "a machine alone, each job with the least time in front of it and behind it", None)
+    for to, words in ((lateness((), 1).to(kind), "tardiness is at least lateness"),
+                      (of_one(kind), "a machine alone, each job with the least time in front of it and behind it")):
+        if to:
+            yield Move(to, words, None)
 
 
 # Classes whose schedules may serve

@@ -127,18 +127,18 @@ def meant(wanted: Wanted, lines: list[str]) -> Meaning:
 
 # What is known of it
 
-def found_of(program: Program, kind: ClassName, results: str, given: Instance | None) -> Found:
+def found_of(program: Program, kind: ClassName, results: str, given: Instance | None, tell: Tell) -> Found:
     """A class with its label, its solver, and what is near by."""
     why = program.report(["why", str(kind)], results).report.splitlines()[:-1]
     found = Found(str(kind), why, solver_of(program, kind))
     if found.solver is None and given:
-        found.bounds, found.schedules = list(of_each_class(bounds_of(given, program)))[:MOST_BOUNDS], schedules_for(program, given)
+        found.bounds, found.schedules = list(of_each_class(bounds_of(given, program, tell)))[:MOST_BOUNDS], schedules_for(program, given)
     elif found.solver is None:
         found.bounding, found.serving = bounding(program, kind), serving(program, kind)
     return found
 
 
-def answer(wanted: Wanted, _: Tell) -> Answer:
+def answer(wanted: Wanted, tell: Tell) -> Answer:
     """The classes that are meant, and what is known of them."""
     if wanted.instance and (wanted.name or wanted.environment or wanted.criterion):
         raise Misfit("--instance has its class: leave the others out")
@@ -153,7 +153,7 @@ def answer(wanted: Wanted, _: Tell) -> Answer:
         units.need(None, given)
     means = Meaning(str(given.kind), (Variant(given.kind, None, None),)) if given else meant(wanted, lines)
     lines += lines_of(program, results, means)
-    return Answer(lines, [found_of(program, kind, results, given) for kind in means.classes], means.single, given, units)
+    return Answer(lines, [found_of(program, kind, results, given, tell) for kind in means.classes], means.single, given, units)
 
 
 # Printing
@@ -177,8 +177,9 @@ def show_instance(found: Found, given: Instance, units: Units) -> None:
     criterion = given.kind.criterion
     print(f"lower bounds, by relaxation, {counted}:" if found.bounds else "lower bounds, by relaxation: none near by")
     for bound in found.bounds:
-        by = bound.solved if "|" in bound.solved else f"certificate of the kind {bound.solved}"
-        print(f"  at least {units.cost(bound.value, criterion)}    {bound.word}    {'    '.join([by, *filter(None, [', '.join(it.words for it in bound.steps)])])}")
+        behind = bound.solved if "|" in bound.solved else f"certificate {bound.solved}"
+        steps = [", ".join(it.words for it in bound.steps)] if bound.steps else []
+        print("    ".join([f"  at least {units.cost(bound.value, criterion)}", bound.word, behind, *steps]))
     print(f"schedules that fit, by check, {counted}:" if found.schedules else "schedules that fit, by check: none near by")
     for served in found.schedules:
         print(f"  cost {units.cost(served.cost, criterion)}    {served.near.name}    {', '.join(served.near.moves)}")
