@@ -54,7 +54,7 @@ def taken(lines: Sequence[Line], at: int, count: int, width: int, what: str) -> 
         if len(it.values) != width:
             raise Fault(f"line {it.number}: {len(it.values)} numbers, and {width} are wanted: {what}")
     if len(those) < count:
-        raise Fault(f"line {lines[-1].number}: {len(those)} lines of {what} behind the size, and {count} are wanted")
+        raise Fault(f"line {lines[-1].number}: the size says {count} lines of {what}, and there are {len(those)}")
     return list(those)
 
 

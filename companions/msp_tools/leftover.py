@@ -129,7 +129,8 @@ class Taker:
         """Whether something is not done that comes before an operation: then it cannot have begun."""
         name, number = it
         before = [(name, one) for one in self.operations(name) if one < number] if self.given.kind.kind in "FJ" else []
-        before += [(one, number) for one, other in self.given.arcs if other == name and one not in self.happened.gone for number in self.operations(one)]
+        jobs = [one for one, other in self.given.arcs if other == name and one not in self.happened.gone]
+        before += [(one, number) for one in jobs for number in self.operations(one)]
         return any(one not in self.done for one in before)
 
     def begun(self, it: Operation, left: Optional[int], taken: List[int]) -> None:
@@ -228,7 +229,8 @@ class Builder:
             times = [given.time_on(job, 1, machine) for machine in range(1, given.machines + 1)]
             if left is not None:
                 # (on other machines the same share of its time)
-                times = [left if machine == at else max(1, math.ceil(Fraction(left * time, times[(at or 1) - 1]))) for machine, time in enumerate(times, 1)]
+                share = Fraction(left, times[(at or 1) - 1])
+                times = [max(1, math.ceil(share * time)) for time in times]
             return replace(job, times=[time for machine, time in enumerate(times, 1) if machine not in self.happened.failed])
         return replace(job, time=given.time_on(job, 1, 1) if left is None else left)
 
@@ -282,8 +284,8 @@ class Builder:
                 for number in self.taker.operations(job.name):
                     machine, _ = self.given.operations(job)[number - 1]
                     if machine in self.happened.failed and (job.name, number) not in self.done and job.name not in self.happened.gone:
-                        raise Fault(f"{job.name} has work on machine {machine}, which has failed: no class has a machine that comes back; --gone {job.name} "
-                                    "leaves the job out")
+                        raise Fault(f"{job.name} has work on machine {machine}, which has failed: no class has a machine that comes back; "
+                                    f"--gone {job.name} leaves the job out")
             return kind
         count = self.given.machines - len(set(self.happened.failed))
         if count < 1:
@@ -308,7 +310,7 @@ class Builder:
     def say_pinned(self, kind: ClassName) -> None:
         """Says what the class cannot: that what has begun stays on its machine, and goes on at once."""
         for it in self.running:
-            where = {"P": " (R has times for each machine)", "Q": " (R has times for each machine)"}.get(kind.kind, "")
+            where = f" ({replace(kind, environment='R')} has times for each machine)" if kind.kind in "PQ" else ""
             self.told.append(f"{it.job} runs on machine {it.machine} until {self.happened.now + self.span(it)}: {kind} cannot say so{where}; "
                              "the plan keeps it there, and the bound does not")
 

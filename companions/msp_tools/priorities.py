@@ -147,7 +147,8 @@ def flows(problem: Problem) -> Iterator[Tuple[str, Order]]:
     yield "Johnson", min((allowed(problem, it) for it in johnson(problem)), key=lambda it: cost(it, ()))
     if problem.count <= MOST_FOR_NEH and not problem.bound:
         those = orders(problem)
-        yield "NEH", inserted(problem, those["longest time"] if problem.criterion == "Cmax" else those.get("earliest due date", those["shortest time"]))
+        first = those["longest time"] if problem.criterion == "Cmax" else those.get("earliest due date", those["shortest time"])
+        yield "NEH", inserted(problem, first)
 
 
 # Schedules

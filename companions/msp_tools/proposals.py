@@ -58,7 +58,7 @@ class Proposal:
         """The report: lines on cost and bound, and the schedule text."""
         lines = [f"start {self.name}", f"found {self.found}", f"cost {self.cost}"]
         if self.bound is not None:
-            lines += [f"bound {self.bound.value}", *(f"step {it.name}: {it.words}" for it in self.bound.steps), f"by {self.bound.solved}"]
+            lines += [f"bound {self.bound.value}", *(f"step {it.words}" for it in self.bound.steps), f"by {self.bound.solved}"]
         lines += [f"gap {self.gap}"] if self.gap is not None else []
         lines += [self.word, *["interrupted"] * self.interrupted]
         return "\n".join([*lines, text_of(self.pieces, self.cost)])
@@ -205,7 +205,11 @@ class Planner:
 
     def bounds(self) -> Tuple[Bound, ...]:
         """The lower bounds, the greatest first."""
-        found = bounds_of(self.instance, self.program, self.wanted.heard)
+        try:
+            found = bounds_of(self.instance, self.program, self.wanted.heard)
+        except KeyboardInterrupt:
+            self.interrupted = True
+            return ()
         for it in found[:1]:
             self.wanted.heard(f"bound {said(it.value)}")
         return found

@@ -6,7 +6,7 @@ from fractions import Fraction
 from typing import Dict, List, Optional, Sequence, Tuple
 
 from .bounds import Bound
-from .leftover import Happened, Leftover, left_of
+from .leftover import Happened, Leftover, Running, left_of
 from .problems import Placed, Problem, ends_of
 from .priorities import Tried
 from .program import Program
@@ -39,34 +39,38 @@ class Replanned:
     told: List[str]
 
 
-def problem_of(left: Leftover) -> Tuple[Problem, List[Piece], Dict[str, int]]:
-    """What is searched: all but what runs, with when machines and jobs are free of it; the pieces of what runs; and by how many operations the
-    routes of jobs are shorter."""
-    given = left.instance
-    base = Fraction(left.origin if "r" in given.kind.items else 0)
-    free, later, gone = [base] * given.machines, {}, set()
-    jobs, pieces, shorter = {it.name: it for it in given.jobs}, [], {}
-    for it in left.running:
-        end = base + Fraction(it.left, given.speeds[it.machine - 1] if given.speeds else 1)
-        job, shop = jobs[it.job], given.kind.kind in "OFJ"
-        number = 1 if given.kind.kind == "J" or not shop else it.number
-        pieces.append(Piece(it.job, number, it.machine, base, end))
-        free[it.machine - 1] = end
-        rest = [at for at, (_, time) in enumerate(given.operations(job), 1) if time and at != number]
-        if given.kind.kind == "J":
-            jobs[it.job], shorter[it.job] = replace(job, route=job.route[1:]), 1
-        elif rest:
-            jobs[it.job] = replace(job, times=[0 if at == number else time for at, (_, time) in enumerate(given.operations(job), 1)])
-        if rest:
-            later[it.job] = end
+class Rest:
+    """What is searched: all but what runs, with when machines and jobs are free of it. `running` has the pieces of what runs, `shorter` says by how
+    many operations the routes of jobs are shorter."""
+
+    def __init__(self, left: Leftover) -> None:
+        self.given = left.instance
+        self.base = Fraction(left.origin if "r" in self.given.kind.items else 0)
+        self.free = [self.base] * self.given.machines
+        self.later: Dict[str, Fraction] = {}
+        self.jobs = dict(self.given.by_name)
+        self.running: List[Piece] = []
+        self.shorter: Dict[str, int] = {}
+        for it in left.running:
+            self.take(it)
+        arcs = [it for it in self.given.arcs if it[0] in self.jobs and it[1] in self.jobs]
+        self.problem = Problem(replace(self.given, jobs=list(self.jobs.values()), arcs=arcs), self.free, self.later)
+
+    def take(self, it: Running) -> None:
+        """Takes out what runs."""
+        end = self.base + Fraction(it.left, self.given.speeds[it.machine - 1] if self.given.speeds else 1)
+        job, kind = self.jobs[it.job], self.given.kind.kind
+        number = it.number if kind in "OF" else 1
+        self.running.append(Piece(it.job, number, it.machine, self.base, end))
+        self.free[it.machine - 1] = end
+        operations = [(at, 0 if at == number else time) for at, (_, time) in enumerate(self.given.operations(job), 1)]
+        if any(time for _, time in operations):
+            shorter = replace(job, route=job.route[1:]) if kind == "J" else replace(job, times=[time for _, time in operations])
+            self.jobs[it.job], self.later[it.job] = shorter, end
+            self.shorter[it.job] = int(kind == "J")
         else:
-            gone.add(it.job)
-            for one, other in given.arcs:
-                if one == it.job:
-                    later[other] = max(end, later.get(other, end))
-    arcs = [it for it in given.arcs if not gone.intersection(it)]
-    searched = replace(given, jobs=[it for it in jobs.values() if it.name not in gone], arcs=arcs)
-    return Problem(searched, free, later), pieces, shorter
+            del self.jobs[it.job]
+            self.later.update((other, max(end, self.later.get(other, end))) for one, other in self.given.arcs if one == it.job)
 
 
 class Replanner(Planner):
@@ -75,7 +79,8 @@ class Replanner(Planner):
     def __init__(self, program: Program, left: Leftover, wanted: Search, old: Sequence[Piece]) -> None:
         super().__init__(program, left.instance, wanted)
         self.left, self.old = left, old
-        self.problem, self.running, self.shorter = problem_of(left)
+        rest = Rest(left)
+        self.problem, self.running, self.shorter = rest.problem, rest.running, rest.shorter
 
     def whole(self, pieces: List[Piece]) -> List[Piece]:
         """The plan: what runs, and the pieces that were searched for."""

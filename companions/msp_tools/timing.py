@@ -15,7 +15,7 @@ from __future__ import annotations
 from bisect import bisect_right, insort
 from fractions import Fraction
 from heapq import heapify, heappop, heappush
-from typing import Callable, Dict, Iterable, Iterator, List, Sequence, Tuple
+from typing import Callable, Dict, Iterable, List, Sequence, Tuple
 
 from .problems import Order, Placed, Problem, Step
 from .schedules import Piece
@@ -148,7 +148,7 @@ def serial_shop(problem: Problem, order: Order) -> list[Placed]:
 
 
 class Shop:
-    """A shop whose operations are placed one after another: what may go next, and when it could begin."""
+    """A shop whose operations are placed one after another: which may go next, each with its job, and when jobs and machines are free."""
 
     def __init__(self, problem: Problem) -> None:
         self.problem = problem
@@ -156,29 +156,35 @@ class Shop:
         self.now = list(problem.release)
         self.rest = [list(it) for it in problem.steps]
         self.waits = [len(it) for it in problem.before]
-        self.there = [job for job in range(problem.count) if not self.waits[job]]
+        self.there: List[Tuple[int, Step]] = []
+        for job in range(problem.count):
+            if not self.waits[job]:
+                self.come(job)
 
-    def next(self) -> Iterator[tuple[int, Step, int]]:
-        """The operations that may go next: a job, the operation, and when it could begin."""
-        free, open_shop = self.free, self.problem.open
-        for job in self.there:
-            now = self.now[job]
-            for step in self.rest[job] if open_shop else self.rest[job][:1]:
-                begin = free[step.machine]
-                yield job, step, begin if begin > now else now
+    def come(self, job: int) -> None:
+        """Lets a job's next operation go, or in an open shop all of them."""
+        self.there += [(job, it) for it in (self.rest[job] if self.problem.open else self.rest[job][:1])]
+
+    def begins(self) -> List[int]:
+        """When each of the operations that may go next could begin."""
+        now, free = self.now, self.free
+        # (the machine of a step by its place, which is faster than by its name)
+        return [max(now[job], free[step[1]]) for job, step in self.there]
 
     def place(self, job: int, step: Step, start: int) -> Placed:
         """Places an operation."""
         end = start + step.time
         self.free[step.machine] = self.now[job] = end
         self.rest[job].remove(step)
+        self.there.remove((job, step))
         if not self.rest[job]:
-            self.there.remove(job)
             for other in self.problem.after[job]:
                 self.waits[other] -= 1
                 self.now[other] = max(self.now[other], end)
                 if not self.waits[other]:
-                    self.there.append(other)
+                    self.come(other)
+        elif not self.problem.open:
+            self.come(job)
         return Placed(job, step.number, step.machine, start, end)
 
 
@@ -186,14 +192,14 @@ def dispatched(problem: Problem, choice: Choice, delays: bool) -> list[Placed]:
     """The schedule of a shop in which a choice decides what goes next: of what could begin first, or with delays by `active`."""
     shop, found = Shop(problem), []
     while shop.there:
-        those = list(shop.next())
+        begins = shop.begins()
         if delays:
-            end, machine = min((start + step.time, step.machine) for _, step, start in those)
-            those = [it for it in those if it[1].machine == machine and it[2] < end]
+            end, machine = min((start + it[1][2], it[1][1]) for start, it in zip(begins, shop.there))
+            those = [(it, start) for start, it in zip(begins, shop.there) if it[1][1] == machine and start < end]
         else:
-            first = min(start for _, _, start in those)
-            those = [it for it in those if it[2] == first]
-        found.append(shop.place(*min(those, key=lambda it: choice(*it))))
+            first = min(begins)
+            those = [(it, start) for start, it in zip(begins, shop.there) if start == first]
+        found.append(shop.place(*min((choice(job, step, start), job, step, start) for (job, step), start in those)[1:]))
     return found
 
 

@@ -45,7 +45,7 @@ class Wanted:
     tries: int | None = None
     seed: int = 1
     begin: str | None = None
-    by: str | None = None
+    solver: str | None = None
     nodes: int = NODES
     taillard: bool = False
     jssp: bool = False
@@ -73,7 +73,7 @@ def instance_of(wanted: Wanted) -> Instance:
         return read_instance_at(wanted.file) if wanted.file else read_instance(read_text(None))
     those = list(taillard(read_text(wanted.file)) if wanted.taillard else jssp(read_text(wanted.file)))
     if wanted.number > len(those):
-        raise Misfit(f"--number {wanted.number}, and the text has {len(those)} instances")
+        raise Misfit(f"--number {wanted.number}: the number of instances in the text is {len(those)}")
     return those[wanted.number - 1]
 
 
@@ -83,7 +83,7 @@ def answer(wanted: Wanted, tell: Tell) -> Answer:
     given = instance_of(wanted)
     units.need(None, given)
     begin = read_schedule(read_text(wanted.begin)) if wanted.begin else None
-    search = Search(wanted.tries, wanted.seed, begin, wanted.nodes if wanted.by else None, tell if wanted.progress else lambda line: None)
+    search = Search(wanted.tries, wanted.seed, begin, wanted.nodes if wanted.solver else None, tell if wanted.progress else lambda line: None)
     if wanted.candidates:
         return Answer(None, candidates_of(program, given, search), units)
     found = proposal_of(program, given, search)
@@ -124,7 +124,7 @@ def words(parser: Parser) -> None:
     parser.add_argument("--tries", metavar="N", type=positive, help="how many schedules the search looks at; without it what takes seconds")
     parser.add_argument("--seed", metavar="N", type=positive, default=1, help="another sequence of what the search draws; without it 1")
     parser.add_argument("--from", metavar="SCHEDULE", dest="begin", help="a schedule text to begin with, as one's own plan")
-    parser.add_argument("--by", choices=["minizinc"], help="takes a schedule of Gecode, which MiniZinc calls, as one more to begin with; no cuts")
+    parser.add_argument("--by", choices=["minizinc"], dest="solver", help="takes a schedule of Gecode, which MiniZinc calls, as one more to begin with; no cuts")
     parser.add_argument("--nodes", metavar="N", type=positive, default=NODES, help=f"how many nodes Gecode looks at; without it {NODES}")
     parser.add_argument("--jssp", action="store_true", help="FILE is a usual text of job shops: numbers of jobs and machines, and for each job its "
                         "machines from 0 with their times")
