@@ -148,58 +148,71 @@ def serial_shop(problem: Problem, order: Order) -> list[Placed]:
 
 
 class Shop:
-    """A shop whose operations are placed one after another: which may go next, each with its job, and when jobs and machines are free."""
+    """A shop whose operations are placed one after another: those that may go next by their machines, and what begins (or with delays ends) first on
+    each machine."""
 
-    def __init__(self, problem: Problem) -> None:
-        self.problem = problem
+    def __init__(self, problem: Problem, delays: bool) -> None:
+        self.problem, self.delays = problem, delays
         self.free = list(problem.begins)
         self.now = list(problem.release)
         self.rest = [list(it) for it in problem.steps]
         self.waits = [len(it) for it in problem.before]
-        self.there: List[Tuple[int, Step]] = []
+        self.there: List[List[Tuple[int, Step]]] = [[] for _ in range(problem.machines)]
         for job in range(problem.count):
             if not self.waits[job]:
                 self.come(job)
+        self.first = [self.first_on(machine) for machine in range(problem.machines)]
 
-    def come(self, job: int) -> None:
-        """Lets a job's next operation go, or in an open shop all of them."""
-        self.there += [(job, it) for it in (self.rest[job] if self.problem.open else self.rest[job][:1])]
+    def come(self, job: int) -> List[int]:
+        """Lets a job's next operation go, or in an open shop all of them; on which machines."""
+        steps = self.rest[job] if self.problem.open else self.rest[job][:1]
+        for step in steps:
+            self.there[step.machine].append((job, step))
+        return [it.machine for it in steps]
 
-    def begins(self) -> List[int]:
-        """When each of the operations that may go next could begin."""
-        now, free = self.now, self.free
-        # (the machine of a step by its place, which is faster than by its name)
-        return [max(now[job], free[step[1]]) for job, step in self.there]
+    def first_on(self, machine: int) -> int | None:
+        """When something begins first on a machine, or with delays ends first; None where nothing may go next there."""
+        those, now, free = self.there[machine], self.now, self.free[machine]
+        if not those:
+            return None
+        if not self.delays:
+            return max(free, min([now[job] for job, _ in those]))
+        # (times by their place, which is faster than by their name)
+        return min([(free if free > now[job] else now[job]) + step[2] for job, step in those])
+
+    def open_ones(self) -> List[Tuple[int, Step, int]]:
+        """The operations among which is chosen, with when they begin: those that begin first, or with delays before the first end on its machine."""
+        first, machine = min((moment, at) for at, moment in enumerate(self.first) if moment is not None)
+        machines = [machine] if self.delays else [at for at, moment in enumerate(self.first) if moment == first]
+        begins = [(job, step, max(self.free[at], self.now[job])) for at in machines for job, step in self.there[at]]
+        return [it for it in begins if it[2] < first or it[2] == first and not self.delays]
 
     def place(self, job: int, step: Step, start: int) -> Placed:
         """Places an operation."""
         end = start + step.time
         self.free[step.machine] = self.now[job] = end
         self.rest[job].remove(step)
-        self.there.remove((job, step))
+        self.there[step.machine].remove((job, step))
+        changed = [step.machine, *(it.machine for it in self.rest[job] if self.problem.open)]
         if not self.rest[job]:
             for other in self.problem.after[job]:
                 self.waits[other] -= 1
                 self.now[other] = max(self.now[other], end)
                 if not self.waits[other]:
-                    self.come(other)
+                    changed += self.come(other)
         elif not self.problem.open:
-            self.come(job)
+            changed += self.come(job)
+        for machine in set(changed):
+            self.first[machine] = self.first_on(machine)
         return Placed(job, step.number, step.machine, start, end)
 
 
 def dispatched(problem: Problem, choice: Choice, delays: bool) -> list[Placed]:
     """The schedule of a shop in which a choice decides what goes next: of what could begin first, or with delays by `active`."""
-    shop, found = Shop(problem), []
-    while shop.there:
-        begins = shop.begins()
-        if delays:
-            end, machine = min((start + it[1][2], it[1][1]) for start, it in zip(begins, shop.there))
-            those = [(it, start) for start, it in zip(begins, shop.there) if it[1][1] == machine and start < end]
-        else:
-            first = min(begins)
-            those = [(it, start) for start, it in zip(begins, shop.there) if start == first]
-        found.append(shop.place(*min((choice(job, step, start), job, step, start) for (job, step), start in those)[1:]))
+    shop, found = Shop(problem, delays), []
+    for _ in range(problem.operations()):
+        _, job, step, start = min((choice(*it), *it) for it in shop.open_ones())
+        found.append(shop.place(job, step, start))
     return found
 
 
