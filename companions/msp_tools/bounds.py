@@ -17,7 +17,7 @@ from .classes import ClassName
 from .faults import Fault
 from .factors import factors_for, moments_for, shares_for
 from .loosenings import (STEPS, Loosening, alone, beyond, fast, is_whole, lateness, least_time, lone, machine, released_from,
-                         times_by_machine)
+                         times_by_machine, with_item)
 from .numbers import fraction
 from .program import Program, need_program
 from .schedules import read_schedule
@@ -141,12 +141,16 @@ class Finder:
                     yield from self.by_lateness(found)
 
     def later_jobs(self, chain: Chain) -> Iterator[Chain]:
-        """The chains to the jobs that are released from some moment on, on identical machines."""
-        loose = class_behind(chain.last.kind, "no-precedence cut") or class_behind(chain.last.kind, "cut")
-        if chain.last.kind.kind == "P" and loose and not self.solved(loose):
+        """The chains to the jobs that are released from some moment on, without further dates, arcs and whole jobs."""
+        kind = chain.last.kind
+        names = "no-precedence " * bool(kind.precedence) + "no-release" + " cut" * ("pmtn" not in kind.items)
+        loose = class_behind(kind, names)
+        if kind.kind == "P" and loose and self.solved(loose) and not self.solved(with_item(loose, "r")):
             for moment in moments_for(chain.last):
                 found = self.further(chain, released_from(moment))
-                yield from self.left_out(found) if found else ()
+                found = self.by_names(found, names) if found else None
+                if found:
+                    yield found
 
     def with_dates(self, chain: Chain) -> Chain:
         """The chain with release dates raised and due dates lowered along the arcs, as far as that can be."""

@@ -238,7 +238,7 @@ def one_machine(kind: ClassName) -> ClassName | None:
 
 def shares_of(given: Instance, shares: Sequence[int]) -> Sequence[int]:
     """Of each machine its speed, or on unrelated ones its share of a fast one."""
-    return given.speeds or shares or [1] * given.machines
+    return shares if given.kind.kind == "R" and shares else given.speeds or [1] * given.machines
 
 
 def work_of(job: Job, given: Instance, shares: Sequence[int]) -> int:
@@ -482,7 +482,7 @@ STEPS = {it.name: it for it in (
     Loosening("no-precedence", "precedence left out", no_precedence, lambda given: replace(given, arcs=[])),
     Loosening("no-release", "release dates left out but for the least one", no_release, from_first, after_first),
     Loosening("equal", "each operation takes the least time of all", equal, of_least_time, fits=has_equal),
-    Loosening("unit", "time in units of the shared time, release dates rounded down and due dates up", unit, in_units, by_units),
+    Loosening("unit", "time counted in the shared time", unit, in_units, by_units),
     fast(),
     Loosening("fastest", "each machine as fast as the fastest", fastest, all_fastest,
               lambda cost, given: divided(cost, given, max(given.speeds))),

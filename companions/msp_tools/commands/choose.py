@@ -28,9 +28,10 @@ It prints the class, its label with the reason (a chain of reductions to or from
 over which rows. A name with a fixed number of machines that is not said, as Pm, stands for the classes with two and with three; tree
 stands for intree and outtree. Where a class has no solver, it prints the nearest classes that have one: relaxations, whose best cost
 bounds that of the instance from below, and those whose schedules may serve, each with the command that rewrites the instance; behind it
-`check` says whether the schedule fits, and what it costs. With --instance these commands are carried out: bounds are printed, the greatest
-first, and of the schedules those that `check` finds feasible, the best first. Bounds and costs are in the units of the instance, or with the
-file that from-csv --names wrote in those of the list; a schedule is always in those of the instance.
+`check` says whether the schedule fits, and what it costs. With --instance it prints the greatest bounds, each with its word (docs/bounds.md),
+with what `solve` or `accept` showed and with the steps to it, and of the schedules those that `check` finds feasible, the best first. Bounds
+and costs are in the units of the instance, or with the file that from-csv --names wrote in those of the list; a schedule is always in those
+of the instance.
 
 It ends with 0 where the class has a solver, with 1 where it has none (of several classes: one has none), and with 2 where the words do
 not fit.

@@ -4,6 +4,7 @@ from __future__ import annotations
 import os
 from dataclasses import dataclass, field, replace
 from fractions import Fraction
+from functools import reduce
 from operator import attrgetter
 from typing import Any, Callable, Dict, Iterable, List, Tuple
 
@@ -98,13 +99,13 @@ class Given(Instance):
     def several(self, which: str) -> Dict[str, Form]:
         """One machine for all, of which each has its speed or a share; all as fast as the fastest; the least time of each job on all."""
         kind, most, alike = self.kind, max(self.speeds or [1]), "P" + self.kind.environment[1:]
-        shares = self.speeds or [int(it) for it in which.split(",") if it.isdigit()] or [1] * self.machines
+        shares = [int(it) for it in which.split(",")] if which.replace(",", "").isdigit() else self.speeds or [1] * self.machines
         fits, counts = kind.kind == "R" and kind.general and len(shares) == self.machines and min(shares) > 0, kind.criterion[-1] == "U"
         work = {job.name: min(share * time for share, time in zip(shares, job.times)) if fits else self.length(job) for job in self.jobs}
         total, free = sum(shares) or 1, kind.criterion in ("sumC", "sumwC") and not kind.precedence and "r" not in kind.items
         more = free * sum(it.factor * (Fraction(self.length(it), most) - Fraction(work[it.name], total)) / 2 for it in self.jobs)
         return {
-            "one-machine": (kind.kind in "PQ" or fits, lambda: replace(self.quick(total), machines=1).each(lambda it: {
+            "one-machine": (fits or kind.kind in "PQ" and not which, lambda: replace(self.quick(total), machines=1).each(lambda it: {
                 "time": work[it.name] if kind.general else None, "times": []}).to(more=["pmtn"], environment="1"),
                             lambda cost: cost if counts else cost / total + more),
             "fastest": (kind.kind == "Q", lambda: self.quick(most).to(environment=alike), lambda cost: cost if counts else cost / most),
@@ -189,10 +190,10 @@ class Answer:
     status: int = 0
 
 
-def said(program: Program, word: str, text: str, line: str) -> Dict[str, str]:
-    """What the program says of a text, by the first words of its lines, where one of them is as wanted."""
+def said(program: Program, word: str, text: str, *wanted: str) -> Dict[str, str]:
+    """What the program says of a text, by the first words of its lines, among which are those that are wanted."""
     lines = program.call([word], text).report.split("\n")
-    need(line in lines, f"msp {word} does not say {line}")
+    need({*wanted}.issubset(lines), f"msp {word} does not say {' and '.join(wanted)}")
     return dict(it.split(" ", 1) for it in lines if " " in it)
 
 
@@ -207,10 +208,9 @@ def bound(program: Program, front: str, x: Given, line: str) -> Tuple[Fraction, 
         end = said(program, "accept", x.text() + read_text(f"{front}-certificate.txt"), "accepted yes")
     else:
         end = said(program, "solve", x.text(), f"start {x.kind}")
-        said(program, "check", x.text() + "schedule\n" + read_text(f"{front}-report.txt").partition("\nschedule\n")[2], f"cost {end['cost']}")
-    found = fraction(end.get("bound") or end["cost"], "bound")
-    for back in reversed(backs):
-        found = back(found)
+        report = "schedule\n" + read_text(f"{front}-report.txt").partition("\nschedule\n")[2]
+        said(program, "check", x.text() + report, f"cost {end['cost']}", "agree yes")
+    found = reduce(lambda cost, back: back(cost), reversed(backs), fraction(end.get("bound") or end["cost"], "bound"))
     need((str(found), word) == (value, "argued" if steps else "proved"), f"the steps of {line} give {found}")
     return found, word, ", ".join([*steps, end.get("kind") or str(x.kind)])
 
@@ -222,13 +222,13 @@ def answer(wanted: Wanted, _: Tell) -> Answer:
     program, folder, found = need_program(wanted.program), wanted.folder, Answer()
     try:
         text, schedule = read_text(f"{folder}/instance.txt"), read_text(f"{folder}/schedule.txt")
-        judged, given = said(program, "check", text + schedule, "feasible yes"), Given(**vars(read_instance(text)))
-        need(given.text() == text and judged["agree"] == "yes", "instance.txt is not as it is printed, or the cost not that of the schedule")
+        judged, given = said(program, "check", text + schedule, "agree yes"), Given(**vars(read_instance(text)))
+        need(given.text() == text, "instance.txt is not as it is printed")
         found.name, found.cost = str(given.kind), fraction(judged["cost"], "cost")
         for number, line in enumerate(read_text(f"{folder}/bounds.txt").splitlines(), 1):
             found.bounds.append(bound(program, f"{folder}/bound-{number}", given, line))
             need(found.bounds[-1][0] <= found.cost, "a bound is above the cost")
-    except (Refusal, LookupError, ValueError) as fault:
+    except (Refusal, LookupError, ValueError, ArithmeticError) as fault:
         found.fault, found.status = str(fault), 1
     return found
 
