@@ -199,7 +199,8 @@ class Builder:
         found = Instance(kind, len(machines), [self.given.speeds[old - 1] for old in machines] if self.given.speeds else [], time, jobs, arcs)
         self.say_pinned(kind)
         if not self.dated and self.origin:
-            self.told.append(f"moments count from {self.origin} on, and costs too")
+            counted = ", and costs too" if kind.criterion in ("Cmax", "sumC", "sumwC") else ""
+            self.told.append(f"moments count from {self.origin} on{counted}")
         running = [replace(it, machine=machines[it.machine]) for it in self.running]
         return Leftover(found, self.origin, running, list(self.order(machines, names)), machines, self.told)
 

@@ -145,13 +145,14 @@ def replanned(program: Program, given: Instance, old: Schedule, happened: Happen
 
 
 def begins_of(given: Instance, old: Sequence[Piece], left: Leftover, proposal: Proposal) -> List[Begin]:
-    """Old and new begins, in the order of the new ones."""
+    """Old and new begins of what does not run, in the order of the new ones."""
     shift = 0 if "r" in left.instance.kind.items else left.origin
     machines = {new: number for number, new in left.machines.items()}
     first: Dict[Tuple[str, int], Piece] = {}
     for it in sorted(old, key=lambda it: (it.start, it.end)):
         first.setdefault((it.job, it.operation), it)
-    found, seen = [], set()
+    found: List[Begin] = []
+    seen = {(it.job, it.number) for it in left.running}
     for it in sorted(proposal.pieces, key=lambda it: (it.start, it.machine)):
         number = old_number(given, left.instance, it)
         if (it.job, number) not in seen:

@@ -8,7 +8,7 @@ from typing import List, Tuple
 from ..faults import Misfit
 from ..files import read_text
 from ..leftover import Happened
-from ..numbers import said, whole
+from ..numbers import said
 from ..program import need_program
 from ..proposals import Search
 from ..replanning import Begin, Replanned, replanned
@@ -60,10 +60,9 @@ def operation(text: str, word: str) -> Tuple[str, int]:
 
 def number(text: str, word: str) -> int:
     """A whole number from 0."""
-    value = whole(text, word)
-    if value < 0:
+    if not re.fullmatch(r"[0-9]{1,18}", text):
         raise Misfit(f"{word} {text}: a whole number from 0, in the units of the instance")
-    return value
+    return int(text)
 
 
 def machine(text: str) -> int:
