@@ -176,9 +176,9 @@ class Shop:
         if not those:
             return None
         if not self.delays:
-            return max(free, min([now[job] for job, _ in those]))
+            return max(free, min(now[job] for job, _ in those))
         # (times by their place, which is faster than by their name)
-        return min([(free if free > now[job] else now[job]) + step[2] for job, step in those])
+        return min((free if free > now[job] else now[job]) + step[2] for job, step in those)
 
     def open_ones(self) -> List[Tuple[int, Step, int]]:
         """The operations among which is chosen, with when they begin: those that begin first, or with delays before the first end on its machine."""

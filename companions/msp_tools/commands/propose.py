@@ -124,7 +124,8 @@ def words(parser: Parser) -> None:
     parser.add_argument("--tries", metavar="N", type=positive, help="how many schedules the search looks at; without it what takes seconds")
     parser.add_argument("--seed", metavar="N", type=positive, default=1, help="another sequence of what the search draws; without it 1")
     parser.add_argument("--from", metavar="SCHEDULE", dest="begin", help="a schedule text to begin with, as one's own plan")
-    parser.add_argument("--by", choices=["minizinc"], dest="solver", help="takes a schedule of Gecode, which MiniZinc calls, as one more to begin with; no cuts")
+    parser.add_argument("--by", choices=["minizinc"], dest="solver",
+                        help="takes a schedule of Gecode, which MiniZinc calls, as one more to begin with; no cuts")
     parser.add_argument("--nodes", metavar="N", type=positive, default=NODES, help=f"how many nodes Gecode looks at; without it {NODES}")
     parser.add_argument("--jssp", action="store_true", help="FILE is a usual text of job shops: numbers of jobs and machines, and for each job its "
                         "machines from 0 with their times")
