@@ -76,6 +76,8 @@ CRITERIA: dict[str, Sequence[str]] = {
     "sumwT": ("least-weight", "late-by-one", "least-weight late-by-one", "greatest", "least-weight greatest")}
 # (what is left out, in the order in which the steps are made; of each place one further is looser)
 LEFT_OUT = (("", "no-precedence"), ("", "no-release"), ("", "equal", "equal unit"), ("", "cut", "one-machine"))
+# (the same where all times are equal already)
+LEFT_OUT_OF_EQUAL = (*LEFT_OUT[:2], ("", "unit"), *LEFT_OUT[3:])
 
 
 class Finder:
@@ -115,8 +117,9 @@ class Finder:
     def left_out(self, chain: Chain) -> Iterator[Chain]:
         """The chains to classes with a solver that leave out least."""
         found: list[tuple[int, ...]] = []
-        for places in sorted(itertools.product(*(range(len(it)) for it in LEFT_OUT)), key=lambda it: (sum(it), it)):
-            names = " ".join(them[at] for them, at in zip(LEFT_OUT, places))
+        several = LEFT_OUT if chain.last.kind.general else LEFT_OUT_OF_EQUAL
+        for places in sorted(itertools.product(*(range(len(it)) for it in several)), key=lambda it: (sum(it), it)):
+            names = " ".join(them[at] for them, at in zip(several, places))
             kind = class_behind(chain.last.kind, names)
             if kind and not any(looser(places, it, kind) for it in found) and self.solved(kind):
                 further = self.by_names(chain, names)
