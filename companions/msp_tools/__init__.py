@@ -9,11 +9,12 @@ import importlib
 from typing import TYPE_CHECKING, Any
 
 if TYPE_CHECKING:
-    from .library import (Acceptance, Certificate, Fault, Instance, Label, ListWords, Misfit, Piece, Program, ProgramRefusal, Refusal, Schedule,
-                          Trial, Verdict, Why, accept, certify, check, label, labels, need_program, solve, trial, why)
+    from .library import (Acceptance, Certificate, Fault, Instance, Label, ListWords, Misfit, Piece, Program, ProgramRefusal, Proposal,
+                          Refusal, Schedule, Trial, Verdict, Why, accept, certify, check, label, labels, need_program, propose, solve, trial, why)
 
-__all__ = ["Acceptance", "Certificate", "Fault", "Instance", "Label", "ListWords", "Misfit", "Piece", "Program", "ProgramRefusal", "Refusal",
-           "Schedule", "Trial", "Verdict", "Why", "accept", "certify", "check", "label", "labels", "need_program", "solve", "trial", "why"]
+__all__ = ["Acceptance", "Certificate", "Fault", "Instance", "Label", "ListWords", "Misfit", "Piece", "Program", "ProgramRefusal", "Proposal",
+           "Refusal", "Schedule", "Trial", "Verdict", "Why", "accept", "certify", "check", "label", "labels", "need_program", "propose", "solve",
+           "trial", "why"]
 
 
 def __getattr__(name: str) -> Any:

@@ -6,14 +6,16 @@ blanks and tabs, capitals, decimals for parts of a unit, a missing line `end`.
 from __future__ import annotations
 
 import re
-from dataclasses import dataclass, field
+from dataclasses import dataclass, field, replace
 from fractions import Fraction
-from typing import List, Tuple
+from typing import List, Mapping, Sequence, Tuple
 
 from . import numbers
 from .faults import Fault
-from .schedules import Piece, cost_of, text_of
+from .problems import Problem
+from .schedules import Piece, cost_of, ends_of, text_of
 from .texts import Instance
+from .timing import listed, serial
 
 Order = List[Tuple[str, int]]  # (names of jobs, each with its line)
 Lines = List[Tuple[int, List[str]]]
@@ -150,26 +152,29 @@ def order_of(lines: Lines, instance: Instance, slips: list[str]) -> tuple[Order,
 
 
 def by_order(words: Order, instance: Instance) -> tuple[list[Piece], dict[str, Fraction]]:
-    """The pieces of an order: each job as early as the ones in front of it allow, on the machine that is free first; or a fault."""
-    if instance.kind.kind not in "1PF":
-        raise Fault(f"an order alone makes no schedule in {instance.kind}: hand in the pieces")
-    free = [Fraction(0)] * instance.machines
-    ends: dict[str, Fraction] = {}
-    pieces: list[Piece] = []
-    for name, line in words:
-        job = instance.by_name[name]
-        before = [one for one, other in instance.arcs if other == name]
-        if any(it not in ends for it in before):
-            raise Fault(f"line {line}: {name} stands in front of a job that it comes after")
-        now = max([Fraction(job.release_date), *(ends[it] for it in before)])
-        for number, (machine, time) in enumerate(instance.operations(job), 1):
-            at = machine - 1 if machine else free.index(min(free))
-            if time:
-                start = max(free[at], now)
-                now = free[at] = start + time
-                pieces.append(Piece(name, number, at + 1, start, now, line))
-        ends[name] = now
-    return pieces, ends
+    """The pieces of an order, and when the jobs end; or a fault. On one machine and in flow shops it is the sequence itself; on identical machines,
+    whenever one is free, the first job of the order begins that can, on the free machine of least number."""
+    problem = Problem(instance)
+    if problem.instance.kind.kind not in "1PF":
+        raise Fault(f"an order alone makes no schedule in {instance.kind}: hand in the pieces, each with its machine and its moments")
+    lines = dict(words)
+    order = [problem.names[name] for name, _ in words]
+    if instance.kind.kind == "P":
+        placed = listed(problem, order)
+    else:
+        refuse_early(problem, order, lines)
+        placed = serial(problem, order)
+    pieces = [replace(it, line=lines[it.job]) for it in problem.pieces(placed)]
+    return pieces, ends_of(pieces)
+
+
+def refuse_early(problem: Problem, order: Sequence[int], lines: Mapping[str, int]) -> None:
+    """Refuses a sequence in which a job stands in front of one that it comes after."""
+    places = {job: at for at, job in enumerate(order)}
+    for job in order:
+        name = problem.instance.jobs[job].name
+        if any(places[it] > places[job] for it in problem.before[job]):
+            raise Fault(f"line {lines[name]}: {name} stands in front of a job that it comes after")
 
 
 def read(data: bytes, instance: Instance) -> HandIn:

@@ -1,6 +1,6 @@
 """The library: instances, the commands of the program as functions that answer dataclasses, schedules, and charts that a notebook shows.
 
-    from msp_tools import Instance, solve
+    from msp_tools import Instance, propose, solve
     week = Instance.from_rows("1||Lmax", [{"job": "saw", "p": 3, "d": 8}, {"job": "glue", "p": 2, "d": 4}])
     plan = solve(week)
     plan.cost, plan.ends(), plan.lateness()
@@ -26,14 +26,17 @@ from .naming import class_of
 from .numbers import fraction
 from .pictures import svg
 from .program import Program, need_program
+from .proposals import Proposal as Proposed
+from .proposals import Search, proposal_of
 from .schedules import Piece, cost_at, cost_of, ends_of
 from .settings import ListWords
 from .spreadsheets import Record, Table, table_of, table_of_rows
 from .telling import Told
 from .units import Names, Units, UnitWords
 
-__all__ = ["Acceptance", "Certificate", "Fault", "Frame", "Instance", "Label", "ListWords", "Misfit", "Piece", "Program", "ProgramRefusal", "Refusal",
-           "Schedule", "Trial", "Verdict", "Why", "accept", "certify", "check", "label", "labels", "need_program", "solve", "trial", "why"]
+__all__ = ["Acceptance", "Certificate", "Fault", "Frame", "Instance", "Label", "ListWords", "Misfit", "Piece", "Program", "ProgramRefusal",
+           "Proposal", "Refusal", "Schedule", "Trial", "Verdict", "Why", "accept", "certify", "check", "label", "labels", "need_program", "propose",
+           "solve", "trial", "why"]
 Row = Mapping[str, object]
 
 
@@ -100,6 +103,11 @@ class Instance(texts.Instance):
     def __str__(self) -> str:
         """The instance text."""
         return self.text()
+
+
+def as_ours(instance: texts.Instance) -> Instance:
+    """An instance as the library has it."""
+    return instance if isinstance(instance, Instance) else Instance.from_read(instance)
 
 
 # Schedules
@@ -211,6 +219,16 @@ class Trial:
     cost: Fraction
 
 
+@dataclass
+class Proposal(Proposed):
+    """A plan with its cost, the greatest bound, the gap between them and what is known of it: proved, argued or open."""
+
+    @property
+    def schedule(self) -> Schedule:
+        """The plan as a schedule."""
+        return Schedule(as_ours(self.instance), self.cost, self.pieces)
+
+
 def fields_in(report: str) -> dict[str, str]:
     """The first words of the lines of a report, each with what stands behind it."""
     return dict(it.split(" ", 1) for it in report.splitlines() if " " in it)
@@ -218,8 +236,19 @@ def fields_in(report: str) -> dict[str, str]:
 
 def solve(instance: texts.Instance, program: Program | None = None) -> Schedule:
     """The best schedule of an instance. ProgramRefusal: 3 where it has a fault, 4 a limit, 5 no solver for its class."""
-    given = instance if isinstance(instance, Instance) else Instance.from_read(instance)
+    given = as_ours(instance)
     return Schedule.from_text(given, (program or need_program()).report(["solve"], given.text(), (0,)).report)
+
+
+def propose(instance: texts.Instance, tries: int | None = None, seed: int = 1, begin: Schedule | None = None,
+            program: Program | None = None) -> Proposal:
+    """A plan for an instance of any class that `check` judges, by rules and a local search that looks at so many schedules (without a number at
+    what takes seconds); `begin` is a plan of one's own from which it begins. ProgramRefusal: 3 where the instance has a fault, 4 a limit, 5 where
+    its class is cut and on R2 or R."""
+    given = as_ours(instance)
+    start = None if begin is None else schedules.Schedule(begin.cost, 1, begin.pieces)
+    found = proposal_of(program or need_program(), given, Search(tries, seed, start))
+    return Proposal(**vars(found))
 
 
 def check(schedule: Schedule, program: Program | None = None) -> Verdict:

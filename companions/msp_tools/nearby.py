@@ -1,4 +1,4 @@
-"""Classes near by that have a solver, and what they say of an instance: lower bounds, and schedules that `check` finds feasible."""
+"""Classes near by that have a solver, and what they say of an instance: schedules that `check` finds feasible."""
 from __future__ import annotations
 
 from dataclasses import dataclass
@@ -10,7 +10,7 @@ from .draws import Wanted
 from .draws import text_of as drawn_text
 from .numbers import fraction
 from .program import Program
-from .relaxations import Way, bound_of, by_sed, moved, nearest, relaxations, restrictions
+from .relaxations import Way, by_sed, moved, nearest, relaxations, restrictions
 from .schedules import read_schedule
 from .texts import Instance
 
@@ -60,30 +60,11 @@ def serving(program: Program, kind: ClassName) -> list[Near]:
 
 
 @dataclass
-class Bound:
-    """A lower bound of an instance, and the class that gives it."""
-    cost: Fraction
-    near: Near
-
-
-@dataclass
 class Served:
     """A feasible schedule of an instance with its cost, and the class that gives it."""
     cost: Fraction
     near: Near
     text: str
-
-
-def bounds_for(program: Program, given: Instance) -> list[Bound]:
-    """The lower bounds for an instance by the nearest relaxations, the greatest first."""
-    found = []
-    for way in nearest(has_solver(program), given.kind, relaxations):
-        instances = moved(given, way)
-        if instances[-1].jobs:
-            status, report, _ = program.call(["solve"], instances[-1].text())
-            if status == 0:
-                found.append(Bound(bound_of(read_schedule(report).cost, instances, way), near_of(way)))
-    return sorted(found, key=lambda it: -it.cost)
 
 
 def schedules_for(program: Program, given: Instance) -> list[Served]:

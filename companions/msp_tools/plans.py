@@ -7,13 +7,13 @@ from dataclasses import dataclass
 from fractions import Fraction
 
 from .charts import clean
-from .early import early
 from .faults import Fault, Misfit
 from .files import read_text
 from .judging import Verdict, Words, judge
 from .program import Program
 from .schedules import Piece, Schedule, read_schedule, text_of
 from .texts import Instance, read_instance, read_instance_at
+from .timing import early
 from .units import Spoken, Units
 
 MOST_PAUSES = {False: 3, True: 100}  # (of a piece, in a table and in a file)

@@ -5,7 +5,7 @@ import importlib
 import sys
 
 NAMES = ("atlas", "check-all", "choose", "cite", "from-csv", "gantt", "grade", "make-instance",
-         "plan", "print-sheet", "reduces", "to-schedule", "what-if")
+         "plan", "print-sheet", "propose", "reduces", "replan", "to-schedule", "verify", "what-if")
 
 
 def run_named() -> None:

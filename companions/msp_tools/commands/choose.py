@@ -5,12 +5,13 @@ import re
 import sys
 from dataclasses import dataclass, field
 
+from ..bounds import Bound, bounds_of, of_each_class
 from ..classes import ClassName
 from ..faults import Misfit
 from ..files import need_file, read_text
 from ..literature import lines_of
 from ..naming import Meaning, Variant, meaning_in_words, meaning_of
-from ..nearby import Bound, Near, Served, Solver, bounding, bounds_for, schedules_for, serving, solver_of
+from ..nearby import Near, Served, Solver, bounding, schedules_for, serving, solver_of
 from ..program import Program, need_program
 from ..texts import Instance, read_instance_at
 from ..units import Units, UnitWords
@@ -27,9 +28,10 @@ It prints the class, its label with the reason (a chain of reductions to or from
 over which rows. A name with a fixed number of machines that is not said, as Pm, stands for the classes with two and with three; tree
 stands for intree and outtree. Where a class has no solver, it prints the nearest classes that have one: relaxations, whose best cost
 bounds that of the instance from below, and those whose schedules may serve, each with the command that rewrites the instance; behind it
-`check` says whether the schedule fits, and what it costs. With --instance these commands are carried out: bounds are printed, the greatest
-first, and of the schedules those that `check` finds feasible, the best first. Bounds and costs are in the units of the instance, or with the
-file that from-csv --names wrote in those of the list; a schedule is always in those of the instance.
+`check` says whether the schedule fits, and what it costs. With --instance it prints the greatest bounds, each with its word (docs/bounds.md),
+with what `solve` or `accept` showed and with the steps to it, and of the schedules those that `check` finds feasible, the best first. Bounds
+and costs are in the units of the instance, or with the file that from-csv --names wrote in those of the list; a schedule is always in those
+of the instance.
 
 It ends with 0 where the class has a solver, with 1 where it has none (of several classes: one has none), and with 2 where the words do
 not fit.
@@ -40,6 +42,7 @@ QUESTIONS = (("environment", "machines: 1, P (identical), Q (uniform), R (unrela
              ("releases", "release dates? yes or no"), ("times", "times: any, equal or unit"),
              ("criterion", "criterion: Cmax, Lmax, fmax, sumC, sumwC, sumU, sumwU, sumT or sumwT"))
 YES, NO = ("y", "yes", "j", "ja", "oui"), ("n", "no", "nein", "non")
+MOST_BOUNDS = 5
 TIMES: dict[str, list[str]] = {"any": [], "": [], "equal": ["p=p"], "unit": ["p=1"]}
 
 
@@ -125,18 +128,18 @@ def meant(wanted: Wanted, lines: list[str]) -> Meaning:
 
 # What is known of it
 
-def found_of(program: Program, kind: ClassName, results: str, given: Instance | None) -> Found:
+def found_of(program: Program, kind: ClassName, results: str, given: Instance | None, tell: Tell) -> Found:
     """A class with its label, its solver, and what is near by."""
     why = program.report(["why", str(kind)], results).report.splitlines()[:-1]
     found = Found(str(kind), why, solver_of(program, kind))
     if found.solver is None and given:
-        found.bounds, found.schedules = bounds_for(program, given), schedules_for(program, given)
+        found.bounds, found.schedules = list(of_each_class(bounds_of(given, program, tell)))[:MOST_BOUNDS], schedules_for(program, given)
     elif found.solver is None:
         found.bounding, found.serving = bounding(program, kind), serving(program, kind)
     return found
 
 
-def answer(wanted: Wanted, _: Tell) -> Answer:
+def answer(wanted: Wanted, tell: Tell) -> Answer:
     """The classes that are meant, and what is known of them."""
     if wanted.instance and (wanted.name or wanted.environment or wanted.criterion):
         raise Misfit("--instance has its class: leave the others out")
@@ -151,7 +154,7 @@ def answer(wanted: Wanted, _: Tell) -> Answer:
         units.need(None, given)
     means = Meaning(str(given.kind), (Variant(given.kind, None, None),)) if given else meant(wanted, lines)
     lines += lines_of(program, results, means)
-    return Answer(lines, [found_of(program, kind, results, given) for kind in means.classes], means.single, given, units)
+    return Answer(lines, [found_of(program, kind, results, given, tell) for kind in means.classes], means.single, given, units)
 
 
 # Printing
@@ -175,7 +178,9 @@ def show_instance(found: Found, given: Instance, units: Units) -> None:
     criterion = given.kind.criterion
     print(f"lower bounds, by relaxation, {counted}:" if found.bounds else "lower bounds, by relaxation: none near by")
     for bound in found.bounds:
-        print(f"  at least {units.cost(bound.cost, criterion)}    {bound.near.name}    {', '.join(bound.near.moves)}")
+        behind = bound.solved if "|" in bound.solved else f"certificate {bound.solved}"
+        steps = [", ".join(it.words for it in bound.steps)] if bound.steps else []
+        print("    ".join([f"  at least {units.cost(bound.value, criterion)}", bound.word, behind, *steps]))
     print(f"schedules that fit, by check, {counted}:" if found.schedules else "schedules that fit, by check: none near by")
     for served in found.schedules:
         print(f"  cost {units.cost(served.cost, criterion)}    {served.near.name}    {', '.join(served.near.moves)}")

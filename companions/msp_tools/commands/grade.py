@@ -21,8 +21,9 @@ Grades a folder of schedules, as a table: who is feasible, what is broken first,
 INSTANCE is an instance text, or a folder of sheets: then each student's sheet is the one with the student's name, or else the one that
 the path of the hand-in names (ada/sheet-7.txt, ada_sheet-7.txt). FOLDER has what was handed in, a file or a folder for each student;
 folders in it are walked, as course systems hand them out. A hand-in is a schedule text, from the line `schedule` on; what stands before
-that line, as the instance or the first lines of a report of `solve`, is left out. On one machine, on identical machines and in flow shops
-an order of all jobs will do, each as early as it can be. CSV goes to standard output:
+that line, as the instance or the first lines of a report of `solve`, is left out. On one machine and in flow shops an
+order of all jobs will do, each as early as it can be, and on identical machines too: whenever one is free, the first job of it begins that
+can, on the free machine of least number. CSV goes to standard output:
 
     name       the file's name without its ending, or the folder's; where two would be named alike, the path
     feasible   yes or no; empty where the text could not be read

@@ -1,0 +1,127 @@
+"""From the schedules of the rules to a better one: which space is searched in which class, and how far."""
+from __future__ import annotations
+
+from typing import Callable, List, Sequence, TypeVar
+
+from .cutting import cut_cost, cut_pieces
+from .lanes import Lanes, lanes_of
+from .priorities import Tried
+from .problems import Placed, Problem
+from .routes import Routes
+from .schedules import Piece
+from .search import Best, Draw, Effort, search
+from .sequences import Sequences, State, by_permutation, by_serial, placed_apart
+from .tabu import tabu
+from .timing import serial
+
+S = TypeVar("S")
+MOST_STARTS = 3
+# (operations that are looked at, in the standard effort: for each job, and at least)
+EFFORT_FOR_A_JOB = 100_000
+LEAST_EFFORT = 6_000_000
+LEAST_TRIES, MOST_TRIES, MOST_TRIES_FOR_A_JOB = 2_000, 100_000, 2_000
+FINE = 2**40  # (into so many parts a cost is divided where it is no whole number)
+
+
+def standard_tries(problem: Problem) -> int:
+    """How many neighbours are looked at where it is not said: fewer of large ones, so that it takes seconds."""
+    looked_at = problem.operations()
+    if not problem.shop and not problem.bound and not problem.cut:
+        looked_at = 2 * problem.count // problem.machines
+    slow = 20 if problem.cut else 3 if problem.instance.kind.kind in "OJ" or problem.bound and not problem.alike else 1
+    tries = max(LEAST_EFFORT, EFFORT_FOR_A_JOB * problem.count) // ((looked_at + 10) * slow)
+    return min(max(tries, LEAST_TRIES // slow), MOST_TRIES, MOST_TRIES_FOR_A_JOB * problem.operations())
+
+
+def starts_of(found: Sequence[Tried], state: Callable[[Tried], S], most: int = MOST_STARTS) -> List[S]:
+    """The states of the best schedules, of each cost one."""
+    starts: List[S] = []
+    costs: List[float] = []
+    for it in sorted(found, key=lambda it: it.cost):
+        if it.cost not in costs and len(starts) < most:
+            costs.append(it.cost)
+            starts.append(state(it))
+    return starts
+
+
+def in_lanes(problem: Problem, found: Sequence[Tried], effort: Effort, draw: Draw) -> List[Placed]:
+    """Sequences of machines, where no job comes after another."""
+    space = Lanes(problem, draw)
+    told = effort.heard
+    effort.heard = lambda value: told(value // space.base)
+    if effort.target is not None:
+        effort.target = space.value_of(effort.target)
+    starts = starts_of(found, lambda it: lanes_of(problem, it.placed))
+    space.back(starts[0])
+    return space.placed(search(space, effort, starts).state)
+
+
+def by_begins(placed: Sequence[Placed]) -> List[int]:
+    """The jobs in the order in which they begin."""
+    return list(dict.fromkeys(it.job for it in sorted(placed, key=lambda it: (it.start, it.end))))
+
+
+def in_order(problem: Problem, found: Sequence[Tried], effort: Effort, draw: Draw) -> List[Placed]:
+    """Orders, where jobs come after others; on machines that are not alike each start fixes the jobs on its machines."""
+    space = Sequences(problem, draw, by_serial(problem), not problem.alike)
+    those = sorted(found, key=lambda it: it.cost)[:MOST_STARTS]
+    best = searched(space, [State(by_begins(it.placed), machines_of(problem, it.placed)) for it in those], effort)
+    if problem.alike:
+        return serial(problem, best.state.order)
+    ends = placed_apart(problem, best.state.order, best.state.fixed)
+    return [Placed(job, 1, at, end - problem.times[job][at], end) for job, (at, end) in enumerate(ends)]
+
+
+def machines_of(problem: Problem, placed: Sequence[Placed]) -> List[int]:
+    """The machine of each job."""
+    found = [-1] * problem.count
+    for it in placed:
+        found[it.job] = it.machine
+    return found
+
+
+def searched(space: Sequences, starts: List[State], effort: Effort) -> Best[State]:
+    """The best order that is found."""
+    space.back(starts[0])
+    return search(space, effort, starts)
+
+
+def as_flow(problem: Problem, found: Sequence[Tried], effort: Effort, draw: Draw) -> Tried:
+    """One order on all machines of a flow shop."""
+    decode = by_permutation(problem)
+    those = sorted((it for it in found if it.order and it.timing == "serial"), key=lambda it: it.cost)
+    starts = [State(by_begins(it.placed), []) for it in those[:MOST_STARTS]] or [State(list(range(problem.count)), [])]
+    best = searched(Sequences(problem, draw, decode), starts, effort)
+    placed = serial(problem, best.state.order)
+    return Tried("search", "serial", best.value, placed, best.state.order)
+
+
+def in_shop(problem: Problem, found: Sequence[Tried], effort: Effort, draw: Draw) -> List[Placed]:
+    """Graphs of shops, and before it in flow shops one order on all machines."""
+    those = list(found)
+    if problem.instance.kind.kind == "F":
+        before = Effort(effort.tries // 2, effort.target, effort.heard)
+        those.append(as_flow(problem, found, before, draw))
+        effort.tries = 0 if before.interrupted else effort.tries - effort.tries // 2
+        effort.interrupted = before.interrupted
+    space = Routes(problem, draw)
+    return space.placed(tabu(space, effort, starts_of(those, lambda it: space.state_of(it.placed))).state)
+
+
+def uncut(problem: Problem, found: Sequence[Tried], effort: Effort, draw: Draw) -> List[Placed]:
+    """The best schedule that the search finds, in a class without cuts."""
+    way = in_shop if problem.shop else in_order if problem.bound else in_lanes
+    return way(problem, found, effort, draw)
+
+
+def cut(problem: Problem, found: Sequence[Tried], effort: Effort, draw: Draw) -> List[Piece]:
+    """The best order that the search finds where work may be cut, as pieces."""
+    def fine(order: Sequence[int], _: Sequence[int]) -> int:
+        return int(cut_cost(problem, order) * FINE)
+
+    told = effort.heard
+    effort.heard = lambda value: told(value / FINE)
+    if effort.target is not None:
+        effort.target = effort.target * FINE
+    starts = [State(it.order, []) for it in sorted(found, key=lambda it: it.cost)[:MOST_STARTS]]
+    return cut_pieces(problem, searched(Sequences(problem, draw, fine), starts, effort).state.order)

@@ -1,0 +1,232 @@
+"""Schedules as the sequences of the machines: where each job has one operation, and none comes after another.
+
+A neighbour moves a job to another place, or exchanges two. Only the sequences that change are costed anew.
+"""
+from __future__ import annotations
+
+from itertools import accumulate
+from typing import List, Sequence
+
+from .problems import Placed, Problem
+from .search import Draw
+
+Sequences = List[List[int]]
+
+
+def ranked(problem: Problem) -> list[list[int]] | None:
+    """The rank of each job on each machine, where the best order on a machine is known; else None."""
+    kind, jobs = problem.criterion, range(problem.count)
+    keys: list[list[tuple[float, int]]]
+    if kind == "Cmax":
+        keys = [[(problem.release[job], job) for job in jobs]] * problem.machines
+    elif problem.dated:
+        return None
+    elif kind == "Lmax":
+        keys = [[(problem.due[job], job) for job in jobs]] * problem.machines
+    elif kind in ("sumC", "sumwC"):
+        # (a weight of 0 stands last)
+        keys = [[(ratio(problem.times[job][at], problem.weight[job]), job) for job in jobs] for at in range(problem.machines)]
+    else:
+        return None
+    found = []
+    for those in keys:
+        order = sorted(jobs, key=those.__getitem__)
+        ranks = [0] * problem.count
+        for rank, job in enumerate(order):
+            ranks[job] = rank
+        found.append(ranks)
+    return found
+
+
+def ratio(time: int, weight: int) -> float:
+    """Time for weight."""
+    return time / weight if weight else float("inf")
+
+
+class Lanes:
+    """A space of sequences, one for each machine. Values are costs with what breaks ties in their last digits."""
+
+    def __init__(self, problem: Problem, draw: Draw) -> None:
+        self.problem, self.draw = problem, draw
+        self.count, self.machines = problem.count, problem.machines
+        self.times = [[it[at] for it in problem.times] for at in range(problem.machines)]
+        self.ranks = ranked(problem)
+        self.counted = problem.criterion[-1] == "U"
+        self.dated = problem.dated
+        span = max([*problem.release, *problem.begins]) + sum(max(it) for it in problem.times) + 1
+        self.base = span * span * self.machines if problem.criterion == "Cmax" else span * self.machines if self.counted else 1
+        self.lanes: Sequences = [[] for _ in range(self.machines)]
+        self.values: list[int] = []
+        self.where: list[int] = [0] * self.count
+        self.value = 0
+        self.moves: list[tuple[int, list[int], int]] = []
+        self.next_value = 0
+
+    # Values
+
+    def ends(self, at: int, sequence: Sequence[int]) -> list[int]:
+        """When the jobs of a sequence end on a machine."""
+        times = self.times[at]
+        if not self.dated:
+            return list(accumulate(map(times.__getitem__, sequence), initial=self.problem.begins[at]))[1:]
+        release, now, found = self.problem.release, self.problem.begins[at], []
+        for job in sequence:
+            if release[job] > now:
+                now = release[job]
+            now += times[job]
+            found.append(now)
+        return found
+
+    def lane_value(self, at: int, sequence: Sequence[int]) -> int:
+        """The value of a sequence on a machine."""
+        if self.counted:
+            return self.counted_value(at, sequence)
+        if not sequence:
+            return -(10**40) if self.problem.greatest else 0
+        ends = self.ends(at, sequence)
+        if self.problem.criterion == "Cmax":
+            return ends[-1] * self.base + ends[-1] * ends[-1]
+        return self.problem.total(self.problem.costs(sequence, ends))
+
+    def counted_value(self, at: int, sequence: Sequence[int]) -> int:
+        """The weight of the jobs that are late where none that would be late runs, and when the others end."""
+        times, release, due, weight = self.times[at], self.problem.release, self.problem.due, self.problem.weight
+        now, late = self.problem.begins[at], 0
+        for job in sequence:
+            begin = release[job]
+            end = (begin if begin > now else now) + times[job]
+            if end <= due[job]:
+                now = end
+            else:
+                late += weight[job]
+        return late * self.base + now
+
+    def whole(self, values: Sequence[int]) -> int:
+        """The value of a schedule whose machines have these values."""
+        if not self.problem.greatest:
+            return sum(values)
+        if self.base == 1:
+            return max(values)
+        return max(values) // self.base * self.base + sum(it % self.base for it in values if it > 0)
+
+    def value_of(self, cost: int) -> int:
+        """The greatest value that a schedule of a cost can have."""
+        return cost * self.base + self.base - 1
+
+    # The space
+
+    def state(self) -> Sequences:
+        """The sequences, for later."""
+        return [list(it) for it in self.lanes]
+
+    def back(self, state: Sequences) -> None:
+        """Holds sequences."""
+        self.lanes = [list(it) for it in state]
+        if self.ranks:
+            for lane, ranks in zip(self.lanes, self.ranks):
+                lane.sort(key=ranks.__getitem__)
+        for at, lane in enumerate(self.lanes):
+            for job in lane:
+                self.where[job] = at
+        self.values = [self.lane_value(at, lane) for at, lane in enumerate(self.lanes)]
+        self.value = self.whole(self.values)
+
+    def take(self) -> None:
+        """Holds the neighbour."""
+        for at, lane, value in self.moves:
+            self.lanes[at], self.values[at] = lane, value
+            for job in lane:
+                self.where[job] = at
+        self.value = self.next_value
+
+    def neighbour(self) -> int | None:
+        """A job moves, or two are exchanged."""
+        job = self.draw.below(self.count)
+        if self.ranks or self.machines > 1 and self.draw.one() < 0.6:
+            changed = self.across(job)
+        else:
+            changed = self.within(self.where[job], job)
+        if not changed:
+            return None
+        self.moves = [(at, lane, self.lane_value(at, lane)) for at, lane in changed]
+        values = list(self.values)
+        for at, _, value in self.moves:
+            values[at] = value
+        self.next_value = self.whole(values)
+        return self.next_value
+
+    def within(self, at: int, job: int) -> list[tuple[int, list[int]]]:
+        """A job at another place of its sequence, or exchanged with another."""
+        lane = list(self.lanes[at])
+        if len(lane) < 2:
+            return []
+        place = lane.index(job)
+        step = self.draw.near(len(lane))
+        other = place + step if self.draw.one() < 0.5 else place - step
+        if not 0 <= other < len(lane):
+            return []
+        if self.draw.one() < 0.4:
+            lane[place], lane[other] = lane[other], lane[place]
+        else:
+            lane.insert(other, lane.pop(place))
+        return [(at, lane)]
+
+    def across(self, job: int) -> list[tuple[int, list[int]]]:
+        """A job on another machine, or exchanged with one of another."""
+        at = self.where[job]
+        to = self.draw.below(self.machines - 1) if self.machines > 1 else at
+        to += to >= at
+        if self.machines < 2:
+            return []
+        one, other = list(self.lanes[at]), list(self.lanes[to])
+        place = one.index(job)
+        if other and self.draw.one() < 0.5:
+            near = self.draw.below(len(other))
+            back = other[near]
+            one[place], other[near] = back, job
+            self.settle(at, one)
+            self.settle(to, other)
+        else:
+            del one[place]
+            if self.ranks:
+                other.append(job)
+                self.settle(to, other)
+            else:
+                other.insert(min(self.draw.below(len(other) + 1), len(other)), job)
+        return [(at, one), (to, other)]
+
+    def settle(self, at: int, lane: list[int]) -> None:
+        """Puts a sequence into the order that is best on its machine, where it is known."""
+        if self.ranks:
+            lane.sort(key=self.ranks[at].__getitem__)
+
+    # Schedules
+
+    def placed(self, state: Sequences) -> list[Placed]:
+        """The pieces of sequences; where late jobs are counted those that would be late go last."""
+        found = []
+        for at, lane in enumerate(state):
+            sequence = self.behind(at, lane) if self.counted else lane
+            for job, end in zip(sequence, self.ends(at, sequence)):
+                found.append(Placed(job, 1, at, end - self.times[at][job], end))
+        return found
+
+    def behind(self, at: int, lane: Sequence[int]) -> list[int]:
+        """A sequence with the jobs that would be late behind the others."""
+        now, kept, late = self.problem.begins[at], [], []
+        for job in lane:
+            end = max(now, self.problem.release[job]) + self.times[at][job]
+            if end <= self.problem.due[job]:
+                kept.append(job)
+                now = end
+            else:
+                late.append(job)
+        return kept + late
+
+
+def lanes_of(problem: Problem, placed: Sequence[Placed]) -> Sequences:
+    """The sequences of a schedule."""
+    found: Sequences = [[] for _ in range(problem.machines)]
+    for it in sorted(placed, key=lambda it: it.start):
+        found[it.machine].append(it.job)
+    return found

@@ -1,0 +1,2 @@
+# The best that each rule gives.
+propose arrivals.txt --candidates

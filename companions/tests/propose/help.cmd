@@ -1,0 +1,1 @@
+propose --help | head -n 2

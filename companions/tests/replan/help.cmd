@@ -1,0 +1,1 @@
+replan --help | head -n 2
