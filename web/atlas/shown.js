@@ -1,5 +1,4 @@
 // The atlas in a frame: one view at a time, by the address behind #. The page of all classes has it, and the page for planners too.
-import { Atlas } from '../classes.js';
 import { element } from '../elements.js';
 import { NAMES, rankOf } from '../names.js';
 import { aboutView, proofView } from './about.js';
@@ -31,14 +30,14 @@ function turn(text, on, href, title) { return element('a', { class: 'turn', href
 /** The atlas in a frame. */
 export class Shown {
   /**
-   * @param {import('../classes.js').Data} data
+   * @param {import('../classes.js').Atlas} atlas
    * @param {Frame} frame
    * @param {string} prefix with which the addresses of its places begin
    */
-  constructor(data, frame, prefix) {
+  constructor(atlas, frame, prefix) {
     this.frame = frame;
     /** @type {View} */
-    this.view = { atlas: new Atlas(data), published: false, solved: false, current: rankOf('P2|pmtn,r|Cmax'), selection: [], prefix };
+    this.view = { atlas, published: false, solved: false, current: rankOf('P2|pmtn,r|Cmax'), selection: [], prefix };
     this.title = '';
     frame.main.addEventListener('click', event => this.click(event));
     searchBox(() => this.view, frame.input, frame.found, text => this.say(text));
