@@ -117,7 +117,9 @@ export class App {
       this.built = built(value.problem, this.clock);
       this.told = [];
       this.said = '';
-      if (this.running) this.running.abort();
+      const { running } = this;
+      this.running = null;
+      if (running) running.abort();
     }
     this.render();
     this.judge();
@@ -207,6 +209,7 @@ export class App {
       this.said = solved ? '' : this.why(status, note);
       if (solved) this.plan({ pieces: solved.pieces, from: 'best' });
     } catch (fault) {
+      if (this.running !== control) return;
       this.said = control.signal.aborted ? this.words.say('stopped') : this.words.say('failed', String(fault));
     }
     this.running = null;

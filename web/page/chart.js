@@ -34,7 +34,7 @@ import { endsOf } from './schedule.js';
  * @property {boolean} broken
  * @property {boolean} marked
  */
-/** @typedef {{kind: 'due' | 'release', x: number, y: number, row: number, late: boolean}} Mark */
+/** @typedef {{kind: 'due' | 'release', x: number, y: number, row: number, late: boolean, short: boolean}} Mark a short one stands above the bars */
 /**
  * @typedef {object} Chart
  * @property {number} width
@@ -162,8 +162,8 @@ function marksOf(wanted, place, lineOf, late) {
     /** @type {Mark[]} */
     const found = [];
     if (lineOf(row.id) < 0) return found;
-    if (d) found.push({ kind: 'due', x: place(d), y, row: row.id, late: late.has(row.id) });
-    if (r.n > 0n && wanted.byJob) found.push({ kind: 'release', x: place(r), y, row: row.id, late: false });
+    if (d) found.push({ kind: 'due', x: place(d), y, row: row.id, late: late.has(row.id), short: !wanted.byJob });
+    if (r.n > 0n && wanted.byJob) found.push({ kind: 'release', x: place(r), y, row: row.id, late: false, short: false });
     return found;
   });
 }

@@ -27,13 +27,13 @@ function barShape(bar) {
  * The mark of a due date, or of a release date.
  * @param {Mark} mark
  */
-function markShape({ kind, x, y, late }) {
+function markShape({ kind, x, y, late, short }) {
   const colour = late ? '#a11d27' : '#2c5b34', top = y + 2, foot = y + LINE - 2;
   if (kind === 'release') {
     const d = `M${x} ${top}V${foot}M${x} ${y + LINE / 2}l6 0`;
     return shape('path', { d, class: 'release', fill: 'none', stroke: '#1b4f9c', 'stroke-width': 2 });
   }
-  const d = `M${x} ${foot}V${top}h-8l4 4l-4 4h8`;
+  const d = short ? `M${x - 5} ${top - 1}h10l-5 8z` : `M${x} ${foot}V${top}h-8l4 4l-4 4h8`;
   return shape('path', { d, class: `due${late ? ' late' : ''}`, fill: colour, stroke: colour, 'stroke-width': 1.4 });
 }
 
@@ -126,8 +126,9 @@ export function tikzText(chart) {
   const bars = chart.bars.flatMap(({ x, y, width, label, late, colour }) => [
     `\\draw[fill=msp${'abcdefgh'[colour]}${late ? ',draw=red!70!black,thick' : ''}] ${at(x, y)} rectangle ${at(x + width, y + BAR)};`,
     ...(label ? [`\\node[font=\\scriptsize] at ${at(x + width / 2, y + BAR / 2)} {${latex(label)}};`] : [])]);
-  const marks = chart.marks.map(({ kind, x, y, late }) => `\\draw[thick,${kind === 'release' ? 'blue' : late ? 'red!70!black' : 'green!40!black'}] `
-    + `${at(x, y + 2)} -- ${at(x, y + LINE - 2)};`);
+  const colourOf = (/** @type {Mark} */ { kind, late }) => kind === 'release' ? 'blue' : late ? 'red!70!black' : 'green!40!black';
+  const marks = chart.marks.map(it => `\\draw[thick,${colourOf(it)}] `
+    + `${at(it.x, it.y + 2)} -- ${at(it.x, it.y + (it.short ? LINE / 4 : LINE - 2))};`);
   const colours = FILLS.map((it, place) => `\\definecolor{msp${'abcdefgh'[place]}}{HTML}{${it.slice(1).toUpperCase()}}`);
   return ['% \\usepackage{tikz}', ...colours, '\\begin{tikzpicture}', ...ticks, ...lines, ...bars, ...marks, '\\end{tikzpicture}', ''].join('\n');
 }

@@ -12,7 +12,6 @@ import { clockOf } from './clock.js';
 
 /** @typedef {import('./app.js').App} App */
 /** @typedef {import('./state.js').State} State */
-/** @typedef {import('../names.js').Parts} Parts */
 /** @typedef {{calls: {group: string, name: string, text: string | null}[], texts: Object<string, string>}} Examples */
 
 const UNITS = ['', 'min', 'h', 'd'];
@@ -47,8 +46,8 @@ export class InputView {
     this.history = element('span', { class: 'group', role: 'group' });
     this.clock = element('div', { class: 'fields' });
     this.shown = '';
-    /** The example that stands in the page. */
-    this.example = '';
+    /** What decides whether the fields of the clock are built anew. */
+    this.shape = '';
   }
 
   /** @param {string} key
@@ -70,30 +69,17 @@ export class InputView {
       this.note(this.say('noList'));
       return;
     }
-    const { problem, said, better } = taken(list, this.app.problem, this.app.words.german);
+    const { problem, said } = taken(list, this.app.problem, this.app.words.german);
     this.app.store.change({ ...this.app.state, problem, plan: null });
     const lines = said.map(([key, ...values]) => key === 'meaning' ? this.say(key, values[0], this.column(values[1])) : this.say(key, ...values));
-    this.note(...lines, ...(better ? [this.offer(better)] : []));
+    this.note(...lines);
+    if (!this.app.faults.length) this.app.solve();
   }
 
   /** @param {string} key */
   column(key) {
     const machine = key.match(/^p(\d+)$/);
     return machine ? this.say('pOn', this.app.machineName(Number(machine[1]))) : this.say(key);
-  }
-
-  /**
-   * A button for a class that has a place for all columns.
-   * @param {Parts} parts
-   */
-  offer(parts) {
-    const keys = [parts.release && 'r', parts.order && 'after', /^Lmax|[UT]$/.test(parts.criterion) && 'd', parts.criterion.startsWith('sumw') && 'w',
-      parts.environment[0] === 'J' && 'route', 'FOR'.includes(parts.environment[0]) && 'machines', parts.criterion === 'fmax' && 'curve'];
-    const columns = keys.flatMap(it => it ? [this.say(it)] : []).join(', ');
-    return button(this.say('useColumns', columns), () => {
-      this.app.change({ parts });
-      this.note();
-    }, { id: 'use-columns' });
   }
 
   /** The box for a list. */
@@ -188,6 +174,9 @@ export class InputView {
 
   renderClock() {
     const { problem } = this.app, set = (/** @type {string} */ key) => (/** @type {string} */ value) => this.app.change({ [key]: value });
+    const shape = JSON.stringify([this.app.words.language, { ...problem, rows: [] }, this.app.faults.filter(it => it.row === 0)]);
+    if (shape === this.shape) return;
+    this.shape = shape;
     const focus = document.activeElement instanceof HTMLElement ? document.activeElement.id : '';
     const units = UNITS.map(it => /** @type {[string, string]} */ ([it, this.say(`unit ${it || 'none'}`)]));
     fill(this.clock, field(this.say('unit'), choice('unit', units, problem.unit, set('unit'))),

@@ -1,6 +1,6 @@
 // A pasted list as rows of the table, and what is to be said of it.
 import { CellFault, converted, dateOf, numberOf } from './cells.js';
-import { columnsOf, hasDue, isShop } from './columns.js';
+import { columnsOf, fixedMachines, hasDue, isShop } from './columns.js';
 import { dateText } from './clock.js';
 import { nameOf, rankOf } from '../names.js';
 import { shown } from './fractions.js';
@@ -99,15 +99,14 @@ function rowsOf(list, keys, unit) {
 }
 
 /**
- * The criterion that has a place for due dates, weights and curves.
+ * The criterion that needs due dates, weights and curves where the list has them; the one that stands there, if it does.
  * @param {Parts} parts
  * @param {(key: string) => boolean} has
  */
 function criterionFor(parts, has) {
   if (has('curve')) return 'fmax';
-  if (has('d') && !hasDue(parts)) return has('w') ? 'sumwU' : 'Lmax';
-  if (!has('w') || parts.criterion.startsWith('sumw')) return parts.criterion;
-  return has('d') ? 'sumwU' : 'sumwC';
+  if (hasDue(parts) === has('d') && parts.criterion.startsWith('sumw') === has('w') && parts.criterion !== 'fmax') return parts.criterion;
+  return has('d') ? has('w') ? 'sumwU' : 'Lmax' : has('w') ? 'sumwC' : 'Cmax';
 }
 
 /**
@@ -132,7 +131,7 @@ export function classFor(parts, keys) {
   const has = (/** @type {string} */ key) => keys.includes(key), machines = keys.filter(it => /^p\d+$/.test(it)).length;
   const environment = environmentFor(parts, has('route'), machines);
   /** @type {Parts} */
-  const found = { environment, cut: parts.cut, release: has('r') ? 'r' : parts.release, order: has('after') ? parts.order || 'prec' : parts.order,
+  const found = { environment, cut: parts.cut, release: has('r') ? 'r' : '', order: has('after') ? parts.order || 'prec' : '',
     times: keys.some(it => /^p\d*$/.test(it)) ? '' : parts.times, short: environment[0] === 'J' ? parts.short : '',
     criterion: criterionFor(parts, has) };
   return rankOf(nameOf(found)) < 0 ? parts : found;
@@ -143,7 +142,7 @@ export function classFor(parts, keys) {
  * @param {List} list
  * @param {Problem} problem
  * @param {boolean} german
- * @returns {{problem: Problem, said: Said[], better: Parts | null}}
+ * @returns {{problem: Problem, said: Said[]}}
  */
 export function taken(list, problem, german) {
   const keys = keysOf(list, problem), dates = datesIn(list, keys), unit = unitOf(list, problem, dates.length > 0);
@@ -159,7 +158,9 @@ export function taken(list, problem, german) {
     start = dateText(Math.floor(Math.min(...dates) / 86400) * 86400, german);
     said.push(['startTaken', start]);
   }
-  const machines = keys.filter(it => /^p\d+$/.test(it)).length, better = classFor(problem.parts, keys.filter(Boolean));
-  return { problem: { ...problem, unit, start, machines: machines > 1 ? String(machines) : problem.machines, rows: rowsOf(list, keys, unit) }, said,
-    better: nameOf(better) === nameOf(problem.parts) ? null : better };
+  const count = keys.filter(it => /^p\d+$/.test(it)).length, named = list.header.some(Boolean);
+  const parts = named ? classFor(problem.parts, keys.filter(Boolean)) : problem.parts;
+  if (nameOf(parts) !== nameOf(problem.parts)) said.push(['classTaken', nameOf(parts)]);
+  const machines = String(count > 1 ? count : fixedMachines(parts) || problem.machines || 2);
+  return { problem: { ...problem, parts, unit, start, machines, rows: rowsOf(list, keys, unit) }, said };
 }

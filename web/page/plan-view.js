@@ -7,6 +7,7 @@ import { compare, minus } from './fractions.js';
 import { early } from './own.js';
 import { files } from './plan-files.js';
 import { lists } from './plan-lists.js';
+import { Searching } from './searching.js';
 import { brokenText } from './sentences.js';
 
 /** @typedef {import('./app.js').App} App */
@@ -23,6 +24,7 @@ export class PlanView {
   constructor(app, say) {
     this.app = app;
     this.chart = new ChartView(app, say);
+    this.searching = new Searching(app);
     this.root = element('section', { id: 'the-plan', 'aria-labelledby': 'the-plan-head' });
     this.verdict = element('div', { class: 'verdict', role: 'status', 'aria-live': 'polite' });
     this.bars = element('div', { class: 'buttons' });
@@ -52,12 +54,36 @@ export class PlanView {
     return plan && plan.from === 'best' ? this.say('isBest', name, this.cost(cost), solver) : this.say('isBestToo', name, this.cost(cost));
   }
 
-  /** The cost of the plan, and that it is best where this is proved. */
+  /**
+   * Whether a plan is best: proved by the program, argued by a bound, or open; empty where nothing is to be said.
+   * @param {Fraction} cost
+   */
+  word(cost) {
+    const { app, searching: { bound } } = this;
+    if (app.isBest) return 'proved';
+    if (app.hasSolver !== false) return '';
+    return bound && compare(cost, bound.value) <= 0 ? 'argued' : 'open';
+  }
+
+  /** The cost of the plan, and what is known of its being best. */
   costLine() {
-    const { cost, isBest } = this.app;
+    const { cost } = this.app;
     if (!cost) return [];
-    const word = isBest ? [element('span', { class: 'word proved', title: this.say('provedSays') }, this.say('proved')), ' '] : [];
-    return [element('p', { class: isBest ? 'fine' : '', id: 'cost' }, ...word, this.beside(cost))];
+    const word = this.word(cost), fine = word === 'proved' || word === 'argued';
+    const said = word ? [element('span', { class: `word is-${word}`, title: this.say(`${word}Says`) }, this.say(word)), ' '] : [];
+    return [element('p', { class: fine ? 'fine' : '', id: 'cost' }, ...said, this.beside(cost)), ...this.boundLines(cost)];
+  }
+
+  /**
+   * The bound beside the cost, where there is no solver.
+   * @param {Fraction} cost
+   */
+  boundLines(cost) {
+    const { bound } = this.searching;
+    if (!bound || this.app.hasSolver) return [];
+    const gap = minus(cost, bound.value), words = bound.words.map(it => this.say(it)).join('; ');
+    return [element('p', { id: 'bound' }, this.say('boundWords', this.cost(bound.value), bound.name, words), ' ',
+      compare(cost, bound.value) <= 0 ? this.say('closed') : this.say('gap', this.cost(gap)))];
   }
 
   /** Why a plan was not judged. */
@@ -73,6 +99,7 @@ export class PlanView {
     const { app } = this, { verdict, faults } = app, lines = [];
     if (faults.length) lines.push(this.faultList());
     if (app.said) lines.push(element('p', { id: 'told' }, app.said));
+    if (this.searching.running) lines.push(element('p', { id: 'tried' }, this.searching.said));
     if (verdict && !verdict.feasible) lines.push(element('p', { class: 'faulty', id: 'broken' }, this.say('broken', brokenText(verdict, app))));
     return [...lines, ...this.costLine(), ...this.noteLine()];
   }
@@ -90,9 +117,14 @@ export class PlanView {
 
   // Buttons
 
-  /** The button for the best plan, or the one that stops the program. */
+  /** The button for the best plan or for a search, or the one that stops them. */
   mainButton() {
-    const { app } = this;
+    const { app, searching } = this;
+    if (searching.running) return button(this.say('stop'), () => searching.stop(), { id: 'stop', class: 'main' });
+    if (app.hasSolver === false) {
+      return button(this.say('search'), () => searching.start(), { id: 'best', class: 'main', title: this.say('searchSays'),
+        disabled: app.built.text ? null : '' });
+    }
     if (app.running) return button(this.say('stop'), () => app.running && app.running.abort(), { id: 'stop', class: 'main' });
     return button(this.say('best'), () => app.solve(), { id: 'best', class: 'main', disabled: app.built.text ? null : '' });
   }
@@ -119,7 +151,7 @@ export class PlanView {
   build() {
     this.shown = this.app.words.language;
     const keys = element('p', { class: 'quiet keys' }, this.say('keys'));
-    const made = part('the-plan', this.say('plan'), this.bars, this.verdict, this.chart.root, keys, this.below);
+    const made = part('the-plan', this.say('thePlan'), this.bars, this.verdict, this.chart.root, keys, this.below);
     fill(this.root, ...Array.from(made.childNodes));
   }
 
@@ -138,7 +170,7 @@ export class PlanView {
     const open = Array.from(this.below.querySelectorAll('details'), it => it.open);
     fill(this.below, ...(app.state.plan && app.built.text ? [...lists(app), files(app, this.chart)] : []));
     this.below.querySelectorAll('details').forEach((it, at) => { it.open = open[at] || false; });
-    const again = focus && document.getElementById(/^(best|stop)$/.test(focus) ? app.running ? 'stop' : 'best' : focus);
+    const again = focus && document.getElementById(/^(best|stop)$/.test(focus) ? app.running || this.searching.running ? 'stop' : 'best' : focus);
     if (again) again.focus();
   }
 }

@@ -19,6 +19,8 @@ export class ProblemView {
     this.root = element('section', { id: 'problem', 'aria-labelledby': 'problem-head' });
     /** What stands in the field of the class where it was not understood. */
     this.typed = '';
+    /** What decides whether this part is built anew. */
+    this.shape = '';
   }
 
   /** @param {string} key
@@ -101,6 +103,14 @@ export class ProblemView {
   }
 
   render() {
+    const { app } = this, faults = app.faults.filter(it => it.row === 0);
+    const shape = JSON.stringify([app.words.language, { ...app.problem, rows: [] }, app.label, this.typed, faults]);
+    if (shape === this.shape) return;
+    this.shape = shape;
+    this.build();
+  }
+
+  build() {
     const { app } = this, focus = document.activeElement instanceof HTMLElement ? document.activeElement.id : '';
     const input = line('class-name', this.typed || app.name, it => this.read(it), { class: 'name', 'aria-describedby': 'class-hint' });
     const hint = element('span', { id: 'class-hint', class: 'quiet' }, this.say('classHint'));
