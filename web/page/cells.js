@@ -71,6 +71,9 @@ const DAYS = [
   [/^(\d{1,2})\.?\s*([A-Za-z\u00e4\u00c4]+)\.?,?\s*(\d{4})/, 3, 2, 1], [/^([A-Za-z]+)\.? (\d{1,2}),? (\d{4})/, 3, 1, 2],
 ];
 
+const WEEKDAY = new RegExp('^(mon|monday|mo|montag|tue|tuesday|di|dienstag|wed|wednesday|mi|mittwoch|thu|thursday|do|donnerstag|fri|friday|fr|freitag'
+  + '|sat|saturday|sa|samstag|sun|sunday|so|sonntag)[.,]* ', 'i');
+
 /**
  * The seconds since 1970 of a clock time behind a day; null where that is no clock time.
  * @param {string} text
@@ -89,13 +92,13 @@ function clockOf(text) {
  * @returns {number | null}
  */
 export function dateOf(text) {
-  const said = text.trim().replace(/\s+/g, ' ').replace(/^[A-Za-z]{2,9}[.,]* (?=\d)/, '');
+  const said = text.trim().replace(/\s+/g, ' ').replace(WEEKDAY, '');
   for (const [pattern, year, month, day] of DAYS) {
     const found = said.match(pattern);
     if (!found) continue;
     const at = /^\d/.test(found[month]) ? Number(found[month]) : monthOf(found[month]), clock = clockOf(said.slice(found[0].length));
     const seconds = Date.UTC(Number(found[year].length === 2 ? `20${found[year]}` : found[year]), at - 1, Number(found[day])) / 1000;
-    if (!at || clock === null || new Date(seconds * 1000).getUTCDate() !== Number(found[day])) throw new CellFault('notDate', text.trim());
+    if (at < 1 || at > 12 || clock === null || new Date(seconds * 1000).getUTCDate() !== Number(found[day])) throw new CellFault('notDate', text.trim());
     return seconds + clock;
   }
   return null;

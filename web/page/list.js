@@ -162,5 +162,6 @@ export function taken(list, problem, german) {
   const parts = named ? classFor(problem.parts, keys.filter(Boolean)) : problem.parts;
   if (nameOf(parts) !== nameOf(problem.parts)) said.push(['classTaken', nameOf(parts)]);
   const machines = String(count > 1 ? count : fixedMachines(parts) || problem.machines || 2);
-  return { problem: { ...problem, parts, unit, start, machines, rows: rowsOf(list, keys, unit) }, said };
+  const machineNames = list.machines.length ? list.machines : problem.machineNames;
+  return { problem: { ...problem, parts, unit, start, machines, machineNames, rows: rowsOf(list, keys, unit) }, said };
 }

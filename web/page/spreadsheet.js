@@ -2,9 +2,9 @@
 import { keyOf, withoutUnit } from './columns.js';
 
 /**
- * A list that was read: its header, what each column means (a key or an empty text), the seconds of its unit (0 without one), its rows, and
- * what stands above the header.
- * @typedef {{header: string[], keys: string[], units: number[], rows: string[][], titles: string[]}} List
+ * A list that was read: its header, what each column means (a key or an empty text), the seconds of its unit (0 without one), its rows, what
+ * stands above the header, and the machines that its columns name.
+ * @typedef {{header: string[], keys: string[], units: number[], rows: string[][], titles: string[], machines: string[]}} List
  */
 
 const LOOKED_AT = 20;
@@ -87,7 +87,8 @@ function meanings(record) {
  * @param {string[][]} records
  */
 function headerAt(records) {
-  const counts = records.slice(0, LOOKED_AT).map(it => meanings(it).filter(Boolean).length), most = Math.max(0, ...counts);
+  const counts = records.slice(0, LOOKED_AT).map(it => meanings(it).filter(Boolean).length + it.filter(field => withoutUnit(field).seconds).length);
+  const most = Math.max(0, ...counts);
   return most > 1 ? counts.indexOf(most) : -1;
 }
 
@@ -102,9 +103,24 @@ export function listOf(text) {
   const at = headerAt(records), width = Math.max(...records.map(it => it.length));
   const header = at < 0 ? Array.from({ length: width }, () => '') : records[at];
   const keys = at < 0 ? header : meanings(header), named = keys.includes('job') ? keys : withJob(keys, records.slice(at + 1));
-  return { header, keys: named, units: header.map(it => withoutUnit(it).seconds), rows: records.slice(at + 1),
-    titles: at < 0 ? [] : records.slice(0, at).map(it => it.filter(Boolean).join('; ')) };
+  const units = header.map(it => withoutUnit(it).seconds), places = stations(named, units);
+  return { header, keys: named.map((key, place) => stationKey(places, place) || key), units, rows: records.slice(at + 1),
+    titles: at < 0 ? [] : records.slice(0, at).map(it => it.filter(Boolean).join('; ')),
+    machines: places.length > 1 ? places.map(place => withoutUnit(header[place]).name) : [] };
 }
+
+/**
+ * The columns that have a unit of time and no other meaning: the time of a job, or where there are several, its times on machines.
+ * @param {string[]} keys
+ * @param {number[]} units
+ */
+function stations(keys, units) { return keys.some(it => /^p\d*$/.test(it)) ? [] : keys.flatMap((key, place) => !key && units[place] ? [place] : []); }
+
+/**
+ * @param {number[]} places
+ * @param {number} place
+ */
+function stationKey(places, place) { return !places.includes(place) ? '' : places.length === 1 ? 'p' : `p${places.indexOf(place) + 1}`; }
 
 /**
  * The meanings of columns where none is the name of the job: the first one without a meaning whose cells are no numbers.
