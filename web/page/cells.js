@@ -98,7 +98,8 @@ export function dateOf(text) {
     if (!found) continue;
     const at = /^\d/.test(found[month]) ? Number(found[month]) : monthOf(found[month]), clock = clockOf(said.slice(found[0].length));
     const seconds = Date.UTC(Number(found[year].length === 2 ? `20${found[year]}` : found[year]), at - 1, Number(found[day])) / 1000;
-    if (at < 1 || at > 12 || clock === null || new Date(seconds * 1000).getUTCDate() !== Number(found[day])) throw new CellFault('notDate', text.trim());
+    const isDay = at >= 1 && at <= 12 && new Date(seconds * 1000).getUTCDate() === Number(found[day]);
+    if (!isDay || clock === null) throw new CellFault('notDate', text.trim());
     return seconds + clock;
   }
   return null;

@@ -17,7 +17,7 @@ function barShape(bar) {
   const { x, y, width, broken } = bar;
   const classes = ['bar', bar.late ? 'late' : '', broken ? 'broken' : '', bar.marked ? 'marked' : ''].filter(Boolean).join(' ');
   const edge = broken || bar.late ? '#a11d27' : bar.marked ? '#1c232e' : '#5b6675';
-  const rect = shape('rect', { x, y, width, height: BAR, rx: 3, fill: broken ? 'url(#broken)' : FILLS[bar.colour], stroke: edge,
+  const rect = shape('rect', { x, y, width, height: BAR, rx: 3, fill: broken ? 'url(#broken-stripes)' : FILLS[bar.colour], stroke: edge,
     'stroke-width': broken || bar.marked ? 3 : bar.late ? 2 : 1 });
   const text = shape('text', { x: x + width / 2, y: y + BAR / 2 + 4.5, 'text-anchor': 'middle', fill: '#1c232e', class: 'label' }, bar.label);
   return shape('g', { class: classes, 'data-at': bar.at }, rect, text);
@@ -39,7 +39,8 @@ function markShape({ kind, x, y, late, short }) {
 
 /** What fills a bar that breaks a condition: stripes, which are seen without colours too. */
 function stripes() {
-  return shape('defs', {}, shape('pattern', { id: 'broken', width: 8, height: 8, patternUnits: 'userSpaceOnUse', patternTransform: 'rotate(45)' },
+  const how = { id: 'broken-stripes', width: 8, height: 8, patternUnits: 'userSpaceOnUse', patternTransform: 'rotate(45)' };
+  return shape('defs', {}, shape('pattern', how,
     shape('rect', { width: 8, height: 8, fill: '#ffd9d6' }), shape('rect', { width: 3, height: 8, fill: '#e0797c' })));
 }
 

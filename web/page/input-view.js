@@ -122,9 +122,15 @@ export class InputView {
     }
   }
 
+  /** What stands in the page, as a word behind #. */
+  word() { return packed(this.saved()); }
+
+  /** What stands in the page, as a text. */
+  saved() { return textOf(this.app.state); }
+
   /** Copies a link to what stands in the page, or shows it. */
   async link() {
-    const address = `${location.href.split('#')[0]}#state=${await packed(textOf(this.app.state))}`;
+    const address = `${location.href.split('#')[0]}#state=${await this.word()}`;
     history.replaceState(null, '', address);
     try {
       await navigator.clipboard.writeText(address);
@@ -163,7 +169,7 @@ export class InputView {
       if (input.files && input.files[0]) this.open(input.files[0]);
       input.value = '';
     });
-    const save = () => give('plan.msp.json', new Blob([`${textOf(app.state)}\n`], { type: 'application/json' }));
+    const save = () => give('plan.msp.json', new Blob([`${this.saved()}\n`], { type: 'application/json' }));
     const text = () => give('instance.txt', new Blob([app.built.text], { type: 'text/plain' }));
     return element('div', { class: 'buttons' }, input, element('label', { class: 'button', for: 'file' }, this.say('openFile')),
       button(this.say('saveFile'), save, { id: 'save' }), button(this.say('saveText'), text, { id: 'save-text' }),

@@ -182,4 +182,4 @@ async function begin() {
 
 begin();
 // (for the console of the browser, and for tests)
-Object.assign(globalThis, { msp: { run, runBytes, app } });
+Object.assign(globalThis, { msp: { run, runBytes, app, input } });
