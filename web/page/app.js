@@ -50,6 +50,8 @@ export class App {
     this.judging = null;
     /** What was said last of a call that gave no plan. */
     this.said = '';
+    /** Whether the best cost is asked for, where it is not known that there is a solver. */
+    this.asksBest = false;
     /** @type {(() => void)[]} */
     this.views = [];
     this.store.listen((value, before) => this.changed(value, before));
@@ -151,7 +153,7 @@ export class App {
     if (!text) return;
     if (plan) await this.check(plan, signal);
     else if (this.tell((await run(['accept'], text + NOTHING, { signal })).note)) this.render();
-    if (!plan || this.answer || !this.hasSolver || this.running || this.told.length) return;
+    if (!plan || this.answer || !this.hasSolver && !this.asksBest || this.running || this.told.length) return;
     await this.ask(text, signal);
     this.render();
   }

@@ -9,9 +9,12 @@ import { App } from './app.js';
 import { button, choice } from './controls.js';
 import { fixedMachines } from './columns.js';
 import { InputView, stateOfText } from './input-view.js';
+import { LearnView } from './learn-view.js';
+import { LESSONS } from './lessons.js';
 import { PlanView } from './plan-view.js';
 import { ProblemView } from './problem-view.js';
 import { stateIn, unpacked } from './state.js';
+import { WhyView } from './why-view.js';
 import { Words } from './words.js';
 
 /** @typedef {import('./words.js').Language} Language */
@@ -30,6 +33,16 @@ const first = stateOfText(examples.texts['late-orders.txt']);
 if (!first) throw new Error('there is no first example');
 const app = new App(first, new Words(table, firstLanguage()));
 const input = new InputView(app, examples, say), problem = new ProblemView(app), plan = new PlanView(app, say);
+const why = new WhyView(app, rows => {
+  plan.chart.marked = rows;
+  plan.chart.render();
+});
+const learn = new LearnView(byId('part-learn', HTMLElement), () => app.words, say, lesson => {
+  const state = stateOfText(lesson.text);
+  if (state) app.store.change(state);
+  location.hash = '#plan';
+  app.solve();
+});
 /** @type {Shown | null} */
 let shown = null;
 
@@ -82,6 +95,7 @@ function speak(language) {
   app.words = new Words(table, language);
   frame();
   app.render();
+  if (partHere() === 'learn') learn.show(location.hash.slice('#learn/'.length));
 }
 
 // The classes
@@ -141,6 +155,7 @@ async function route() {
   }
   frame();
   if (partHere() === 'classes') classes();
+  if (partHere() === 'learn') learn.show(location.hash.slice('#learn/'.length));
 }
 
 /** What is done by hand over the whole page. */
@@ -166,9 +181,9 @@ function listen() {
 
 /** Puts the parts in their places, and takes what the link brings. */
 async function begin() {
-  const given = element('div', { class: 'given' }, input.tools, problem.root, input.root), found = element('div', { class: 'found' }, plan.root);
-  fill(byId('part-plan', HTMLElement), given, found);
-  for (const view of [problem, input, plan]) app.show(() => view.render());
+  fill(byId('part-plan', HTMLElement), element('div', { class: 'given' }, input.tools, problem.root, input.root),
+    element('div', { class: 'found' }, plan.root, why.root));
+  for (const view of [problem, input, plan, why]) app.show(() => view.render());
   listen();
   app.render();
   await route();
@@ -182,4 +197,4 @@ async function begin() {
 
 begin();
 // (for the console of the browser, and for tests)
-Object.assign(globalThis, { msp: { run, runBytes, app, input } });
+Object.assign(globalThis, { msp: { run, runBytes, app, input, learn, lessons: LESSONS } });

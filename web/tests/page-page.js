@@ -147,3 +147,28 @@
   };
   Object.assign(window.trial, { nameless, foreign });
 })();
+
+// Lessons.
+(() => {
+  /** @type {any} */
+  const page = /** @type {any} */ (window).msp;
+  /** Takes a best plan of the program for the one of the lesson. */
+  const answer = () => {
+    const { app } = page.learn;
+    app.plan({ pieces: app.answer.solved.pieces, from: 'own' });
+  };
+  /** Gives the best cost as a bound, with the work of all jobs, or of a machine or a job, until it is accepted. */
+  const prove = async () => {
+    const { why, app } = page.learn, rows = app.built.jobs.map((/** @type {any} */ it) => it.row.id);
+    why.bound = String(app.bestCost.n);
+    for (const kind of why.kinds) {
+      for (let at = 1; at <= rows.length && !why.accepted; at++) {
+        why.kind = kind;
+        why.machine = String(Math.min(at, app.built.machines));
+        why.chosen = new Set(kind === 'line' ? [rows[at - 1]] : rows);
+        await why.judge();
+      }
+    }
+  };
+  Object.assign(window.trial, { answer, prove });
+})();
