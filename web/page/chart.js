@@ -34,7 +34,10 @@ import { endsOf } from './schedule.js';
  * @property {boolean} broken
  * @property {boolean} marked
  */
-/** @typedef {{kind: 'due' | 'release', x: number, y: number, row: number, late: boolean, short: boolean}} Mark a short one stands above the bars */
+/**
+ * The mark of a date; a short one stands above the bars.
+ * @typedef {{kind: 'due' | 'release', x: number, y: number, row: number, late: boolean, short: boolean}} Mark
+ */
 /**
  * @typedef {object} Chart
  * @property {number} width
@@ -161,7 +164,7 @@ function marksOf(wanted, place, lineOf, late) {
     const y = TOP + lineOf(row.id) * LINE;
     /** @type {Mark[]} */
     const found = [];
-    if (lineOf(row.id) < 0) return found;
+    if (lineOf(row.id) < 0 || !wanted.built.text) return found;
     if (d) found.push({ kind: 'due', x: place(d), y, row: row.id, late: late.has(row.id), short: !wanted.byJob });
     if (r.n > 0n && wanted.byJob) found.push({ kind: 'release', x: place(r), y, row: row.id, late: false, short: false });
     return found;
@@ -174,16 +177,16 @@ function marksOf(wanted, place, lineOf, late) {
  */
 export function chartOf(wanted) {
   const { pieces, built } = wanted, lines = linesOf(wanted), ends = endsOf(pieces);
-  const late = new Set(built.jobs.filter(({ row, d }) => d && ends.has(row.id) && compare(/** @type {Fraction} */ (ends.get(row.id)), d) > 0)
-    .map(it => it.row.id));
+  const isLate = (/** @type {number} */ row, /** @type {Fraction} */ due) => compare(ends.get(row) || due, due) > 0;
+  const late = new Set(built.text ? built.jobs.filter(({ row, d }) => d && isLate(row.id, d)).map(it => it.row.id) : []);
   const title = Math.max(...lines.titles.map(it => Array.from(it).length), 0) * LETTER + 14;
   const left = Math.round(Math.min(MOST_TITLE, Math.max(LEAST_TITLE, title))), span = spanOf(wanted);
   const scale = Math.max(40, wanted.width - left - 24) / span, place = (/** @type {Fraction} */ it) => left + near(it) * scale;
   const colours = new Map(built.jobs.map((it, at) => [it.row.id, at % COLOURS]));
   const bars = pieces.map((piece, at) => {
-    const x = place(piece.from), width = Math.max(1, place(piece.to) - x), isLate = late.has(piece.row);
+    const x = place(piece.from), width = Math.max(1, place(piece.to) - x), missed = late.has(piece.row);
     return { at, row: piece.row, x, y: TOP + lines.of(piece) * LINE + (LINE - BAR) / 2, width, colour: Number(colours.get(piece.row) || 0),
-      label: labelOf(piece, width, isLate, wanted), late: isLate, broken: wanted.broken.has(at), marked: wanted.marked.has(piece.row) };
+      label: labelOf(piece, width, missed, wanted), late: missed, broken: wanted.broken.has(at), marked: wanted.marked.has(piece.row) };
   }).filter(it => Number.isFinite(it.y));
   const fits = Math.floor((left - 14) / LETTER);
   return { width: Math.round(left + span * scale + 24), height: TOP + lines.titles.length * LINE + AXIS, left, scale,
