@@ -37,3 +37,16 @@ export function byId(id, kind) {
   if (!(found instanceof kind)) throw new Error(`the page has no ${kind.name} with the id ${id}`);
   return found;
 }
+
+/**
+ * A new element of SVG.
+ * @param {string} name
+ * @param {Object<string, string | number>} attributes
+ * @param {...(Node | string)} children
+ */
+export function shape(name, attributes, ...children) {
+  const made = document.createElementNS('http://www.w3.org/2000/svg', name);
+  for (const [key, value] of Object.entries(attributes)) made.setAttribute(key, String(value));
+  made.append(...children);
+  return made;
+}

@@ -1,6 +1,6 @@
 // Pictures of reductions as SVG, with the same as a list for readers of screens.
 import { LETTER } from '../classes.js';
-import { element } from '../elements.js';
+import { element, shape } from '../elements.js';
 import { NAMES } from '../names.js';
 import { address, classLink, rowText, told } from './parts.js';
 import { saveButton } from './saving.js';
@@ -10,19 +10,6 @@ import { saveButton } from './saving.js';
 /** @typedef {import('../picture.js').Box} Box */
 
 const [BOX, ROW, GAP, TOP] = [212, 28, 64, 26];
-
-/**
- * A new element of SVG.
- * @param {string} name
- * @param {Object<string, string | number>} attributes
- * @param {...(Node | string)} children
- */
-function shape(name, attributes, ...children) {
-  const made = document.createElementNS('http://www.w3.org/2000/svg', name);
-  for (const [key, value] of Object.entries(attributes)) made.setAttribute(key, String(value));
-  made.append(...children);
-  return made;
-}
 
 /**
  * Where a box begins.

@@ -16,6 +16,7 @@ import { isOwn, keysOf, sourceOf } from '../results.js';
  * @property {boolean} solved whether classes with a solver alone are listed
  * @property {number} current the class that was looked at last
  * @property {number[]} selection
+ * @property {string} prefix with which the addresses of its places begin
  */
 
 /** @type {Record<Kind, string>} */
@@ -36,7 +37,7 @@ export function told(view) { return view.published && view.atlas.published || vi
  * @param {string} place
  */
 export function address(view, place) {
-  return `#${encodeURIComponent(place)}${view.published ? '&published' : ''}${view.solved ? '&solved' : ''}`;
+  return `#${view.prefix}${encodeURIComponent(place)}${view.published ? '&published' : ''}${view.solved ? '&solved' : ''}`;
 }
 
 /**

@@ -18,7 +18,7 @@ function inPage(id) {
  * @param {string} text
  * @returns {Promise<ArrayBuffer>}
  */
-function unpacked(text) {
+export function unpacked(text) {
   if (typeof DecompressionStream === 'undefined') throw new Error('this browser is too old for this page: it needs one from 2023 or later');
   const packed = Uint8Array.from(atob(text), it => it.charCodeAt(0));
   return new Response(new Blob([packed]).stream().pipeThrough(new DecompressionStream('deflate'))).arrayBuffer();

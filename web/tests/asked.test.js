@@ -8,7 +8,7 @@ import { rankOf } from '../names.js';
 
 const page = readFileSync(new URL('../../released/atlas.html', import.meta.url), 'utf8');
 const found = page.match(/<script id="data" type="application\/json">(.*?)<\/script>/s);
-const view = { atlas: new Atlas(JSON.parse(found ? found[1] : '')), published: false, solved: false, current: 0, selection: [] };
+const view = { atlas: new Atlas(JSON.parse(found ? found[1] : '')), published: false, solved: false, current: 0, selection: [], prefix: '' };
 const table = readFileSync(new URL('../../docs/results/names.csv', import.meta.url), 'utf8');
 
 /**

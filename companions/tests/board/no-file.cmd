@@ -1,0 +1,1 @@
+board no-such.txt --address --page x.html

@@ -1,0 +1,233 @@
+// The atlas in a frame: one view at a time, by the address behind #. The page of all classes has it, and the page for planners too.
+import { element } from '../elements.js';
+import { NAMES, rankOf } from '../names.js';
+import { aboutView, proofView } from './about.js';
+import { askedView } from './asked.js';
+import { classView } from './class.js';
+import { frontierView, labelView, selectionView } from './lists.js';
+import { address, dot, linkTo, selected, told } from './parts.js';
+import { placeOf, searchBox } from './search.js';
+import { maps, picker } from './tables.js';
+
+/** @typedef {import('./parts.js').View} View */
+/**
+ * Where the atlas stands in a page: its views, the box of the search with its hits, the links to its parts, its key, and what is said to
+ * readers of screens.
+ * @typedef {{main: HTMLElement, input: HTMLInputElement, found: HTMLElement, places: HTMLElement, key: HTMLElement, said: HTMLElement}} Frame
+ */
+
+const TITLE = 'Atlas of scheduling classes';
+
+/**
+ * A link that turns a switch.
+ * @param {string} text
+ * @param {boolean} on
+ * @param {string} href
+ * @param {string} title
+ */
+function turn(text, on, href, title) { return element('a', { class: 'turn', href, role: 'switch', 'aria-checked': String(on), title }, text); }
+
+/** The atlas in a frame. */
+export class Shown {
+  /**
+   * @param {import('../classes.js').Atlas} atlas
+   * @param {Frame} frame
+   * @param {string} prefix with which the addresses of its places begin
+   */
+  constructor(atlas, frame, prefix) {
+    this.frame = frame;
+    /** @type {View} */
+    this.view = { atlas, published: false, solved: false, current: rankOf('P2|pmtn,r|Cmax'), selection: [], prefix };
+    this.title = '';
+    frame.main.addEventListener('click', event => this.click(event));
+    searchBox(() => this.view, frame.input, frame.found, text => this.say(text));
+    window.addEventListener('hashchange', () => {
+      if (this.isHere()) this.moved();
+    });
+  }
+
+  /** Whether the address is one of its places. */
+  isHere() { return location.hash.slice(1).startsWith(this.view.prefix); }
+
+  /** @param {string} text */
+  say(text) { this.frame.said.textContent = text; }
+
+  /**
+   * The place that the address names, without its switches, which are set.
+   * @returns {string}
+   */
+  place() {
+    const { view } = this, behind = location.hash.slice(1 + view.prefix.length);
+    const [, text, switches] = behind.match(/^(.*?)((?:&(?:published|solved))*)$/s) || ['', '', ''];
+    view.published = view.atlas.published !== null && switches.includes('&published');
+    view.solved = switches.includes('&solved');
+    try {
+      return decodeURIComponent(text);
+    } catch (fault) {
+      return text;
+    }
+  }
+
+  /**
+   * A view of one class, with the tables beside it.
+   * @param {number} at
+   * @returns {string} its title
+   */
+  showClass(at) {
+    const { view, frame: { main } } = this;
+    view.current = at;
+    main.className = 'pair';
+    main.replaceChildren(element('div', { class: 'answer' }, ...classView(view, at)), element('div', { class: 'tables' }, picker(view, at),
+      maps(view, at)));
+    return `${NAMES[at]} is ${told(view).labels[at]}`;
+  }
+
+  /**
+   * A view over the whole width.
+   * @param {string} title
+   * @param {Node[]} nodes
+   */
+  showWide(title, nodes) {
+    this.frame.main.className = 'wide';
+    this.frame.main.replaceChildren(element('div', {}, ...nodes));
+    return `${title} \u2013 ${TITLE}`;
+  }
+
+  /**
+   * The classes of a selection as an address has them.
+   * @param {string} text
+   */
+  select(text) {
+    const places = text.split(';').filter(Boolean), ranks = places.map(rankOf);
+    this.view.selection = Array.from(new Set(ranks.filter(it => it >= 0)));
+    const wrong = places.filter((_, it) => ranks[it] < 0);
+    if (wrong.length) this.say(`No class: ${wrong.join(', ')}`);
+  }
+
+  /**
+   * Shows the selection, which an address may have.
+   * @param {string | undefined} rest
+   */
+  showSelection(rest) {
+    if (rest !== undefined) this.select(rest);
+    return this.showWide('Selection', selectionView(this.view));
+  }
+
+  /**
+   * A place that is written as a word, and what stands behind its sign of equality; no title where it is no such place.
+   * @param {string} word
+   * @param {string | undefined} rest
+   * @returns {string | null}
+   */
+  showWord(word, rest) {
+    const { view } = this, behind = rest || '';
+    switch (word) {
+    case 'lists': return this.showWide(`Label ${(behind || 'open').replace(',', ' on ')}`, labelView(view, behind));
+    case 'frontier': return this.showWide(`Frontier ${behind}`.trim(), frontierView(view, behind));
+    case 'proof': return this.showWide(behind || 'Proofs', proofView(view, behind));
+    case 'search': return this.showText(behind);
+    case 'selection': return this.showSelection(rest);
+    default:
+      if (rest !== undefined) return null;
+      return word === 'about' ? this.showWide('About', aboutView(view)) : word === 'class' ? this.showClass(view.current) : null;
+    }
+  }
+
+  /**
+   * The class that a text asks for, or what was understood of it and what not.
+   * @param {string} text
+   * @returns {string} the title
+   */
+  showText(text) {
+    const { view } = this, name = placeOf(view, text), at = rankOf(name);
+    if (at < 0) {
+      this.frame.input.value = text;
+      return this.showWide(text, askedView(view, text));
+    }
+    if (name !== text) history.replaceState(null, '', address(view, name));
+    return this.showClass(at);
+  }
+
+  /**
+   * Shows a place.
+   * @param {string} place
+   * @returns {string} the title
+   */
+  showPlace(place) {
+    if (place === '') {
+      this.showClass(this.view.current);
+      return TITLE;
+    }
+    const [, word, rest] = place.match(/^([a-z]+)(?:=(.*))?$/s) || ['', '', ''];
+    return this.showWord(word, rest) || this.showText(place);
+  }
+
+  /**
+   * The links at the top: the views, the labels, and the switches.
+   * @param {string} place
+   */
+  showTop(place) {
+    const { view, frame } = this, here = frame.main.className === 'pair' ? 'class' : place.split('=')[0];
+    const links = ['class', 'frontier', 'lists', 'about'].map(it => element('a', { href: address(view, it), 'aria-current': it === here ? 'page'
+      : null }, it));
+    if (view.selection.length) {
+      links.push(element('a', { href: address(view, selected(view)), 'aria-current': here === 'selection' ? 'page' : null },
+        `selection (${view.selection.length})`));
+    }
+    frame.places.replaceChildren(...links);
+    const { labels } = told(view), names = view.atlas.data.label_names.filter(it => labels.includes(it));
+    const turns = [turn('with a solver alone', view.solved, address({ ...view, solved: !view.solved }, place),
+      'lists show classes that msp solve solves')];
+    if (view.atlas.published) {
+      turns.push(turn('published results alone', view.published, address({ ...view, published: !view.published }, place),
+        'without proofs of our own that no journal has seen'));
+    }
+    frame.key.replaceChildren(...names.map(it => linkTo(view, `lists=${it}`, dot(it), it)), ...turns);
+  }
+
+  /** Shows the place that the address names. */
+  show() {
+    const place = this.place();
+    this.title = this.showPlace(place);
+    document.title = this.title;
+    this.showTop(place);
+  }
+
+  /**
+   * Puts the focus where the view changed: to the same field of a table, or to the heading.
+   * @param {string | null} field the address of the field that had it
+   */
+  follow(field) {
+    const { main } = this.frame;
+    const same = field === null ? undefined : Array.from(main.querySelectorAll('.tables a')).find(it => it.getAttribute('href') === field);
+    const target = same || main.querySelector('h2');
+    if (target instanceof HTMLElement) target.focus({ preventScroll: true });
+    if (!same) window.scrollTo(0, 0);
+  }
+
+  /** The address changed to another of its places. */
+  moved() {
+    const before = document.activeElement;
+    const field = before instanceof HTMLAnchorElement && before.closest('.tables') ? before.getAttribute('href') : null;
+    this.show();
+    this.say(this.title);
+    this.follow(field);
+  }
+
+  /**
+   * A button that takes a class into the selection, or out of it.
+   * @param {Event} event
+   */
+  click(event) {
+    const button = event.target instanceof Element ? event.target.closest('[data-select]') : null, { view } = this;
+    if (!(button instanceof HTMLElement)) return;
+    const which = button.dataset.select || '', at = Number(which), place = this.place();
+    if (which === 'none') view.selection = [];
+    else view.selection = view.selection.includes(at) ? view.selection.filter(it => it !== at) : [...view.selection, at];
+    if (place.startsWith('selection')) history.replaceState(null, '', address(view, selected(view)));
+    this.show();
+    const again = this.frame.main.querySelector('[data-select]');
+    if (again instanceof HTMLElement) again.focus();
+    this.say(`${view.selection.length} selected`);
+  }
+}

@@ -1,0 +1,79 @@
+// Buttons and fields with their labels.
+import { element } from '../elements.js';
+
+/**
+ * @param {string} text
+ * @param {() => void} act
+ * @param {Object<string, string | null>} [more]
+ */
+export function button(text, act, more = {}) {
+  const made = element('button', { type: 'button', ...more }, text);
+  made.addEventListener('click', act);
+  return made;
+}
+
+/**
+ * A control with its label above it.
+ * @param {string} label
+ * @param {HTMLElement} control with an id
+ * @param {...(Node | string)} below
+ */
+export function field(label, control, ...below) {
+  return element('p', { class: 'field' }, element('label', { for: control.id }, label), control, ...below);
+}
+
+/**
+ * A choice among words.
+ * @param {string} id
+ * @param {[string, string][]} options values and what is said of them
+ * @param {string} value
+ * @param {(value: string) => void} chosen
+ */
+export function choice(id, options, value, chosen) {
+  const made = element('select', { id }, ...options.map(([it, said]) => element('option', { value: it }, said)));
+  made.value = value;
+  made.addEventListener('change', () => chosen(made.value));
+  return made;
+}
+
+/**
+ * A line to type in.
+ * @param {string} id
+ * @param {string} value
+ * @param {(value: string) => void} typed
+ * @param {Object<string, string | null>} [more]
+ */
+export function line(id, value, typed, more = {}) {
+  const made = element('input', { id, spellcheck: 'false', autocomplete: 'off', autocapitalize: 'off', ...more });
+  made.value = value;
+  made.addEventListener('change', () => typed(made.value));
+  return made;
+}
+
+/**
+ * A part of the page with a heading.
+ * @param {string} id
+ * @param {string} title
+ * @param {...(Node | string)} children
+ */
+export function part(id, title, ...children) {
+  return element('section', { id, 'aria-labelledby': `${id}-head` }, element('h2', { id: `${id}-head` }, title), ...children);
+}
+
+/**
+ * Something to unfold.
+ * @param {string} title
+ * @param {...(Node | string)} children
+ */
+export function folded(title, ...children) { return element('details', { class: 'folded' }, element('summary', {}, title), ...children); }
+
+/**
+ * Gives a file to the person.
+ * @param {string} name
+ * @param {Blob} content
+ */
+export function give(name, content) {
+  const address = URL.createObjectURL(content);
+  element('a', { href: address, download: name }).click();
+  setTimeout(() => URL.revokeObjectURL(address), 2000);
+}

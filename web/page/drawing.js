@@ -1,0 +1,135 @@
+// A chart as elements of SVG, and as files: SVG, PNG, TikZ.
+import { shape } from '../elements.js';
+import { AXIS, BAR, LINE, TOP } from './chart.js';
+
+/** @typedef {import('./chart.js').Chart} Chart */
+/** @typedef {import('./chart.js').Bar} Bar */
+/** @typedef {import('./chart.js').Mark} Mark */
+
+/** The colours of bars, each bright enough for dark letters. */
+export const FILLS = ['#a9c8f0', '#f3c98b', '#b5dcae', '#e3bce6', '#f0b6ab', '#a8dcdc', '#d8d39a', '#c9c4f2'];
+
+/**
+ * A bar with its label.
+ * @param {Bar} bar
+ */
+function barShape(bar) {
+  const { x, y, width, broken } = bar;
+  const classes = ['bar', bar.late ? 'late' : '', broken ? 'broken' : '', bar.marked ? 'marked' : ''].filter(Boolean).join(' ');
+  const edge = broken || bar.late ? '#a11d27' : bar.marked ? '#1c232e' : '#5b6675';
+  const rect = shape('rect', { x, y, width, height: BAR, rx: 3, fill: broken ? 'url(#broken-stripes)' : FILLS[bar.colour], stroke: edge,
+    'stroke-width': broken || bar.marked ? 3 : bar.late ? 2 : 1 });
+  const text = shape('text', { x: x + width / 2, y: y + BAR / 2 + 4.5, 'text-anchor': 'middle', fill: '#1c232e', class: 'label' }, bar.label);
+  return shape('g', { class: classes, 'data-at': bar.at }, rect, text);
+}
+
+/**
+ * The mark of a due date, or of a release date.
+ * @param {Mark} mark
+ */
+function markShape({ kind, x, y, late, short }) {
+  const colour = late ? '#a11d27' : '#2c5b34', top = y + 2, foot = y + LINE - 2;
+  if (kind === 'release') {
+    const d = `M${x} ${top}V${foot}M${x} ${y + LINE / 2}l6 0`;
+    return shape('path', { d, class: 'release', fill: 'none', stroke: '#1b4f9c', 'stroke-width': 2 });
+  }
+  const d = short ? `M${x - 5} ${top - 1}h10l-5 8z` : `M${x} ${foot}V${top}h-8l4 4l-4 4h8`;
+  return shape('path', { d, class: `due${late ? ' late' : ''}`, fill: colour, stroke: colour, 'stroke-width': 1.4 });
+}
+
+/** What fills a bar that breaks a condition: stripes, which are seen without colours too. */
+function stripes() {
+  const how = { id: 'broken-stripes', width: 8, height: 8, patternUnits: 'userSpaceOnUse', patternTransform: 'rotate(45)' };
+  return shape('defs', {}, shape('pattern', how,
+    shape('rect', { width: 8, height: 8, fill: '#ffd9d6' }), shape('rect', { width: 3, height: 8, fill: '#e0797c' })));
+}
+
+/**
+ * The lines and the axis behind the bars.
+ * @param {Chart} chart
+ */
+function ground(chart) {
+  const foot = TOP + chart.lines.length * LINE;
+  const lines = chart.lines.flatMap(({ title, y }) => [
+    shape('text', { x: 6, y: y + LINE / 2 + 4.5, class: 'title', fill: '#1c232e' }, title),
+    shape('path', { d: `M${chart.left} ${y + LINE}H${chart.width}`, class: 'rule', stroke: '#c9d0d9' })]);
+  const ticks = chart.ticks.flatMap(({ x, text }) => [shape('path', { d: `M${x} ${TOP}V${foot + 5}`, class: 'rule', stroke: '#c9d0d9' }),
+    shape('text', { x, y: foot + AXIS - 8, 'text-anchor': x > chart.width - 60 ? 'end' : 'middle', class: 'tick', fill: '#414b59' }, text)]);
+  return [...lines, ...ticks];
+}
+
+/**
+ * A chart as an element.
+ * @param {Chart} chart
+ * @param {string} title
+ */
+export function drawn(chart, title) {
+  const { width, height } = chart;
+  return shape('svg', { viewBox: `0 0 ${width} ${height}`, width, height, class: 'chart', role: 'group', 'aria-label': title, 'font-size': 12.5,
+    'font-family': 'system-ui, "Segoe UI", "DejaVu Sans", sans-serif' }, stripes(), ...ground(chart), ...chart.bars.map(barShape),
+  ...chart.marks.map(markShape));
+}
+
+/**
+ * A chart as the text of an SVG file, on white paper.
+ * @param {Chart} chart
+ * @param {string} title
+ */
+export function svgText(chart, title) {
+  const svg = drawn(chart, title);
+  svg.prepend(shape('title', {}, title), shape('rect', { width: chart.width, height: chart.height, fill: '#fff' }));
+  return `${new XMLSerializer().serializeToString(svg)}\n`;
+}
+
+/**
+ * A chart as the bytes of a PNG file, two pixels for each of the screen.
+ * @param {Chart} chart
+ * @param {string} title
+ * @returns {Promise<Blob>}
+ */
+export async function pngOf(chart, title) {
+  const address = URL.createObjectURL(new Blob([svgText(chart, title)], { type: 'image/svg+xml' })), image = new Image();
+  try {
+    image.src = address;
+    await image.decode();
+    const canvas = document.createElement('canvas');
+    canvas.width = Math.min(16000, chart.width * 2);
+    canvas.height = Math.min(16000, chart.height * 2);
+    const pen = canvas.getContext('2d');
+    if (pen) pen.drawImage(image, 0, 0, canvas.width, canvas.height);
+    return await new Promise((done, fail) => canvas.toBlob(it => it ? done(it) : fail(new Error('no picture')), 'image/png'));
+  } finally {
+    URL.revokeObjectURL(address);
+  }
+}
+
+/** Signs that mean something in LaTeX.
+ * @type {Object<string, string>} */
+const SIGNS = { '\\': '\\textbackslash{}', '~': '\\textasciitilde{}', '^': '\\textasciicircum{}',
+  ...Object.fromEntries(Array.from('#$%&_{}', it => [it, `\\${it}`])) };
+
+/**
+ * A text of LaTeX.
+ * @param {string} text
+ */
+function latex(text) { return Array.from(text, it => SIGNS[it] || it).join(''); }
+
+/**
+ * A chart as a picture of TikZ, in centimetres.
+ * @param {Chart} chart
+ */
+export function tikzText(chart) {
+  const at = (/** @type {number} */ x, /** @type {number} */ y) => `(${(x / 40).toFixed(3)},${(-y / 40).toFixed(3)})`;
+  const foot = TOP + chart.lines.length * LINE;
+  const lines = chart.lines.map(({ title, y }) => `\\node[anchor=west] at ${at(0, y + LINE / 2)} {${latex(title)}};`);
+  const ticks = chart.ticks.flatMap(({ x, text }) => [`\\draw[lightgray] ${at(x, TOP)} -- ${at(x, foot + 5)};`,
+    `\\node[anchor=north,font=\\scriptsize] at ${at(x, foot + 4)} {${latex(text)}};`]);
+  const bars = chart.bars.flatMap(({ x, y, width, label, late, colour }) => [
+    `\\draw[fill=msp${'abcdefgh'[colour]}${late ? ',draw=red!70!black,thick' : ''}] ${at(x, y)} rectangle ${at(x + width, y + BAR)};`,
+    ...(label ? [`\\node[font=\\scriptsize] at ${at(x + width / 2, y + BAR / 2)} {${latex(label)}};`] : [])]);
+  const colourOf = (/** @type {Mark} */ { kind, late }) => kind === 'release' ? 'blue' : late ? 'red!70!black' : 'green!40!black';
+  const marks = chart.marks.map(it => `\\draw[thick,${colourOf(it)}] `
+    + `${at(it.x, it.y + 2)} -- ${at(it.x, it.y + (it.short ? LINE / 4 : LINE - 2))};`);
+  const colours = FILLS.map((it, place) => `\\definecolor{msp${'abcdefgh'[place]}}{HTML}{${it.slice(1).toUpperCase()}}`);
+  return ['% \\usepackage{tikz}', ...colours, '\\begin{tikzpicture}', ...ticks, ...lines, ...bars, ...marks, '\\end{tikzpicture}', ''].join('\n');
+}

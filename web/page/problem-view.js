@@ -1,0 +1,134 @@
+// The problem: its class by questions or by its name, its machines, and what is known of it.
+import { LETTER } from '../classes.js';
+import { element, fill } from '../elements.js';
+import { changed, NAMES, partsOf, PARTS, rankOf, VALUES } from '../names.js';
+import { asked, near, read } from '../reading.js';
+import { fixedMachines, hasSpeeds } from './columns.js';
+import { button, choice, field, line, part } from './controls.js';
+
+/** @typedef {import('./app.js').App} App */
+/** @typedef {import('../names.js').Part} Part */
+
+const NEAR = 6;
+
+/** The part of the page with the class. */
+export class ProblemView {
+  /** @param {App} app */
+  constructor(app) {
+    this.app = app;
+    this.root = element('section', { id: 'problem', 'aria-labelledby': 'problem-head' });
+    /** What stands in the field of the class where it was not understood. */
+    this.typed = '';
+    /** What decides whether this part is built anew. */
+    this.shape = '';
+  }
+
+  /** @param {string} key
+   * @param {...string} values */
+  say(key, ...values) { return this.app.words.say(key, ...values); }
+
+  /**
+   * Takes a class by its rank. The number of machines stays where both instances say one.
+   * @param {number} rank
+   */
+  take(rank) {
+    if (rank < 0) return;
+    this.typed = '';
+    const parts = { ...partsOf(rank) }, fixed = fixedMachines(parts);
+    this.app.change({ parts, machines: fixed ? String(fixed) : this.app.problem.machines || '2' });
+  }
+
+  /** @param {string} text */
+  read(text) {
+    const rank = asked(read(text));
+    this.typed = rank < 0 ? text : '';
+    if (rank < 0 || NAMES[rank] === this.app.name) this.render();
+    else this.take(rank);
+  }
+
+  /** What was not understood of a class, and classes near by. */
+  notes() {
+    if (!this.typed.trim()) return [];
+    const reading = read(this.typed), unknown = reading.unknown.map(it => `${it.word}${it.note ? `: ${it.note}` : ''}`).join('; ');
+    const those = near(reading).slice(0, NEAR).map(it => button(NAMES[it], () => this.take(it), { class: 'near' }));
+    return [element('p', { class: 'faulty', role: 'alert' }, this.say('notUnderstood', unknown || this.typed), ' ',
+      ...(those.length ? [this.say('nearby'), ' ', ...those] : []))];
+  }
+
+  /** The name of the class, its label, and whether there is a solver. */
+  known() {
+    const { app } = this, { label } = app, line = element('p', { class: 'known' });
+    if (!label || !app.atlas) return line;
+    const solver = app.atlas.solver(rankOf(app.name));
+    line.append(element('span', { class: `badge ${label}` }, `${LETTER[label]} ${label}`), ' ',
+      solver ? this.say('solverIs', solver[0]) : this.say('noSolver'), ' ',
+      element('a', { class: 'text', href: `#classes/${encodeURIComponent(app.name)}` }, this.say('whyClass')));
+    return line;
+  }
+
+  /** @param {Part} which */
+  picker(which) {
+    const { parts } = this.app.problem, values = VALUES[which].filter(it => changed(parts, which, it) >= 0 || it === parts[which]);
+    if (which === 'short' && values.length < 2) return '';
+    const options = values.map(it => /** @type {[string, string]} */ ([it, this.said(which, it)]));
+    return field(this.say(which === 'short' ? 'shortAsks' : which), choice(`pick-${which}`, options, parts[which],
+      it => this.take(changed(this.app.problem.parts, which, it))));
+  }
+
+  /**
+   * A word of a part, and what it means.
+   * @param {Part} which
+   * @param {string} word
+   */
+  said(which, word) {
+    const said = this.say(`${which} ${word}`);
+    return which === 'environment' || which === 'criterion' ? `${said} (${word})` : said;
+  }
+
+  /** The fields of the machines, and the time that all steps share. */
+  machines() {
+    const { problem } = this.app, fields = [];
+    const set = (/** @type {string} */ key) => (/** @type {string} */ value) => this.app.change({ [key]: value });
+    if (!fixedMachines(problem.parts)) {
+      fields.push(field(this.say('machines'), line('machines', problem.machines, set('machines'), { inputmode: 'numeric' })));
+    }
+    if (hasSpeeds(problem.parts)) fields.push(field(this.say('speeds'), line('speeds', problem.speeds, set('speeds'))));
+    if (problem.parts.times === 'p=p') fields.push(field(this.say('time'), line('time', problem.time, set('time'))));
+    if (problem.parts.environment !== '1') {
+      const names = (/** @type {string} */ value) => this.app.change({ machineNames: value.split(/[,;]/).map(it => it.trim()) });
+      fields.push(field(this.say('machineNames'), line('machineNames', problem.machineNames.join(', '), names,
+        { placeholder: this.say('machineNamesHint') })));
+    }
+    return element('div', { class: 'fields' }, ...fields);
+  }
+
+  render() {
+    const { app } = this, faults = app.faults.filter(it => it.row === 0);
+    const shape = JSON.stringify([app.words.language, { ...app.problem, rows: [] }, app.label, this.typed, faults]);
+    if (shape === this.shape) return;
+    this.shape = shape;
+    this.build();
+  }
+
+  build() {
+    const { app } = this, focus = document.activeElement instanceof HTMLElement ? document.activeElement.id : '';
+    const input = line('class-name', this.typed || app.name, it => this.read(it), { class: 'name', 'aria-describedby': 'class-hint' });
+    const hint = element('span', { id: 'class-hint', class: 'quiet' }, this.say('classHint'));
+    const made = part('problem', this.say('problem'), field(this.say('className'), input, hint), ...this.notes(), this.known(),
+      element('div', { class: 'fields' }, ...PARTS.map(it => this.picker(it))), this.machines());
+    fill(this.root, ...Array.from(made.childNodes));
+    const again = focus && this.root.querySelector(`#${CSS.escape(focus)}`);
+    if (again instanceof HTMLElement) again.focus();
+    this.mark();
+  }
+
+  /** Marks the fields with a fault. */
+  mark() {
+    for (const { row, key, code, values } of this.app.faults) {
+      const control = row === 0 && this.root.querySelector(`#${CSS.escape(key === 'class' ? 'class-name' : key)}`);
+      if (!(control instanceof HTMLElement)) continue;
+      control.setAttribute('aria-invalid', 'true');
+      control.after(element('span', { class: 'fault' }, this.say(code, ...values)));
+    }
+  }
+}
