@@ -19,7 +19,7 @@ MOST_STARTS = 3
 # (operations that are looked at, in the standard effort: for each job, and at least)
 EFFORT_FOR_A_JOB = 100_000
 LEAST_EFFORT = 6_000_000
-LEAST_TRIES, MOST_TRIES, MOST_TRIES_FOR_A_JOB = 2_000, 100_000, 2_000
+LEAST_TRIES, MOST_TRIES, MOST_TRIES_FOR_A_JOB = 2_000, 70_000, 2_000
 FINE = 2**40  # (into so many parts a cost is divided where it is no whole number)
 
 
@@ -28,7 +28,7 @@ def standard_tries(problem: Problem) -> int:
     looked_at = problem.operations()
     if not problem.shop and not problem.bound and not problem.cut:
         looked_at = 2 * problem.count // problem.machines
-    slow = 20 if problem.cut else 3 if problem.instance.kind.kind in "OJ" or problem.bound and not problem.alike else 1
+    slow = 20 if problem.cut else 4 if problem.instance.kind.kind in "OJ" or problem.bound and not problem.alike else 1
     tries = max(LEAST_EFFORT, EFFORT_FOR_A_JOB * problem.count) // ((looked_at + 10) * slow)
     return min(max(tries, LEAST_TRIES // slow), MOST_TRIES, MOST_TRIES_FOR_A_JOB * problem.operations())
 
