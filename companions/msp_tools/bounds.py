@@ -208,8 +208,8 @@ def looser(places: Sequence[int], others: Sequence[int], kind: ClassName) -> boo
 class Asked:
     """The program, with what it said kept."""
 
-    def __init__(self, program: Program) -> None:
-        self.program = program
+    def __init__(self, program: Program, tell: Tell = silent) -> None:
+        self.program, self.tell = program, tell
         self.classes: Dict[ClassName, bool] = {}
         self.reports: Dict[str, str | None] = {}
 
@@ -225,13 +225,16 @@ class Asked:
             status, report, note = self.program.call(["solve"], text)
             if status not in (0, 4, 5):
                 raise Fault(note)
+            if status == 4:
+                self.tell(f"no bound at {text.splitlines()[1][6:]}: {note}")
             self.reports[text] = report if status == 0 else None
         return self.reports[text]
 
 
 def by_steps(asked: Asked, given: Instance, tell: Tell) -> Iterator[Bound]:
-    """The bounds by steps."""
-    for chain in Finder(given, asked.solved, tell).all():
+    """The bounds by steps; of an instance that its own solver takes the optimum."""
+    beyond_it = asked.solved(given.kind) and asked.report(given.text()) is None
+    for chain in Finder(given, lambda kind: asked.solved(kind) and not (beyond_it and kind == given.kind), tell).all():
         report = asked.report(chain.last.text())
         if report is not None:
             cost = read_schedule(report).cost
@@ -288,7 +291,7 @@ def by_certificates(program: Program, given: Instance) -> Iterator[Bound]:
 
 def bounds_of(instance: Instance, program: Program | None = None, tell: Tell = silent) -> tuple[Bound, ...]:
     """The lower bounds of an instance, the greatest first, of equal ones those that are proved and those of fewer steps."""
-    asked = Asked(program or need_program())
+    asked = Asked(program or need_program(), tell)
     found: dict[tuple[Fraction, str], Bound] = {}
     for bound in itertools.chain(by_certificates(asked.program, instance), by_steps(asked, instance, tell)):
         key = bound.value, bound.solved

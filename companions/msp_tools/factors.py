@@ -106,7 +106,7 @@ def cut_ends(given: Instance, jobs: list[Job]) -> dict[str, int]:
 
 
 def late_ones(given: Instance) -> tuple[tuple[int, ...], int]:
-    """The least weight for the jobs that are late where one after another is left out that is early, and 0 for the others."""
+    """The least weight for the jobs that are late where those that are early are left out, round after round, and 0 for these."""
     jobs = list(given.jobs)
     for _ in range(ROUNDS):
         ends = cut_ends(given, jobs)
