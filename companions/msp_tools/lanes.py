@@ -51,6 +51,8 @@ class Lanes:
         self.count, self.machines = problem.count, problem.machines
         self.times = [[it[at] for it in problem.times] for at in range(problem.machines)]
         self.ranks = ranked(problem)
+        # (the machines of a job, the fastest first, where they are not alike)
+        self.prefers = [] if problem.alike else [sorted(range(self.machines), key=it.__getitem__) for it in problem.times]
         self.counted = problem.criterion[-1] == "U"
         self.dated = problem.dated
         span = max([*problem.release, *problem.begins]) + sum(max(it) for it in problem.times) + 1
@@ -147,7 +149,7 @@ class Lanes:
         if self.looks_at_costly and self.draw.one() < 0.5:
             changed = self.around_costly()
         elif self.ranks or self.machines > 1 and self.draw.one() < 0.6:
-            changed = self.across(job)
+            changed = self.across(self.costly_job() if self.problem.greatest and self.draw.one() < 0.5 else job)
         else:
             changed = self.within(self.where[job], job)
         if not changed:
@@ -158,6 +160,11 @@ class Lanes:
             values[at] = value
         self.next_value = self.whole(values)
         return self.next_value
+
+    def costly_job(self) -> int:
+        """A job of the machine that costs most."""
+        lane = self.lanes[self.values.index(max(self.values))]
+        return lane[self.draw.below(len(lane))]
 
     def find_costly(self) -> tuple[int, int, int]:
         """The machine with the job that costs most, the place of that job, and that of the first one without a pause before it."""
@@ -204,9 +211,8 @@ class Lanes:
     def across(self, job: int) -> list[tuple[int, list[int]]]:
         """A job on another machine, or exchanged with one of another."""
         at = self.where[job]
-        to = self.draw.below(self.machines - 1) if self.machines > 1 else at
-        to += to >= at
-        if self.machines < 2:
+        to = self.prefers[job][self.draw.near(self.machines + 1) - 1] if self.prefers else self.draw.below(self.machines)
+        if to == at:
             return []
         one, other = list(self.lanes[at]), list(self.lanes[to])
         place = one.index(job)
