@@ -1,6 +1,7 @@
 """From the schedules of the rules to a better one: which space is searched in which class, and how far."""
 from __future__ import annotations
 
+from math import isqrt
 from typing import Callable, List, Sequence, TypeVar
 
 from .cutting import cut_cost, cut_pieces
@@ -16,10 +17,12 @@ from .timing import serial
 
 S = TypeVar("S")
 MOST_STARTS = 3
-# (operations that are looked at, in the standard effort: for each job, and at least)
-EFFORT_FOR_A_JOB = 100_000
+# (operations that are looked at, in the standard effort: at least; for each job of a shop; elsewhere for each job, times the root of their number)
 LEAST_EFFORT = 6_000_000
-LEAST_TRIES, MOST_TRIES, MOST_TRIES_FOR_A_JOB = 2_000, 100_000, 2_000
+EFFORT_IN_SHOPS = 100_000
+EFFORT = 13_000
+# (tries: at least, at most, of many jobs for each of them, of few operations for each of them)
+LEAST_TRIES, MOST_TRIES, TRIES_FOR_A_JOB, TRIES_FOR_AN_OPERATION = 2_000, 70_000, 1_200, 2_000
 FINE = 2**40  # (into so many parts a cost is divided where it is no whole number)
 
 
@@ -28,9 +31,11 @@ def standard_tries(problem: Problem) -> int:
     looked_at = problem.operations()
     if not problem.shop and not problem.bound and not problem.cut:
         looked_at = 2 * problem.count // problem.machines
-    slow = 20 if problem.cut else 3 if problem.instance.kind.kind in "OJ" or problem.bound and not problem.alike else 1
-    tries = max(LEAST_EFFORT, EFFORT_FOR_A_JOB * problem.count) // ((looked_at + 10) * slow)
-    return min(max(tries, LEAST_TRIES // slow), MOST_TRIES, MOST_TRIES_FOR_A_JOB * problem.operations())
+    slow = 20 if problem.cut else 4 if problem.instance.kind.kind in "OJ" or problem.bound and not problem.alike else 1
+    effort = problem.count * (EFFORT_IN_SHOPS if problem.shop else EFFORT * isqrt(problem.count))
+    tries = max(LEAST_EFFORT, effort) // ((looked_at + 10) * slow)
+    most = max(MOST_TRIES, TRIES_FOR_A_JOB * problem.count)
+    return min(max(tries, LEAST_TRIES // slow), most, TRIES_FOR_AN_OPERATION * problem.operations())
 
 
 def starts_of(found: Sequence[Tried], state: Callable[[Tried], S], most: int = MOST_STARTS) -> List[S]:

@@ -51,6 +51,8 @@ class Lanes:
         self.count, self.machines = problem.count, problem.machines
         self.times = [[it[at] for it in problem.times] for at in range(problem.machines)]
         self.ranks = ranked(problem)
+        # (the machines of a job, the fastest first, where they are not alike)
+        self.prefers = [] if problem.alike else [sorted(range(self.machines), key=it.__getitem__) for it in problem.times]
         self.counted = problem.criterion[-1] == "U"
         self.dated = problem.dated
         span = max([*problem.release, *problem.begins]) + sum(max(it) for it in problem.times) + 1
@@ -61,6 +63,8 @@ class Lanes:
         self.value = 0
         self.moves: list[tuple[int, list[int], int]] = []
         self.next_value = 0
+        self.looks_at_costly = problem.greatest and self.ranks is None
+        self.costly: tuple[int, int, int] | None = None
 
     # Values
 
@@ -129,7 +133,7 @@ class Lanes:
             for job in lane:
                 self.where[job] = at
         self.values = [self.lane_value(at, lane) for at, lane in enumerate(self.lanes)]
-        self.value = self.whole(self.values)
+        self.value, self.costly = self.whole(self.values), None
 
     def take(self) -> None:
         """Holds the neighbour."""
@@ -137,13 +141,15 @@ class Lanes:
             self.lanes[at], self.values[at] = lane, value
             for job in lane:
                 self.where[job] = at
-        self.value = self.next_value
+        self.value, self.costly = self.next_value, None
 
     def neighbour(self) -> int | None:
         """A job moves, or two are exchanged."""
         job = self.draw.below(self.count)
-        if self.ranks or self.machines > 1 and self.draw.one() < 0.6:
-            changed = self.across(job)
+        if self.looks_at_costly and self.draw.one() < 0.5:
+            changed = self.around_costly()
+        elif self.ranks or self.machines > 1 and self.draw.one() < 0.6:
+            changed = self.across(self.costly_job() if self.problem.greatest and self.draw.one() < 0.5 else job)
         else:
             changed = self.within(self.where[job], job)
         if not changed:
@@ -154,6 +160,37 @@ class Lanes:
             values[at] = value
         self.next_value = self.whole(values)
         return self.next_value
+
+    def costly_job(self) -> int:
+        """A job of the machine that costs most."""
+        lane = self.lanes[self.values.index(max(self.values))]
+        return lane[self.draw.below(len(lane))]
+
+    def find_costly(self) -> tuple[int, int, int]:
+        """The machine with the job that costs most, the place of that job, and that of the first one without a pause before it."""
+        at = self.values.index(max(self.values))
+        lane = self.lanes[at]
+        ends = self.ends(at, lane)
+        costs = self.problem.costs(lane, ends)
+        place = first = costs.index(max(costs))
+        while first > 0 and ends[first - 1] == ends[first] - self.times[at][lane[first]]:
+            first -= 1
+        return at, place, first
+
+    def around_costly(self) -> list[tuple[int, list[int]]]:
+        """The job that costs most goes before one in front of it, or one in front of it behind it or to another machine."""
+        if self.costly is None:
+            self.costly = self.find_costly()
+        at, place, first = self.costly
+        chosen = first + self.draw.below(place - first + 1)
+        if self.machines > 1 and self.draw.one() < 0.5:
+            return self.across(self.lanes[at][chosen])
+        lane = list(self.lanes[at])
+        if chosen == place:
+            lane.insert(first + self.draw.below(place - first + 1), lane.pop(place))
+        else:
+            lane.insert(place, lane.pop(chosen))
+        return [(at, lane)]
 
     def within(self, at: int, job: int) -> list[tuple[int, list[int]]]:
         """A job at another place of its sequence, or exchanged with another."""
@@ -174,9 +211,8 @@ class Lanes:
     def across(self, job: int) -> list[tuple[int, list[int]]]:
         """A job on another machine, or exchanged with one of another."""
         at = self.where[job]
-        to = self.draw.below(self.machines - 1) if self.machines > 1 else at
-        to += to >= at
-        if self.machines < 2:
+        to = self.prefers[job][self.draw.near(self.machines + 1) - 1] if self.prefers else self.draw.below(self.machines)
+        if to == at:
             return []
         one, other = list(self.lanes[at]), list(self.lanes[to])
         place = one.index(job)

@@ -4,6 +4,7 @@ Only sums, products and quotients are compared, so that each machine finds the s
 """
 from __future__ import annotations
 
+from heapq import heappop, heappush
 from typing import Callable, Dict, Iterator, List, NamedTuple, Sequence, Tuple
 
 from .cutting import cut_cost
@@ -11,6 +12,7 @@ from .problems import Order, Placed, Problem, Step, ends_of
 from .sequences import by_permutation
 from .timing import Choice, active, allowed, chosen, dispatched, listed, serial
 
+MOST_ROUNDS = 200  # (of Potts's rule)
 MOST_FOR_NEH = 120  # (jobs, where each place is costed anew)
 LOOKS_AHEAD = 2  # (of apparent tardiness cost)
 
@@ -75,6 +77,44 @@ def orders(problem: Problem) -> Dict[str, Order]:
     if problem.criterion == "fmax":
         found["least cost at the end"] = from_the_end(problem)
     return found
+
+
+# One machine, release dates and due dates
+
+def by_due_dates(problem: Problem, release: Sequence[int]) -> Tuple[Order, List[int]]:
+    """Of the jobs that are there always that of the earliest due date, by release dates of one's own; and when each of the order ends."""
+    coming = sorted(range(problem.count), key=lambda job: (-release[job], -job))
+    there: List[Tuple[int, int]] = []
+    now, found, ends = problem.begins[0], [], []
+    while coming or there:
+        if not there:
+            now = max(now, release[coming[-1]])
+        while coming and release[coming[-1]] <= now:
+            job = coming.pop()
+            heappush(there, (problem.due[job], job))
+        job = heappop(there)[1]
+        now += problem.times[job][0]
+        found.append(job)
+        ends.append(now)
+    return found, ends
+
+
+def potts(problem: Problem) -> Order:
+    """The best of a sequence of such orders: where a job of a later due date stands before the latest one without a pause between them, it waits
+    for that one's release date from then on."""
+    release, best, least = list(problem.release), list(range(problem.count)), None
+    for _ in range(min(problem.count, MOST_ROUNDS)):
+        order, ends = by_due_dates(problem, release)
+        late = [end - problem.due[job] for job, end in zip(order, ends)]
+        if least is None or max(late) < least:
+            least, best = max(late), order
+        place = at = late.index(max(late))
+        while at > 0 and ends[at - 1] == ends[at] - problem.times[order[at]][0] and problem.due[order[at - 1]] <= problem.due[order[place]]:
+            at -= 1
+        if at == 0 or ends[at - 1] < ends[at] - problem.times[order[at]][0]:
+            break
+        release[order[at - 1]] = max(release[order[at - 1]], release[order[place]])
+    return best
 
 
 # Choices
@@ -162,6 +202,8 @@ def tried(problem: Problem) -> Iterator[Tried]:
         return
     if problem.instance.kind.kind == "F" and problem.machines > 1:
         those += flows(problem)
+    if problem.machines == 1 and not problem.shop and not problem.bound and problem.criterion == "Lmax":
+        those.append(("Potts", potts(problem)))
     for name, order in those:
         yield valued(problem, name, "list", listed(problem, order), order)
         yield valued(problem, name, "serial", serial(problem, order), order)

@@ -91,6 +91,9 @@ def search(space: Space[S], effort: Effort, starts: list[S]) -> Best[S]:
             best.value, best.state = space.value, space.state()
         with effort.until_interrupted():
             climb(space, effort, memory, best)
+            if space.value == best.value:
+                # (where many cost the same, the next round goes on from another one)
+                best.state = space.state()
         turn += 1
         if turn >= len(starts):
             memory *= 2

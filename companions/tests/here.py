@@ -1,4 +1,10 @@
-"""Puts the package, and the reference of the repository, on the path: a script of this folder imports it in front of them."""
+"""What the scripts of this folder share: the package and the reference of the repository on the path, and one form of reading words.
+
+A script imports it in front of them.
+"""
+from __future__ import annotations
+
+import argparse
 import sys
 from pathlib import Path
 
@@ -6,3 +12,9 @@ COMPANIONS = Path(__file__).resolve().parent.parent
 TOP = COMPANIONS.parent
 sys.dont_write_bytecode = True
 sys.path[:0] = [str(COMPANIONS), str(TOP / "reference")]
+
+
+def reader_of(doc: str | None) -> argparse.ArgumentParser:
+    """A reader of words, by the text of a script, whose third line is its usage."""
+    text = doc or ""
+    return argparse.ArgumentParser(usage=text.split("\n")[2].strip(), description=text, formatter_class=argparse.RawDescriptionHelpFormatter)

@@ -10,13 +10,16 @@ from datetime import datetime, timedelta
 from fractions import Fraction
 from pathlib import Path
 
-from msp_tools import (Fault, Instance, ListWords, Misfit, Piece, ProgramRefusal, Refusal, Schedule, accept, certify, check, label, labels, solve,
-                       trial, why)
+from msp_tools import (Fault, Instance, ListWords, Misfit, Piece, ProgramRefusal, Refusal, Schedule, accept, certify, check, label, labels, propose,
+                       solve, trial, why)
 from msp_tools.faults import PLACE
 from msp_tools.program import find_program, need_program
 
 SMITH = "msp 1\nclass 1||sumwC\njob a p=3 w=1\njob b p=1 w=2\njob c p=2 w=2\nend\n"
 SHARED = "msp 1\nclass P|pmtn|Cmax\nmachines 2\njob a p=3\njob b p=2\njob c p=2\nend\n"
+
+
+ARRIVALS = "msp 1\nclass 1|r|Lmax\njob a p=4 r=0 d=9\njob b p=3 r=1 d=6\njob c p=2 r=3 d=7\nend\n"
 
 
 class Instances(unittest.TestCase):
@@ -150,6 +153,34 @@ class Answers(unittest.TestCase):
         found = trial("1||Lmax", 3, 1)
         self.assertEqual((found.name, found.jobs, found.seed, found.pieces), ("1||Lmax", 3, 1, 3))
         self.assertEqual(trial("1||Lmax", 3, 1), found)
+
+
+class Proposals(unittest.TestCase):
+    """Plans of classes with and without a solver."""
+
+    def test_open(self) -> None:
+        """By hand: whoever begins with a ends c 2 late, and b, c, a has 1; cut, a can wait for b and c, and nothing is late."""
+        found = propose(Instance.from_text(ARRIVALS))
+        self.assertEqual((found.cost, found.gap, found.word), (1, 1, "open"))
+        assert found.bound is not None
+        self.assertEqual(found.bound.value, 0)
+        self.assertEqual(check(found.schedule).cost, 1)
+        self.assertEqual(propose(Instance.from_text(ARRIVALS)).text(), found.text())
+
+    def test_solved(self) -> None:
+        """A class with a solver has its best schedule, which is proved."""
+        found = propose(Instance.from_text(SMITH))
+        self.assertEqual((found.cost, found.gap, found.word), (solve(Instance.from_text(SMITH)).cost, 0, "proved"))
+
+    def test_own_plan(self) -> None:
+        """A plan of one's own is where the search begins; one that is not feasible is refused."""
+        instance = Instance.from_text(ARRIVALS)
+        moments = {"b": (1, 4), "c": (4, 6), "a": (6, 10)}
+        own = Schedule.from_pieces(instance, [Piece(job, 1, 1, Fraction(start), Fraction(end)) for job, (start, end) in moments.items()])
+        self.assertEqual(propose(instance, 1, 1, own).cost, 1)
+        own.pieces[0].start -= 1
+        with self.assertRaises(Refusal):
+            propose(instance, 1, 1, own)
 
 
 class Refusals(unittest.TestCase):

@@ -82,6 +82,8 @@ def happened_by(wanted: Wanted) -> Happened:
         if not mark or number(time, f"--left {name}") < 1:
             raise Misfit(f"--left {text}: JOB=TIME, with a time from 1")
         left[operation(name, "--left")] = int(time)
+    if not wanted.now:
+        raise Misfit("--now MOMENT is wanted")
     rush = read_instance_at(wanted.rush) if wanted.rush else None
     return Happened(number(wanted.now, "--now"), [operation(it, "--done") for it in wanted.done], left, [machine(it) for it in wanted.failed], rush,
                     wanted.gone)
@@ -128,7 +130,7 @@ def words(parser: Parser) -> None:
     """Adds the words."""
     parser.add_argument("instance", metavar="INSTANCE", help="the instance of the old plan")
     parser.add_argument("plan", metavar="PLAN", help="the old plan")
-    parser.add_argument("--now", metavar="MOMENT", required=True, help="the moment now, in the units of the instance")
+    parser.add_argument("--now", metavar="MOMENT", default="", help="the moment now, in the units of the instance; it is wanted always")
     parser.add_argument("--done", metavar="JOB", action="append", default=[], help="is done, though the plan ends it later")
     parser.add_argument("--left", metavar="JOB=TIME", action="append", default=[], help="so much of its time is left, whatever the plan says")
     parser.add_argument("--failed", metavar="MACHINE", action="append", default=[], help="is out of order from now on")
