@@ -1,11 +1,11 @@
 // What is said of a plan: its faults, its cost, what is known of its being best.
 import { element } from '../elements.js';
 import { costText } from './costs.js';
-import { compare, minus } from './fractions.js';
+import { compare, minus } from '../fractions.js';
 import { brokenText } from './sentences.js';
 
 /** @typedef {import('./app.js').App} App */
-/** @typedef {import('./fractions.js').Fraction} Fraction */
+/** @typedef {import('../fractions.js').Fraction} Fraction */
 /** @typedef {import('./searching.js').Searching} Searching */
 
 const MOST_FAULTS = 8;

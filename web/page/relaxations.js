@@ -1,12 +1,12 @@
 // Lower bounds where there is no solver: classes near by whose best cost, which the program proves, bounds the cost of each plan here. Each
 // step leaves something out, so that it can only help: docs/page.md says why each holds.
 import { nameOf, rankOf } from '../names.js';
-import { fraction, greatest, over, plus, times, ZERO } from './fractions.js';
+import { fraction, greatest, over, plus, times, ZERO } from '../fractions.js';
 import { kindOf } from './columns.js';
 
 /** @typedef {import('../names.js').Parts} Parts */
 /** @typedef {import('./plain.js').Plain} Plain */
-/** @typedef {import('./fractions.js').Fraction} Fraction */
+/** @typedef {import('../fractions.js').Fraction} Fraction */
 /**
  * A step to an easier problem: its word in words.js, its instance, and what a best cost there says here.
  * @typedef {{word: string, plain: Plain, bound: (cost: Fraction) => Fraction}} Step

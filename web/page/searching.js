@@ -1,13 +1,13 @@
 // The search for a plan where there is no solver, and the bounds beside it.
 import { run } from '../engine.js';
 import { rankOf } from '../names.js';
-import { compare, fraction, printed } from './fractions.js';
+import { compare, fraction, printed } from '../fractions.js';
 import { plainOf, plainText, timedOf } from './plain.js';
 import { ways } from './relaxations.js';
 import { listCost } from './schedule.js';
 
 /** @typedef {import('./app.js').App} App */
-/** @typedef {import('./fractions.js').Fraction} Fraction */
+/** @typedef {import('../fractions.js').Fraction} Fraction */
 /** @typedef {import('./timing.js').Placed} Placed */
 /** @typedef {{text: string, value: Fraction, name: string, words: string[]}} Bound a bound in units of the list, its class, and its steps */
 
