@@ -61,7 +61,7 @@ export const LESSONS = [
   {
     id: 'hu', rule: 'hu', goal: { kind: 'plan', cost: '4' },
     instance: ['class P|intree,p=1|Cmax', 'machines 2', 'job A', 'job B', 'job C', 'job D', 'job E', 'job F',
-      'arc A F', 'arc B F', 'arc C D', 'arc D E', 'arc E F'],
+      'arc C D', 'arc D E', 'arc A F', 'arc B F', 'arc E F'],
     plan: ['A 1 1 0 1', 'B 1 2 0 1', 'C 1 1 1 2', 'D 1 1 2 3', 'E 1 1 3 4', 'F 1 1 4 5'],
   },
   {

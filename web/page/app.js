@@ -2,7 +2,7 @@
 import { run } from '../engine.js';
 import { nameOf, rankOf } from '../names.js';
 import { clockOf } from './clock.js';
-import { compare } from './fractions.js';
+import { compare } from '../fractions.js';
 import { built } from './instance.js';
 import { listCost, scheduleText, solvedOf } from './schedule.js';
 import { Store } from './store.js';
@@ -16,7 +16,7 @@ import { faultOf, verdictOf } from './verdicts.js';
 /** @typedef {import('./instance.js').Fault} Fault */
 /** @typedef {import('./schedule.js').Solved} Solved */
 /** @typedef {import('./verdicts.js').Verdict} Verdict */
-/** @typedef {import('./fractions.js').Fraction} Fraction */
+/** @typedef {import('../fractions.js').Fraction} Fraction */
 /** @typedef {import('./clock.js').ListClock} ListClock */
 /** @typedef {import('../classes.js').Atlas} Atlas */
 /** @typedef {{solved: Solved | null, status: number, note: string}} Answer what `solve` says of an instance */

@@ -1,7 +1,7 @@
 // What stands in the cells of German and English lists: numbers, lengths of time, dates; exact, or why not.
-import { fraction, over, times } from './fractions.js';
+import { fraction, over, times } from '../fractions.js';
 
-/** @typedef {import('./fractions.js').Fraction} Fraction */
+/** @typedef {import('../fractions.js').Fraction} Fraction */
 
 /** What is wrong with a cell: a word of words.js, and what stands in it. */
 export class CellFault extends Error {

@@ -2,7 +2,7 @@
 import { element, fill } from '../elements.js';
 import { BAR, chartOf, LINE, noteOf, TOP } from './chart.js';
 import { drawn } from './drawing.js';
-import { compare, fraction, minus, near, plus, ZERO } from './fractions.js';
+import { compare, fraction, minus, near, plus, ZERO } from '../fractions.js';
 import { hasChoice, moved, snapped, split } from './own.js';
 import { brokenPieces } from './verdicts.js';
 import { momentText } from './clock.js';

@@ -1,9 +1,9 @@
 // What a Gantt chart shows: its lines and bars, what is late, the marks of dates, the axis. No element of a page is made here.
-import { compare, fraction, near } from './fractions.js';
+import { compare, fraction, near } from '../fractions.js';
 import { momentText } from './clock.js';
 import { endsOf } from './schedule.js';
 
-/** @typedef {import('./fractions.js').Fraction} Fraction */
+/** @typedef {import('../fractions.js').Fraction} Fraction */
 /** @typedef {import('./schedule.js').Piece} Piece */
 /** @typedef {import('./instance.js').Built} Built */
 /** @typedef {import('./clock.js').ListClock} ListClock */
@@ -18,6 +18,7 @@ import { endsOf } from './schedule.js';
  * @property {(machine: number) => string} machineName
  * @property {(row: number) => string} jobName
  * @property {number} width
+ * @property {number} [span] up to which moment the axis goes at least
  * @property {Set<number>} broken places of pieces that break a condition
  * @property {Set<number>} marked rows of jobs that are pointed out
  */
@@ -73,7 +74,7 @@ export function cut(name, fits) {
  * @param {Wanted} wanted
  */
 function spanOf(wanted) {
-  const last = Math.max(0, ...wanted.pieces.map(it => near(it.to))) || 1;
+  const last = Math.max(wanted.span || 0, ...wanted.pieces.map(it => near(it.to))) || 1;
   const dates = wanted.built.jobs.flatMap(it => it.d ? [near(it.d)] : []).filter(it => it <= 1.25 * last);
   return Math.max(last, ...dates);
 }

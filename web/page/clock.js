@@ -1,10 +1,10 @@
 // Moments of a list as dates, where a start and a unit of time are known.
 import { secondsOf } from './columns.js';
 import { dateOf } from './cells.js';
-import { fraction, near, shown, times } from './fractions.js';
+import { fraction, near, shown, times } from '../fractions.js';
 import { calendarOf } from './calendar.js';
 
-/** @typedef {import('./fractions.js').Fraction} Fraction */
+/** @typedef {import('../fractions.js').Fraction} Fraction */
 /** @typedef {import('./instance.js').Problem} Problem */
 /**
  * @typedef {import('./cells.js').Clock & {calendar: import('./calendar.js').Calendar | null, faults: import('./instance.js').Fault[]}} ListClock

@@ -1,7 +1,7 @@
 // Costs in words, with their units; and what each job adds, which is shown where it gives the cost of the program.
-import { compare, fraction, greatest, minus, plus, shown, times, ZERO } from './fractions.js';
+import { compare, fraction, greatest, minus, plus, shown, times, ZERO } from '../fractions.js';
 
-/** @typedef {import('./fractions.js').Fraction} Fraction */
+/** @typedef {import('../fractions.js').Fraction} Fraction */
 /** @typedef {import('./instance.js').Job} Job */
 /** @typedef {import('./words.js').Words} Words */
 

@@ -1,9 +1,9 @@
 // Certificates: why no plan costs less, as a sentence with its numbers. Whether the evidence holds the program says (`accept`).
-import { fraction, over, plus, printed, shown, times, ZERO } from './fractions.js';
+import { fraction, over, plus, printed, shown, times, ZERO } from '../fractions.js';
 import { listCost } from './schedule.js';
 import { timeOn } from './own.js';
 
-/** @typedef {import('./fractions.js').Fraction} Fraction */
+/** @typedef {import('../fractions.js').Fraction} Fraction */
 /** @typedef {import('./instance.js').Built} Built */
 /** @typedef {import('./instance.js').Job} Job */
 /**

@@ -1,13 +1,13 @@
 // A problem as it stands in the page, and the text of its instance: each fault stands at its cell.
 import { CellFault, lengthOf, momentOf, numberOf } from './cells.js';
 import { columnsOf, fixedMachines, hasSpeeds, kindOf } from './columns.js';
-import { compare, fraction, lcm, print, times, ZERO } from './fractions.js';
+import { compare, fraction, lcm, print, times, ZERO } from '../fractions.js';
 import { nameOf } from '../names.js';
 import { arcsOf, namesOf } from './jobs.js';
 import { saysSum } from './spreadsheet.js';
 
 /** @typedef {import('../names.js').Parts} Parts */
-/** @typedef {import('./fractions.js').Fraction} Fraction */
+/** @typedef {import('../fractions.js').Fraction} Fraction */
 /** @typedef {import('./cells.js').Clock} Clock */
 /**
  * A row of the table of jobs: its number, which it keeps, and its cells by the keys of their columns, as they are typed.

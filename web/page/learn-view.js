@@ -1,20 +1,24 @@
-// Learn: short lessons, each an instance to play with, a rule, and a question that the program judges.
+// Learn: short lessons, each an instance to play with, a rule with its steps, and a question that is judged by what the program says.
 import { element, fill } from '../elements.js';
+import { judge } from '../lessons/judge.js';
+import { instanceText, lessonOf, LESSONS, planText } from '../lessons/lessons.js';
+import { say, textsOf } from '../lessons/words.js';
 import { App } from './app.js';
 import { ChartView } from './chart-view.js';
-import { button } from './controls.js';
-import { fraction, compare } from './fractions.js';
+import { button, folded } from './controls.js';
 import { stateOfText } from './input-view.js';
-import { LESSONS } from './lessons.js';
 import { early } from './own.js';
-import { plainOf, timedOf } from './plain.js';
 import { verdictNodes } from './plan-words.js';
-import { serial } from './timing.js';
+import { piecesIn, scheduleText } from './schedule.js';
+import { StepsView } from './steps-view.js';
 import { WhyView } from './why-view.js';
 
-/** @typedef {import('./lessons.js').Lesson} Lesson */
+/** @typedef {import('../lessons/lessons.js').Lesson} Lesson */
 /** @typedef {import('./state.js').Plan} Plan */
 /** @typedef {import('./words.js').Words} Words */
+
+/** What is told of an answer; all else stands in the verdict already. */
+const TOLD = ['solved', 'changed', 'moved', 'refused', 'kind', 'less'];
 
 /** The part of the page with the lessons. */
 export class LearnView {
@@ -22,7 +26,7 @@ export class LearnView {
    * @param {HTMLElement} root
    * @param {() => Words} words
    * @param {(text: string) => void} say tells readers of screens
-   * @param {(lesson: Lesson) => void} take opens the instance of a lesson in the plan
+   * @param {(text: string) => void} take opens an instance in the plan
    */
   constructor(root, words, say, take) {
     this.root = root;
@@ -35,6 +39,8 @@ export class LearnView {
     this.app = null;
     /** @type {WhyView | null} */
     this.why = null;
+    /** @type {StepsView | null} */
+    this.steps = null;
     this.shown = '';
     this.lessons = element('section', { class: 'lessons' });
   }
@@ -44,24 +50,18 @@ export class LearnView {
   say(key, ...values) { return this.words().say(key, ...values); }
 
   /**
-   * The plan with which a lesson begins: its order, one job after another.
+   * The plan with which a lesson begins.
    * @param {App} app
    * @param {Lesson} lesson
-   * @returns {Plan | null}
+   * @returns {Plan}
    */
-  first(app, lesson) {
-    const timed = timedOf(plainOf(app.built, app.problem.parts));
-    if (!timed) return null;
-    const unit = app.built.scale * BigInt(timed.parts);
-    const pieces = serial(timed, lesson.order).map(it => ({ row: app.built.jobs[it.job].row.id, op: it.number, machine: it.machine + 1,
-      from: fraction(it.start, unit), to: fraction(it.end, unit) }));
-    return { from: 'own', pieces };
-  }
+  first(app, lesson) { return { from: 'own', pieces: piecesIn(planText(lesson), app.built) }; }
 
   /** The list of all lessons. */
   list() {
-    const lines = LESSONS.map(({ id }) => element('li', {}, element('a', { class: 'text', href: `#learn/${id}` }, this.say(`lesson ${id}`)),
-      this.solved.has(id) ? ` \u2713 ${this.say('lessonDone')}` : ''));
+    const { german } = this.words();
+    const lines = LESSONS.map(it => element('li', {}, element('a', { class: 'text', href: `#learn/${it.id}` }, textsOf(it, german).title),
+      this.solved.has(it.id) ? ` \u2713 ${this.say('lessonDone')}` : ''));
     fill(this.lessons, element('h2', {}, this.say('learn')), element('p', { class: 'quiet' }, this.say('learnSays')), element('ol', {}, ...lines));
     return this.lessons;
   }
@@ -71,7 +71,7 @@ export class LearnView {
    * @param {string} id
    */
   show(id) {
-    const lesson = LESSONS.find(it => it.id === id), key = `${this.words().language} ${id}`;
+    const lesson = lessonOf(id), key = `${this.words().language} ${id}`;
     if (this.shown === key) return;
     this.shown = key;
     if (lesson) fill(this.root, this.list(), ...this.open(lesson));
@@ -83,36 +83,39 @@ export class LearnView {
    * @param {Lesson} lesson
    */
   open(lesson) {
-    const state = stateOfText(lesson.text);
+    const state = stateOfText(instanceText(lesson));
     if (!state) throw new Error(`the lesson ${lesson.id} has no instance`);
-    const app = new App(state, this.words()), chart = new ChartView(app, this.tell), plan = this.first(app, lesson);
+    const app = new App(state, this.words()), chart = new ChartView(app, this.tell);
     const verdict = element('div', { class: 'verdict', role: 'status', 'aria-live': 'polite' });
-    const answer = element('p', { class: 'answered', hidden: '' });
+    const answer = element('div', { class: 'answered', hidden: '' }), steps = new StepsView(app, 'lesson-steps', lesson.rule);
     const why = new WhyView(app, rows => {
       chart.marked = rows;
       chart.render();
     }, 'lesson-why', true);
-    [this.app, this.why] = [app, why];
+    [this.app, this.why, this.steps] = [app, why, steps];
     app.show(() => {
       chart.render();
       fill(verdict, ...verdictNodes(app, null, false));
-      if (lesson.asks === 'bound') why.render();
+      if (lesson.goal.kind === 'bound') why.render();
+      steps.render();
       this.judge(lesson, app, why, answer);
     });
     app.asksBest = true;
-    app.store.set({ ...app.state, plan });
-    const keys = element('p', { class: 'quiet keys' }, this.say('keys'));
-    const section = element('section', { class: 'lesson' }, ...this.asks(lesson), this.buttons(app, lesson), verdict, answer, chart.root, keys);
-    return [section, ...(lesson.asks === 'bound' ? [why.root] : [])];
+    app.store.set({ ...app.state, plan: this.first(app, lesson) });
+    const keys = element('p', { class: 'quiet keys' }, this.say('keys')), { hint } = textsOf(lesson, this.words().german);
+    const section = element('section', { class: 'lesson' }, ...this.asks(lesson), this.buttons(app, lesson), verdict, answer, chart.root, keys,
+      folded(this.say('lessonHint'), element('p', {}, hint)), steps.root);
+    return [section, ...(lesson.goal.kind === 'bound' ? [why.root] : [])];
   }
 
   /**
-   * The rule of a lesson, and what is asked.
+   * The instance and the rule of a lesson, and what is asked.
    * @param {Lesson} lesson
    */
-  asks({ id }) {
-    return [element('h2', { tabindex: '-1' }, this.say(`lesson ${id}`)), element('p', {}, this.say(`lesson ${id} rule`)),
-      element('p', { class: 'asks' }, element('b', {}, this.say('lessonAsks')), ' ', this.say(`lesson ${id} asks`))];
+  asks(lesson) {
+    const { title, story, rule, question } = textsOf(lesson, this.words().german);
+    return [element('h2', { tabindex: '-1' }, title), element('p', {}, story), element('p', { class: 'rule-says' }, rule),
+      element('p', { class: 'asks' }, element('b', {}, this.say('lessonAsks')), ' ', question)];
   }
 
   /**
@@ -124,24 +127,27 @@ export class LearnView {
       if (app.state.plan) app.plan({ pieces: early(app.state.plan.pieces, app.built), from: 'own' });
     };
     return element('div', { class: 'buttons' }, button(this.say('early'), move, { title: this.say('earlySays'), id: 'lesson-early' }),
-      button(this.say('undo'), () => app.store.undo()), button(this.say('again'), again), button(this.say('lessonTake'), () => this.take(lesson)));
+      button(this.say('undo'), () => app.store.undo()), button(this.say('again'), again),
+      button(this.say('lessonTake'), () => this.take(instanceText(lesson))));
   }
 
   /**
-   * Whether the question is answered: by a plan of the least cost, or by a bound that is the least cost.
+   * Whether the question is answered, by what the program says of the plan or of the evidence.
    * @param {Lesson} lesson
    * @param {App} app
    * @param {WhyView} why
    * @param {HTMLElement} answer
    */
   judge(lesson, app, why, answer) {
-    const done = lesson.asks === 'plan' ? app.isBest
-      : why.accepted && why.value !== null && app.bestCost !== null && compare(why.value, app.bestCost) === 0;
-    answer.hidden = !done;
+    const { plan } = app.state, { german } = this.words(), schedule = plan ? scheduleText(plan.pieces, app.built) : '';
+    const { outcome, values } = judge(lesson, { instance: app.built.text, verdict: app.verdict, schedule, evidence: why.evidence });
+    const done = outcome === 'solved', said = say(outcome, german, ...values);
+    answer.hidden = !TOLD.includes(outcome);
+    answer.classList.toggle('fine', done);
+    fill(answer, element('p', {}, said), ...(done ? [element('p', {}, textsOf(lesson, german).shows)] : []));
     if (!done || this.solved.has(lesson.id)) return;
     this.solved.add(lesson.id);
-    answer.textContent = this.say('lessonSolved');
     this.list();
-    this.tell(this.say('lessonSolved'));
+    this.tell(said);
   }
 }

@@ -3,7 +3,7 @@ import { CellFault, converted, dateOf, numberOf } from './cells.js';
 import { columnsOf, fixedMachines, hasDue, isShop } from './columns.js';
 import { dateText } from './clock.js';
 import { nameOf, rankOf } from '../names.js';
-import { shown } from './fractions.js';
+import { shown } from '../fractions.js';
 import { machinesOf } from './instance.js';
 
 /** @typedef {import('./spreadsheet.js').List} List */

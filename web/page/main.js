@@ -4,16 +4,17 @@ import { Atlas } from '../classes.js';
 import { byId, element, fill } from '../elements.js';
 import { unpacked as unpackedBytes } from '../engine/browser.js';
 import { prepare, run, runBytes } from '../engine.js';
+import { LESSONS } from '../lessons/lessons.js';
 import { NAMES, partsOf, rankOf } from '../names.js';
 import { App } from './app.js';
 import { button, choice } from './controls.js';
 import { fixedMachines } from './columns.js';
 import { InputView, stateOfText } from './input-view.js';
 import { LearnView } from './learn-view.js';
-import { LESSONS } from './lessons.js';
 import { PlanView } from './plan-view.js';
 import { ProblemView } from './problem-view.js';
 import { stateIn, unpacked } from './state.js';
+import { StepsView } from './steps-view.js';
 import { WhyView } from './why-view.js';
 import { Words } from './words.js';
 
@@ -37,8 +38,9 @@ const why = new WhyView(app, rows => {
   plan.chart.marked = rows;
   plan.chart.render();
 });
-const learn = new LearnView(byId('part-learn', HTMLElement), () => app.words, say, lesson => {
-  const state = stateOfText(lesson.text);
+const steps = new StepsView(app, 'plan-steps');
+const learn = new LearnView(byId('part-learn', HTMLElement), () => app.words, say, text => {
+  const state = stateOfText(text);
   if (state) app.store.change(state);
   location.hash = '#plan';
   app.solve();
@@ -182,8 +184,8 @@ function listen() {
 /** Puts the parts in their places, and takes what the link brings. */
 async function begin() {
   fill(byId('part-plan', HTMLElement), element('div', { class: 'given' }, input.tools, problem.root, input.root),
-    element('div', { class: 'found' }, plan.root, why.root));
-  for (const view of [problem, input, plan, why]) app.show(() => view.render());
+    element('div', { class: 'found' }, plan.root, why.root, steps.root));
+  for (const view of [problem, input, plan, why, steps]) app.show(() => view.render());
   listen();
   app.render();
   await route();
@@ -197,4 +199,4 @@ async function begin() {
 
 begin();
 // (for the console of the browser, and for tests)
-Object.assign(globalThis, { msp: { run, runBytes, app, input, learn, lessons: LESSONS } });
+Object.assign(globalThis, { msp: { run, runBytes, app, input, learn, steps, lessons: LESSONS } });

@@ -1,8 +1,8 @@
 // A plan of one's own: pieces moved, split, and put as early as they can. Whether it goes, and what it costs, the program says.
-import { compare, fraction, greatest, minus, over, plus, times, ZERO } from './fractions.js';
+import { compare, fraction, greatest, minus, over, plus, times, ZERO } from '../fractions.js';
 import { lengthOf } from './schedule.js';
 
-/** @typedef {import('./fractions.js').Fraction} Fraction */
+/** @typedef {import('../fractions.js').Fraction} Fraction */
 /** @typedef {import('./schedule.js').Piece} Piece */
 /** @typedef {import('./instance.js').Built} Built */
 /** @typedef {import('./instance.js').Job} Job */

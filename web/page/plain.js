@@ -1,11 +1,11 @@
 // An instance in whole numbers, as rules, search and bounds see it, and its text. Jobs, machines and places count from 0.
 import { fixedMachines, hasDue, hasSpeeds, hasWeight, kindOf } from './columns.js';
-import { fraction, gcd, times } from './fractions.js';
+import { fraction, gcd, times } from '../fractions.js';
 import { nameOf } from '../names.js';
 
 /** @typedef {import('../names.js').Parts} Parts */
 /** @typedef {import('./instance.js').Built} Built */
-/** @typedef {import('./fractions.js').Fraction} Fraction */
+/** @typedef {import('../fractions.js').Fraction} Fraction */
 /**
  * A job: `p` has its time (on one, identical and uniform machines), or those on each machine; a route has machines and times.
  * @typedef {{name: string, r: bigint, d: bigint, w: bigint, p: bigint[], route: [number, bigint][], curve: bigint[]}} PlainJob

@@ -3,7 +3,7 @@ import { chartOf } from './chart.js';
 import { button, folded, give } from './controls.js';
 import { element } from '../elements.js';
 import { pngOf, svgText, tikzText } from './drawing.js';
-import { print } from './fractions.js';
+import { print } from '../fractions.js';
 import { pieceHeads, pieceRows } from './plan-lists.js';
 import { scheduleText } from './schedule.js';
 

@@ -4,7 +4,7 @@ import { listed } from './chart-view.js';
 import { momentText } from './clock.js';
 import { folded } from './controls.js';
 import { added, costText, lengthText, together } from './costs.js';
-import { compare, minus, ZERO } from './fractions.js';
+import { compare, minus, ZERO } from '../fractions.js';
 import { endsOf } from './schedule.js';
 
 /** @typedef {import('./app.js').App} App */
@@ -34,7 +34,7 @@ export function jobTable(app) {
   const those = app.built.jobs.flatMap(job => ends.has(job.row.id) ? [{ job, end: ends.get(job.row.id) || ZERO }] : []);
   const parts = those.map(({ job, end }) => added(job, end, criterion));
   const agrees = cost !== null && compare(together(parts, criterion), cost) === 0, due = those.some(({ job }) => job.d);
-  const moment = (/** @type {import('./fractions.js').Fraction} */ it) => momentText(it, clock, words.german, true);
+  const moment = (/** @type {import('../fractions.js').Fraction} */ it) => momentText(it, clock, words.german, true);
   const rows = those.map(({ job, end }, at) => [app.jobName(job.row.id), moment(end),
     ...(due && job.d ? [moment(job.d), lengthText(minus(end, job.d), unit, words)] : []),
     ...(agrees ? [costText(parts[at], criterion, unit, words)] : [])]);

@@ -1,11 +1,11 @@
 // What is said of a plan: its faults, its cost, what is known of its being best.
 import { element } from '../elements.js';
 import { costText } from './costs.js';
-import { compare, minus } from './fractions.js';
+import { compare, minus } from '../fractions.js';
 import { brokenText } from './sentences.js';
 
 /** @typedef {import('./app.js').App} App */
-/** @typedef {import('./fractions.js').Fraction} Fraction */
+/** @typedef {import('../fractions.js').Fraction} Fraction */
 /** @typedef {import('./searching.js').Searching} Searching */
 
 const MOST_FAULTS = 8;
@@ -44,6 +44,16 @@ function wordOf(app, cost, searching) {
 }
 
 /**
+ * What a step of a bound does.
+ * @param {string} name with a machine or a job behind its colon
+ * @param {App} app
+ */
+function stepWords(name, app) {
+  const [kind, value = ''] = name.split(/:(.*)/s), job = kind === 'job' ? app.built.jobs.find(it => it.name === value) : undefined;
+  return app.words.say(`step ${kind}`, job ? app.jobName(job.row.id) : value);
+}
+
+/**
  * The bound beside the cost, where there is no solver.
  * @param {App} app
  * @param {Fraction} cost
@@ -52,7 +62,7 @@ function wordOf(app, cost, searching) {
 function boundLines(app, cost, searching) {
   const { words } = app, bound = searching && searching.bound;
   if (!bound || app.hasSolver) return [];
-  const gap = minus(cost, bound.value), steps = bound.words.map(it => words.say(it)).join('; ');
+  const gap = minus(cost, bound.value), steps = bound.steps.map(it => stepWords(it, app)).join('; ');
   return [element('p', { id: 'bound' }, words.say('boundWords', costOf(app, bound.value), bound.name, steps), ' ',
     compare(cost, bound.value) <= 0 ? words.say('closed') : words.say('gap', costOf(app, gap)))];
 }

@@ -1,129 +1,173 @@
-// Lower bounds where there is no solver: classes near by whose best cost, which the program proves, bounds the cost of each plan here. Each
-// step leaves something out, so that it can only help: docs/page.md says why each holds.
-import { nameOf, rankOf } from '../names.js';
-import { fraction, greatest, over, plus, times, ZERO } from './fractions.js';
+// Lower bounds where there is no solver: chains of steps to classes whose best cost, which the program proves, bounds that of each plan here.
 import { kindOf } from './columns.js';
+import { nameOf } from '../names.js';
+import { alone, isWhole, made, operations } from './loosening.js';
+import { lateness, oneJob, oneOfShop, stepNamed } from './loosenings.js';
 
 /** @typedef {import('../names.js').Parts} Parts */
+/** @typedef {import('./loosening.js').Loosening} Loosening */
 /** @typedef {import('./plain.js').Plain} Plain */
-/** @typedef {import('./fractions.js').Fraction} Fraction */
-/**
- * A step to an easier problem: its word in words.js, its instance, and what a best cost there says here.
- * @typedef {{word: string, plain: Plain, bound: (cost: Fraction) => Fraction}} Step
- */
-/** @typedef {{words: string[], plain: Plain, bound: (cost: Fraction) => Fraction}} Way */
+/** @typedef {import('../fractions.js').Fraction} Fraction */
+/** @typedef {{steps: Loosening[], instances: Plain[]}} Chain steps that were made, and the instances: the given one, and that behind each step */
 
-const MOST_STEPS = 3;
+/** Of so many machines of a shop, those with most work, bounds are asked. */
+const MOST_MACHINES = 8;
+/** What is left out, in the order in which the steps are made; of each place one further is looser. */
+const LEFT_OUT = [['', 'no-precedence'], ['', 'no-release'], ['', 'equal', 'equal unit'], ['', 'cut', 'one-machine']];
+/** The steps to other criteria.
+ * @type {Object<string, string[]>} */
+const CRITERIA = { sumwC: ['least-weight'], sumU: ['greatest'], sumwU: ['least-weight', 'greatest', 'least-weight greatest'],
+  sumT: ['late-by-one', 'greatest'], sumwT: ['least-weight', 'late-by-one', 'least-weight late-by-one', 'greatest', 'least-weight greatest'] };
 
-/** @param {Fraction} cost */
-function same(cost) { return cost; }
-
-/**
- * The instance in another class.
- * @param {Plain} plain
- * @param {Partial<Parts>} change
- * @returns {Plain}
- */
-function inClass(plain, change) { return { ...plain, parts: { ...plain.parts, ...change } }; }
+/** @param {Chain} chain */
+function lastOf({ instances }) { return instances[instances.length - 1]; }
 
 /**
- * One machine, as fast as all of them together, on which jobs may be cut: moments are counted in m-th parts.
- * @param {Plain} plain
- * @returns {Step[]}
+ * A chain with a step more; null where it can't be made.
+ * @param {Chain | null} chain
+ * @param {Loosening} step
+ * @returns {Chain | null}
  */
-function oneMachine(plain) {
-  const { parts, machines, jobs, shared } = plain;
-  if (kindOf(parts) !== 'P' || parts.criterion === 'fmax') return [];
-  const many = BigInt(machines), weights = fraction(many - 1n, 2n * many);
-  const work = jobs.reduce((sum, it) => sum + it.w * (parts.times ? shared : it.p[0]), 0n);
-  const made = inClass(plain, { environment: '1', cut: 'pmtn' });
-  /** @type {Step['bound']} */
-  const bound = cost => {
-    if (/U$/.test(parts.criterion)) return cost;
-    const least = over(cost, fraction(many));
-    return /C$/.test(parts.criterion) && !parts.order && !parts.release ? plus(least, times(weights, fraction(work))) : least;
-  };
-  return [{ word: 'loosenMachine', plain: { ...made, machines: 1, jobs: jobs.map(it => ({ ...it, r: it.r * many, d: it.d * many })) }, bound }];
+function further(chain, step) {
+  const found = chain && made(step, lastOf(chain));
+  return chain && found && { steps: [...chain.steps, step], instances: [...chain.instances, found] };
 }
 
 /**
- * The machine of a shop that has most work, alone: the jobs with work there, each for so long.
- * @param {Plain} plain
- * @returns {Step[]}
+ * The same by names of steps.
+ * @param {Chain} chain
+ * @param {string} names
  */
-function busiest(plain) {
-  const { parts, jobs, machines, shared } = plain, kind = kindOf(parts);
-  if (!'OFJ'.includes(kind) || parts.order || parts.criterion === 'fmax') return [];
-  const timeOf = (/** @type {Plain['jobs'][0]} */ job, /** @type {number} */ at) => kind === 'J'
-    ? job.route.filter(it => it[0] === at).reduce((sum, it) => sum + (parts.times ? shared : it[1]), 0n) : parts.times ? shared : job.p[at];
-  const work = Array.from({ length: machines }, (_, at) => jobs.reduce((sum, it) => sum + timeOf(it, at), 0n));
-  const at = work.reduce((best, it, place) => it > work[best] ? place : best, 0);
-  const those = jobs.map(it => ({ ...it, p: [timeOf(it, at)], route: [] })).filter(it => it.p[0] > 0n);
-  const made = inClass(plain, { environment: '1', times: '', short: '', cut: kind === 'J' ? 'pmtn' : parts.cut });
-  return those.length ? [{ word: 'loosenBusiest', plain: { ...made, machines: 1, jobs: those, arcs: [] }, bound: same }] : [];
+function byNames(chain, names) {
+  return names.split(' ').filter(Boolean).reduce((found, it) => further(found, stepNamed(it)), /** @type {Chain | null} */ (chain));
 }
 
 /**
- * Other criteria that bound this one from below.
- * @param {Plain} plain
- * @returns {Step[]}
+ * The chain itself, and those with steps more, as far as they can be made.
+ * @param {Chain} chain
+ * @param {string[]} several
+ * @returns {Chain[]}
  */
-function byCriterion(plain) {
-  const { parts, jobs } = plain, least = jobs.reduce((found, it) => it.w < found ? it.w : found, jobs[0].w);
-  const dates = fraction(jobs.reduce((sum, it) => sum + it.w * it.d, 0n)), to = (/** @type {string} */ criterion) => inClass(plain, { criterion });
-  const unweighted = (/** @type {string} */ criterion) => ({ ...to(criterion), jobs: jobs.map(it => ({ ...it, w: 1n })) });
-  /** @type {Object<string, Step[]>} */
-  const found = {
-    sumwC: [{ word: 'loosenWeights', plain: unweighted('sumC'), bound: cost => times(cost, fraction(least)) }],
-    sumwU: [{ word: 'loosenWeights', plain: unweighted('sumU'), bound: cost => times(cost, fraction(least)) }],
-    sumT: [{ word: 'loosenGreatest', plain: to('Lmax'), bound: cost => greatest(cost, ZERO) },
-      { word: 'loosenEnds', plain: to('sumC'), bound: cost => greatest(plus(cost, fraction(-dates.n)), ZERO) }],
-    sumwT: [{ word: 'loosenWeights', plain: unweighted('sumT'), bound: cost => times(cost, fraction(least)) },
-      { word: 'loosenEnds', plain: to('sumwC'), bound: cost => greatest(plus(cost, fraction(-dates.n)), ZERO) }],
-  };
-  return found[parts.criterion] || [];
+function ways(chain, several) { return [chain, ...several.flatMap(names => byNames(chain, names) || [])]; }
+
+/**
+ * All choices of one from each list.
+ * @param {string[][]} several
+ * @returns {number[][]}
+ */
+function choices(several) {
+  return several.reduce((found, those) => found.flatMap(it => those.map((_, at) => [...it, at])), /** @type {number[][]} */ ([[]]));
 }
 
 /**
- * All steps from an instance.
- * @param {Plain} plain
- * @returns {Step[]}
+ * Whether what is left out at places is looser than at others. One fast machine says more of sums of ends without release dates.
+ * @param {number[]} places
+ * @param {number[]} others
+ * @param {Parts} parts
  */
-export function steps(plain) {
-  const { parts } = plain, found = [];
-  if (!parts.cut) found.push({ word: 'loosenCut', plain: inClass(plain, { cut: 'pmtn' }), bound: same });
-  if (parts.order) found.push({ word: 'loosenOrder', plain: { ...inClass(plain, { order: '' }), arcs: [] }, bound: same });
-  if (parts.release) {
-    found.push({ word: 'loosenRelease', plain: { ...inClass(plain, { release: '' }), jobs: plain.jobs.map(it => ({ ...it, r: 0n })) }, bound: same });
+function isLooser(places, others, { criterion }) {
+  const last = places.length - 1;
+  if (/^sumw?C$/.test(criterion) && places[last] === 2 && others[last] === 2) return false;
+  return places.every((it, at) => it >= others[at]);
+}
+
+/**
+ * The chains to classes with a solver that leave out least.
+ * @param {Chain} chain
+ * @param {(name: string) => boolean} solved
+ * @returns {Chain[]}
+ */
+function leftOut(chain, solved) {
+  const { parts } = lastOf(chain), several = parts.times ? LEFT_OUT.map(it => it[1] === 'equal' ? ['', 'unit'] : it) : LEFT_OUT;
+  const sum = (/** @type {number[]} */ those) => those.reduce((all, it) => all + it, 0);
+  const order = choices(several).sort((one, other) => sum(one) - sum(other) || (String(one) < String(other) ? -1 : 1));
+  /** @type {{places: number[], chain: Chain}[]} */
+  const found = [];
+  for (const places of order) {
+    const names = places.map((at, place) => several[place][at]).join(' ');
+    const kind = names.split(' ').filter(Boolean).reduce((it, name) => it && stepNamed(name).to(it), /** @type {Parts | null} */ (parts));
+    if (!kind || found.some(it => isLooser(places, it.places, kind)) || !solved(nameOf(kind))) continue;
+    const those = byNames(chain, names);
+    if (those) found.push({ places, chain: those });
   }
-  return [...found, ...oneMachine(plain), ...busiest(plain), ...byCriterion(plain)];
+  return found.map(it => it.chain);
 }
 
 /**
- * The ways to solved classes of at most three steps, those of fewest steps to each class.
+ * The chains to sums of completion times for tardiness, but in shops.
+ * @param {Chain} chain
+ * @returns {Chain[]}
+ */
+function byLateness(chain) {
+  const last = lastOf(chain), found = '1PQR'.includes(kindOf(last.parts)) ? further(chain, lateness(last)) : null;
+  return found ? ways(found, ['least-weight']) : [];
+}
+
+/**
+ * The chains to the machines of a shop with most work, and on to the lateness there.
+ * @param {Chain} chain
+ * @returns {Chain[]}
+ */
+function inShop(chain) {
+  const last = lastOf(chain), work = new Array(last.machines).fill(0n);
+  if (!'OFJ'.includes(kindOf(last.parts))) return [];
+  for (const job of last.jobs) for (const [machine, time] of operations(job, last)) work[machine] += time;
+  const machines = work.map((_, at) => at).sort((one, other) => work[one] === work[other] ? one - other : work[one] > work[other] ? -1 : 1);
+  return machines.slice(0, MOST_MACHINES).flatMap(it => further(chain, oneOfShop(it)) || []).flatMap(it => [it, ...byLateness(it)]);
+}
+
+/**
+ * The chain with release dates raised and due dates lowered along the arcs, as far as that can be.
+ * @param {Chain} chain
+ */
+function withDates(chain) { return ['heads', 'tails'].reduce((found, it) => byNames(found, it) || found, chain); }
+
+/**
+ * The chain to the job that costs most at its earliest end.
+ * @param {Chain} first
+ * @returns {Chain[]}
+ */
+function toOneJob(first) {
+  const chain = withDates(byNames(first, 'fastest') || first), last = lastOf(chain);
+  if (kindOf(last.parts) === 'Q') return [];
+  const costs = last.jobs.map(it => alone(it, last)), at = costs.reduce((best, it, place) => it > costs[best] ? place : best, 0);
+  const found = further(chain, oneJob(at, last.jobs[at].name));
+  return found ? [found] : [];
+}
+
+/**
+ * The chains from an instance of a class without a solver to classes that have one.
  * @param {Plain} plain
  * @param {(name: string) => boolean} solved
- * @returns {Way[]}
+ * @returns {Chain[]}
  */
-export function ways(plain, solved) {
-  /** @type {Way[]} */
-  let level = [{ words: [], plain, bound: same }];
-  /** @type {Way[]} */
-  const found = [];
-  const seen = new Set([nameOf(plain.parts)]);
-  for (let step = 0; step < MOST_STEPS; step++) {
-    /** @type {Way[]} */
-    const further = [];
-    for (const way of level) {
-      for (const it of steps(way.plain)) {
-        const name = nameOf(it.plain.parts);
-        if (seen.has(name) || rankOf(name) < 0) continue;
-        further.push({ words: [...way.words, it.word], plain: it.plain, bound: cost => way.bound(it.bound(cost)) });
-      }
-    }
-    for (const way of further) seen.add(nameOf(way.plain.parts));
-    found.push(...further.filter(way => solved(nameOf(way.plain.parts))));
-    level = further.filter(way => !solved(nameOf(way.plain.parts)));
-  }
-  return found;
+export function chains(plain, solved) {
+  const first = { steps: [], instances: [plain] };
+  if (solved(nameOf(plain.parts))) return [];
+  const ones = [...ways(first, CRITERIA[plain.parts.criterion] || []), ...byLateness(first)];
+  return [...toOneJob(first), ...ones.flatMap(one => ways(one, [...(plain.parts.order ? ['fastest'] : []), 'least-times']).flatMap(two => {
+    const dated = withDates(two), those = dated.steps.length > two.steps.length ? [two, dated] : [two];
+    return [...those, ...inShop(dated)].flatMap(it => leftOut(it, solved));
+  }))];
+}
+
+/**
+ * What the least cost of the last instance of a chain says of the given one.
+ * @param {Chain} chain
+ * @param {Fraction} cost
+ */
+function valueOf({ steps, instances }, cost) {
+  return steps.reduceRight((value, step, at) => step.value(value, instances[at]), cost);
+}
+
+/**
+ * A bound, and the steps that show it: where it is no whole number and the least cost is one, it is rounded up.
+ * @param {Chain} chain
+ * @param {Fraction} cost the least one of its last instance
+ */
+export function boundOf(chain, cost) {
+  const value = valueOf(chain, cost), [given] = chain.instances;
+  if (value.d === 1n || !isWhole(given.parts)) return { value, chain };
+  const rounded = { steps: [stepNamed('whole'), ...chain.steps], instances: [given, ...chain.instances] };
+  return { value: valueOf(rounded, cost), chain: rounded };
 }

@@ -1,7 +1,7 @@
 // Schedules: those that the program prints, and their text for `check`. Moments are in the units of the list.
-import { fraction, lcm, over, plus, print, printed, times, ZERO } from './fractions.js';
+import { fraction, lcm, over, plus, print, printed, times, ZERO } from '../fractions.js';
 
-/** @typedef {import('./fractions.js').Fraction} Fraction */
+/** @typedef {import('../fractions.js').Fraction} Fraction */
 /** @typedef {import('./instance.js').Built} Built */
 /**
  * A piece of a schedule: of the job of a row, its operation, its machine, and from when to when.

@@ -1,15 +1,16 @@
 // The search for a plan where there is no solver, and the bounds beside it.
 import { run } from '../engine.js';
 import { rankOf } from '../names.js';
-import { compare, fraction, printed } from './fractions.js';
+import { compare, fraction, printed } from '../fractions.js';
 import { plainOf, plainText, timedOf } from './plain.js';
-import { ways } from './relaxations.js';
+import { boundOf, chains } from './relaxations.js';
 import { listCost } from './schedule.js';
 
 /** @typedef {import('./app.js').App} App */
-/** @typedef {import('./fractions.js').Fraction} Fraction */
+/** @typedef {import('../fractions.js').Fraction} Fraction */
 /** @typedef {import('./timing.js').Placed} Placed */
-/** @typedef {{text: string, value: Fraction, name: string, words: string[]}} Bound a bound in units of the list, its class, and its steps */
+/** @typedef {{text: string, value: Fraction, name: string, steps: string[]}} Bound a bound in units of the list, its class,
+ * and the names of its steps */
 
 const SEED = 1;
 
@@ -97,14 +98,14 @@ export class Searching {
     if (!text || !app.atlas || this.asked === text) return;
     this.asked = text;
     const solved = (/** @type {string} */ name) => app.atlas !== null && app.atlas.solver(rankOf(name)) !== null;
-    for (const way of ways(plainOf(app.built, app.problem.parts), solved)) {
-      const { status, report } = await run(['solve'], plainText(way.plain));
+    for (const chain of chains(plainOf(app.built, app.problem.parts), solved)) {
+      const { status, report } = await run(['solve'], plainText(chain.instances[chain.instances.length - 1]));
       if (app.built.text !== text) return;
       const cost = status === 0 ? printed((report.match(/^cost (.*)$/m) || ['', ''])[1]) : null;
       if (!cost) continue;
-      const value = listCost(way.bound(cost), app.problem.parts.criterion, app.built);
+      const bound = boundOf(chain, cost), value = listCost(bound.value, app.problem.parts.criterion, app.built);
       if (this.bound && compare(value, this.bound.value) <= 0) continue;
-      this.found = { text, value, name: (report.match(/^start (.*)$/m) || ['', ''])[1], words: way.words };
+      this.found = { text, value, name: (report.match(/^start (.*)$/m) || ['', ''])[1], steps: bound.chain.steps.map(it => it.name) };
       app.render();
     }
   }

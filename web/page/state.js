@@ -1,7 +1,7 @@
 // The state of the page as a text: in a link behind #, in a file. What is read can fill an instance and a plan, and nothing else.
 import { nameOf, partsOf } from '../names.js';
 import { asked, read } from '../reading.js';
-import { print, printed } from './fractions.js';
+import { print, printed } from '../fractions.js';
 import { emptyProblem } from './texts.js';
 
 /** @typedef {import('./instance.js').Problem} Problem */

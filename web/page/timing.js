@@ -1,6 +1,7 @@
-// How an order of jobs becomes a schedule. `serial`: in the order, each job as early as those in front of it allow. `active`, in shops: of all
-// operations that could begin before the earliest end of one on its machine, that of the first job begins. On machines that are not alike a job
-// goes where it ends first.
+// How an order of jobs becomes a schedule, in three named ways. `list`: at the earliest moment at which a machine is free and a job can begin,
+// the first such job of the order begins, on the free machine of least number. `serial`: in the order, each job as early as those in front of it
+// allow. `active`, in shops: of all operations that could begin before the earliest end of one on its machine, that of the first job begins. On
+// machines that are not alike a job goes where it ends first.
 
 /** @typedef {import('./plain.js').Timed} Timed */
 /** @typedef {import('./plain.js').Step} Step */
@@ -131,13 +132,27 @@ export function serialShop(timed, tokens) {
   return found;
 }
 
+/** @typedef {{job: number, step: Step, start: number}} Rival an operation that may go next, and when it could begin */
+
 /**
- * The schedule of a shop in which an order says what goes next, by `active`.
+ * The operations among which an order chooses: those that could begin first; or with delays those on the machine of the earliest end that
+ * could begin before it.
+ * @param {Rival[]} those
+ * @param {boolean} delays
+ */
+function rivals(those, delays) {
+  const first = those.reduce((best, it) => isSooner(it, best, delays) ? it : best), until = first.start + first.step.time;
+  return delays ? those.filter(it => it.step.machine === first.step.machine && it.start < until) : those.filter(it => it.start === first.start);
+}
+
+/**
+ * The schedule of a shop in which an order says what goes next, of what could begin first, or with delays by `active`.
  * @param {Timed} timed
  * @param {number[]} order
+ * @param {boolean} delays
  * @returns {Placed[]}
  */
-export function active(timed, order) {
+function dispatched(timed, order, delays) {
   const free = new Array(timed.machines).fill(0), now = timed.release.slice(), rest = timed.steps.map(it => it.slice());
   const waits = timed.before.map(it => it.length), places = new Array(order.length);
   order.forEach((job, at) => { places[job] = at; });
@@ -147,9 +162,8 @@ export function active(timed, order) {
   while (there.length) {
     const those = there.flatMap(job => (timed.open ? rest[job] : rest[job].slice(0, 1))
       .map(step => ({ job, step, start: Math.max(free[step.machine], now[job]) })));
-    const first = those.reduce((best, it) => isSooner(it, best) ? it : best), until = first.start + first.step.time;
-    const rivals = those.filter(it => it.step.machine === first.step.machine && it.start < until);
-    const { job, step, start } = rivals.reduce((best, it) => places[it.job] < places[best.job] ? it : best), end = start + step.time;
+    const { job, step, start } = rivals(those, delays).reduce((best, it) => places[it.job] < places[best.job]
+      || it.job === best.job && it.step.machine < best.step.machine ? it : best), end = start + step.time;
     free[step.machine] = now[job] = end;
     rest[job].splice(rest[job].indexOf(step), 1);
     found.push({ job, number: step.number, machine: step.machine, start, end });
@@ -164,14 +178,64 @@ export function active(timed, order) {
 }
 
 /**
- * Whether an operation can end sooner than another, of equal ones that on the machine of less number.
- * @param {{step: Step, start: number}} one
- * @param {{step: Step, start: number}} other
+ * Whether an operation can begin sooner than another, or with delays end sooner, of equal ones that on the machine of less number.
+ * @param {Rival} one
+ * @param {Rival} other
+ * @param {boolean} delays
  */
-function isSooner(one, other) {
-  const far = one.start + one.step.time - other.start - other.step.time;
+function isSooner(one, other, delays) {
+  const far = one.start - other.start + (delays ? one.step.time - other.step.time : 0);
   return far < 0 || far === 0 && one.step.machine < other.step.machine;
 }
+
+/**
+ * The schedule of an order by `active`.
+ * @param {Timed} timed
+ * @param {number[]} order
+ */
+export function active(timed, order) { return dispatched(timed, order, true); }
+
+/**
+ * The machine for a job that begins now by `list`: the free one of least number, or where machines are not alike that on which it ends first.
+ * @param {Timed} timed
+ * @param {number} job
+ * @param {number} now
+ * @param {number[]} free
+ */
+function freeFor(timed, job, now, free) {
+  const ends = free.map((it, at) => Math.max(it, now) + timed.times[job][at]);
+  return timed.alike ? free.findIndex(it => it <= now) : ends.reduce((best, it, at) => it < ends[best] ? at : best, 0);
+}
+
+/**
+ * The schedule of an order by `list`.
+ * @param {Timed} timed
+ * @param {number[]} order
+ * @returns {Placed[]}
+ */
+export function listed(timed, order) {
+  if (timed.shop) return dispatched(timed, order, false);
+  const free = new Array(timed.machines).fill(0), now = timed.release.slice(), waits = timed.before.map(it => it.length);
+  let rest = order.slice();
+  /** @type {Placed[]} */
+  const found = [];
+  for (let there = rest.filter(it => !waits[it]); there.length; there = rest.filter(it => !waits[it])) {
+    const first = Math.max(Math.min(...free), Math.min(...there.map(it => now[it]))), job = there.find(it => now[it] <= first) || 0;
+    const machine = freeFor(timed, job, first, free), start = Math.max(free[machine], first), end = start + timed.times[job][machine];
+    free[machine] = end;
+    found.push({ job, number: 1, machine, start, end });
+    rest = rest.filter(it => it !== job);
+    for (const other of timed.after[job]) {
+      now[other] = Math.max(now[other], end);
+      waits[other]--;
+    }
+  }
+  return found;
+}
+
+/** The ways by their names.
+ * @type {Object<string, (timed: Timed, order: number[]) => Placed[]>} */
+export const TIMINGS = { list: listed, serial, active };
 
 /**
  * What a job costs that ends at a moment.

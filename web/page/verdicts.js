@@ -1,7 +1,7 @@
 // What the program says of a schedule, of a certificate, and of an input with a fault: its reports and notes in parts.
-import { printed } from './fractions.js';
+import { printed } from '../fractions.js';
 
-/** @typedef {import('./fractions.js').Fraction} Fraction */
+/** @typedef {import('../fractions.js').Fraction} Fraction */
 /** @typedef {import('./instance.js').Built} Built */
 /** @typedef {import('./instance.js').Fault} Fault */
 /**

@@ -4,7 +4,7 @@ import { element, fill } from '../elements.js';
 import { CellFault, numberOf } from './cells.js';
 import { button, choice, field, line, part } from './controls.js';
 import { CERTIFIED, certificateIn, ownText, whyText } from './evidence.js';
-import { print } from './fractions.js';
+import { print } from '../fractions.js';
 
 /** @typedef {import('./app.js').App} App */
 /** @typedef {import('./evidence.js').Certificate} Certificate */
@@ -24,9 +24,9 @@ export class WhyView {
     this.prefix = prefix;
     this.ownOnly = ownOnly;
     this.root = element('section', { id: prefix, 'aria-labelledby': `${prefix}-head` });
-    /** One's own bound, where it was accepted.
-     * @type {import('./fractions.js').Fraction | null} */
-    this.value = null;
+    /** What the program said of one's own bound; null where it was not asked.
+     * @type {import('../lessons/judge.js').Evidence | null} */
+    this.evidence = null;
     /** @type {{text: string, found: Certificate | null} | null} */
     this.asked = null;
     /** What the program says of one's own bound. */
@@ -63,13 +63,13 @@ export class WhyView {
   /** Lets the program judge a bound of one's own. */
   async judge() {
     const { app } = this;
-    this.value = null;
+    this.evidence = null;
     try {
       const value = numberOf(this.bound), text = ownText(this.kind, value, [...this.chosen], Number(this.machine), app.built);
       const { report, note } = await run(['accept'], app.built.text + text);
       this.accepted = /^accepted yes$/m.test(report);
       const found = certificateIn(text, app.built);
-      if (this.accepted) this.value = value;
+      if (found && !note) this.evidence = { accepted: this.accepted, kind: found.kind, bound: found.bound };
       this.judged = note ? this.say('line', note.replace('msp: ', '').trim()) : this.accepted && found
         ? `${this.say('acceptedYes')} ${whyText(found, app)}` : this.say('acceptedNo');
     } catch (fault) {

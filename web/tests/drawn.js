@@ -33,8 +33,9 @@ export class Draw {
  * @param {Draw} draw
  */
 function timesLines({ environment, times, short }, machines, draw) {
-  if (short) {
-    const machine = draw.from(1, 2), way = draw.from(0, 2) ? [machine, 3 - machine] : [machine];
+  if (environment[0] === 'J') {
+    const machine = draw.from(1, 2), way = short ? draw.from(0, 2) ? [machine, 3 - machine] : [machine]
+      : Array.from({ length: draw.from(1, 4) }, () => draw.from(1, machines));
     return [`route ${way.map(it => times ? it : `${it} ${draw.from(1, 9)}`).join(' ')}`];
   }
   if (times || !'ROF'.includes(environment[0])) return [];
@@ -86,15 +87,27 @@ function arcLines(order, jobs, draw) {
 }
 
 /**
+ * The line of speeds, where machines have some.
+ * @param {Parts} parts
+ * @param {number} machines
+ * @param {Draw} draw
+ */
+function speedsLines({ environment }, machines, draw) {
+  return environment[0] === 'Q' ? [`speeds ${Array.from({ length: machines }, () => draw.from(1, 5)).join(' ')}`] : [];
+}
+
+/**
  * An instance of a class, as a text.
  * @param {string} name
  * @param {Parts} parts
  * @param {Draw} draw
  */
 export function drawn(name, parts, draw) {
-  const fixed = parts.environment.match(/^[A-Z]?([1-9])$/), machines = fixed ? Number(fixed[1]) : draw.from(1, 4), jobs = draw.from(1, 9);
+  const fixed = parts.environment.match(/^[A-Z]?([1-9])$/), least = parts.environment === 'J' ? 2 : 1,
+    machines = fixed ? Number(fixed[1]) : draw.from(least, 4), jobs = draw.from(1, 9);
   const horizon = draw.from(1, 5 * jobs);
-  return ['msp 1', `class ${name}`, ...fixed ? [] : [`machines ${machines}`], ...parts.times === 'p=p' ? [`time ${draw.from(1, 5)}`] : [],
+  return ['msp 1', `class ${name}`, ...fixed ? [] : [`machines ${machines}`], ...speedsLines(parts, machines, draw),
+    ...parts.times === 'p=p' ? [`time ${draw.from(1, 5)}`] : [],
     ...Array.from({ length: jobs }, (_, at) => jobLines(parts, at, machines, horizon, draw)).flat(),
     ...arcLines(parts.order, jobs, draw), 'end', ''].join('\n');
 }

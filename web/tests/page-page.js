@@ -152,20 +152,23 @@
 (() => {
   /** @type {any} */
   const page = /** @type {any} */ (window).msp;
-  /** Takes a best plan of the program for the one of the lesson. */
-  const answer = () => {
-    const { app } = page.learn;
-    app.plan({ pieces: app.answer.solved.pieces, from: 'own' });
+  /**
+   * Takes the plan of the last step of the rule for the one of the lesson; or moves the one bar that is enough.
+   * @param {string} goal
+   */
+  const answer = goal => {
+    const { app, steps } = page.learn, all = steps.steps, [lawler] = app.state.plan.pieces.slice(2), [from, to] = [2n, 4n].map(n => ({ n, d: 1n }));
+    const moved = app.state.plan.pieces.map((/** @type {any} */ it) => it === lawler ? { ...it, from, to } : it);
+    app.plan({ pieces: goal === 'move' ? moved : steps.pieces(all[all.length - 1]), from: 'own' });
   };
-  /** Gives the best cost as a bound, with the work of all jobs, or of a machine or a job, until it is accepted. */
+  /** Gives the best cost as a bound, with the work of all jobs, or of one of them, until it is accepted. */
   const prove = async () => {
     const { why, app } = page.learn, rows = app.built.jobs.map((/** @type {any} */ it) => it.row.id);
     why.bound = String(app.bestCost.n);
-    for (const kind of why.kinds) {
+    for (const kind of why.kinds.filter((/** @type {string} */ it) => it !== 'machine')) {
       for (let at = 1; at <= rows.length && !why.accepted; at++) {
         why.kind = kind;
-        why.machine = String(Math.min(at, app.built.machines));
-        why.chosen = new Set(kind === 'line' ? [rows[at - 1]] : rows);
+        why.chosen = new Set([rows[at - 1]]);
         await why.judge();
       }
     }

@@ -3,11 +3,12 @@ import assert from 'node:assert/strict';
 import { readdirSync, readFileSync } from 'node:fs';
 import test from 'node:test';
 import { run } from '../engine.js';
+import { instanceText, LESSONS, planText } from '../lessons/lessons.js';
 import { partsOf, rankOf } from '../names.js';
 import { calendarOf } from '../page/calendar.js';
 import { dateOf, numberOf } from '../page/cells.js';
 import { clockOf, momentText } from '../page/clock.js';
-import { compare, fraction, print, shown } from '../page/fractions.js';
+import { compare, fraction, print, shown } from '../fractions.js';
 import { built } from '../page/instance.js';
 import { taken } from '../page/list.js';
 import { early, moved, snapped, split } from '../page/own.js';
@@ -174,5 +175,13 @@ test('all words stand in both languages, and those that are asked for are there'
     for (const [, key] of code.matchAll(/\.say\('([^']+)'/g)) assert.ok(key in table, `${name}: ${key}`);
     for (const [, key] of code.matchAll(/CellFault\('([^']+)'/g)) assert.ok(key in table, `${name}: ${key}`);
     for (const [, key] of code.matchAll(/fault\([^()]*, '(\w+)'[,)]/g)) assert.ok(key in table, `${name}: ${key}`);
+  }
+});
+
+test('the page reads the instance of each lesson as it stands, and its plan', () => {
+  for (const it of LESSONS) {
+    const found = instance(instanceText(it));
+    assert.equal(found.text, instanceText(it));
+    assert.equal(scheduleText(piecesIn(planText(it), found), found), planText(it));
   }
 });

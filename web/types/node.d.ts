@@ -67,6 +67,10 @@ declare module 'node:child_process' {
   export function spawnSync(command: string | URL, words: string[], options?: Options): Result;
 }
 
+declare module 'node:process' {
+  export const env: { [name: string]: string | undefined };
+}
+
 declare module 'node:url' {
   export function fileURLToPath(url: string | URL): string;
 }
