@@ -114,18 +114,33 @@ def max_of(numbers: Sequence[int]) -> int:
     return max(numbers)
 
 
-def schedule_by(problem: Problem, nodes: int = NODES, seed: int = 1, more: Sequence[str] = ()) -> List[Placed]:
-    """The best schedule that Gecode finds within so many nodes; none where it finds none. A Misfit where it is not installed."""
+def call_of(nodes: int, seed: int) -> List[str]:
+    """The words that ask Gecode for better and better schedules of a model, which it reads on its standard input."""
+    return ["minizinc", "--solver", "gecode", "-a", "--fzn-flags", f"-node {nodes} -r {seed}", "-"]
+
+
+def model_of(problem: Problem) -> Model:
+    """The model of a problem. A Misfit where MiniZinc is not installed, or where Gecode does not take its numbers."""
     if shutil.which("minizinc") is None:
         raise Misfit("--by minizinc: there is no minizinc in PATH (apt-get install minizinc)")
     model = Model(problem)
     if model.horizon * max([1, *problem.weight]) * problem.count > GREATEST_VALUE:
         raise Misfit("--by minizinc: numbers beyond 2*10^9, which Gecode does not take")
-    words = ["minizinc", "--solver", "gecode", "-a", "--fzn-flags", f"-node {nodes} -r {seed}", *more, "-"]
-    got = subprocess.run(words, input=model.text(), capture_output=True, text=True, check=False)
+    return model
+
+
+def schedule_by(problem: Problem, nodes: int = NODES, seed: int = 1) -> List[Placed]:
+    """The best schedule that Gecode finds within so many nodes; none where it finds none."""
+    model = model_of(problem)
+    got = subprocess.run(call_of(nodes, seed), input=model.text(), capture_output=True, text=True, check=False)
     if got.returncode:
         raise Misfit(f"--by minizinc: {got.stderr.strip().splitlines()[-1] if got.stderr.strip() else 'it failed'}")
-    solutions = got.stdout.split(END_OF_SOLUTION)[:-1]
+    return last_of(model, got.stdout)
+
+
+def last_of(model: Model, printed: str) -> List[Placed]:
+    """The last of the schedules that were printed, which is the best; none where there is none."""
+    solutions = printed.split(END_OF_SOLUTION)[:-1]
     return read(model, solutions[-1]) if solutions else []
 
 

@@ -12,6 +12,9 @@ COMPANIONS = Path(__file__).resolve().parent.parent
 TOP = COMPANIONS.parent
 sys.dont_write_bytecode = True
 sys.path[:0] = [str(COMPANIONS), str(TOP / "reference")]
+# (the classes without a solver of which plans and bounds are measured)
+MEASURED = ("1|r|Lmax", "1|r|sumC", "1||sumT", "1||sumwT", "1|r|sumwU", "P||Cmax", "P||Lmax", "P||sumwC", "P||sumT", "P|r|Lmax", "P|prec|Cmax",
+            "Q||Cmax", "R||Cmax", "R||sumwC", "F3||Cmax", "O3||Cmax", "F||sumC", "J||Cmax", "J||Lmax", "J||sumwT")
 
 
 def reader_of(doc: str | None) -> argparse.ArgumentParser:
