@@ -12,6 +12,7 @@ from msp_tools.commands.frame import positive
 P = TypeVar("P")
 A = TypeVar("A")
 OFTEN, SELDOM = 0.5, 30.0  # (seconds between two lines: on a terminal, elsewhere)
+BLOCK = 50
 
 
 def add_processors(reader: argparse.ArgumentParser) -> None:
@@ -20,8 +21,9 @@ def add_processors(reader: argparse.ArgumentParser) -> None:
 
 
 def side_by_side(name: str, work: Callable[[P], A], pieces: Sequence[P], processors: int) -> Iterator[A]:
-    """What the pieces give, in the order in which they end. Each runs alone in its process, and a line says how many have ended."""
-    progress = Progress(name, len(pieces))
+    """What the pieces give, in the order in which they end, where each runs alone in its process. With several processors, or on a terminal, a line
+    says how many have ended."""
+    progress = Progress(name, len(pieces), processors > 1)
     if processors == 1 or len(pieces) < 2:
         yield from progress.through(map(work, pieces))
         return
@@ -29,13 +31,19 @@ def side_by_side(name: str, work: Callable[[P], A], pieces: Sequence[P], process
         yield from progress.through(pool.imap_unordered(work, pieces))
 
 
+def blocks(count: int) -> list[range]:
+    """The numbers below a count, in blocks."""
+    return [range(first, min(first + BLOCK, count)) for first in range(0, count, BLOCK)]
+
+
 class Progress:
     """The line of progress: on a terminal one that changes, elsewhere one now and then."""
 
-    def __init__(self, name: str, count: int) -> None:
+    def __init__(self, name: str, count: int, wanted: bool) -> None:
         self.name, self.count, self.done = name, count, 0
         self.begun = self.told = time.monotonic()
         self.terminal = sys.stderr.isatty()
+        self.wanted = wanted or self.terminal
 
     def through(self, those: Iterator[A]) -> Iterator[A]:
         """Counts what comes."""
@@ -47,7 +55,7 @@ class Progress:
     def tell(self) -> None:
         """Tells how far it is, where enough time has passed, and at the end."""
         now, last = time.monotonic(), self.done == self.count
-        if now - self.told < (OFTEN if self.terminal else SELDOM) and not last:
+        if not self.wanted or now - self.told < (OFTEN if self.terminal else SELDOM) and not last:
             return
         self.told, (minutes, seconds) = now, divmod(int(now - self.begun), 60)
         line = f"{self.name}: {self.done} of {self.count}, {minutes} min {seconds} s"
