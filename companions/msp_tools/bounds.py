@@ -75,9 +75,9 @@ CRITERIA: dict[str, Sequence[str]] = {
     "sumT": ("late-by-one", "greatest"),
     "sumwT": ("least-weight", "late-by-one", "least-weight late-by-one", "greatest", "least-weight greatest")}
 # (what is left out, in the order in which the steps are made; of each place one further is looser)
-LEFT_OUT = (("", "no-precedence"), ("", "no-release"), ("", "equal", "equal unit"), ("", "cut", "one-machine"))
+LEFT_OUT = (("", "no-due"), ("", "no-precedence"), ("", "no-release"), ("", "equal", "equal unit"), ("", "cut", "one-machine"))
 # (the same where all times are equal already)
-LEFT_OUT_OF_EQUAL = (*LEFT_OUT[:2], ("", "unit"), *LEFT_OUT[3:])
+LEFT_OUT_OF_EQUAL = (*LEFT_OUT[:3], ("", "unit"), *LEFT_OUT[4:])
 
 
 class Finder:

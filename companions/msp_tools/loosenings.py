@@ -480,6 +480,8 @@ GREATEST_COST = ("sumU Lmax", "sumT Lmax", "sumwU fmax", "sumwT fmax")
 STEPS = {it.name: it for it in (
     Loosening("cut", "jobs may be cut", cut),
     Loosening("no-precedence", "precedence left out", no_precedence, lambda given: replace(given, arcs=[])),
+    Loosening("no-due", "due dates left out but for the greatest one", other("Lmax Cmax"), as_it_is,
+              lambda cost, given: cost - max(it.due_date for it in given.jobs)),
     Loosening("no-release", "release dates left out but for the least one", no_release, from_first, after_first),
     Loosening("equal", "each operation takes the least time of all", equal, of_least_time, fits=has_equal),
     Loosening("unit", "time counted in the shared time", unit, in_units, by_units),

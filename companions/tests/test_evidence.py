@@ -67,6 +67,14 @@ job b p=3 w=5
 job c p=6 w=2
 end
 """
+FRIDAY = """msp 1
+class F2||Lmax
+job a d=3
+times 1 1
+job b d=3
+times 2 2
+end
+"""
 Folder = Dict[str, str]
 Spoil = Callable[[Folder], object]
 
@@ -157,6 +165,8 @@ SPOILT: Dict[str, tuple[str, Spoil]] = {
     "a step of another kind of machines": (LOADS, put("bounds.txt", "one-machine", "fastest")),
     "a scale of nothing": (LATE, put("bounds.txt", r"lateness:[\d,]+/\d+", "lateness:0,0,0/0")),
     "a share of nothing": (LATE, put("bounds.txt", r"one-machine:\d+", "one-machine:0")),
+    "another step to the last end": (FRIDAY, put("bounds.txt", "no-due", "curves")),
+    "a due date one up in front of the last end": (FRIDAY, put("instance.txt", "d=3", "d=4")),
     "a share too few": (LATE, put("bounds.txt", r"one-machine:\d+,", "one-machine:")),
 }
 
@@ -166,7 +176,7 @@ class Evidence(unittest.TestCase):
 
     def test_accepted(self) -> None:
         """All that is written is accepted, with its bounds."""
-        for text in (SHOP, LATE, HALL, PRESS, LOADS):
+        for text in (SHOP, LATE, HALL, PRESS, LOADS, FRIDAY):
             found = judged(evidence_of(text))
             self.assertIsNone(found.fault)
             self.assertEqual(found.status, 0)
@@ -174,7 +184,7 @@ class Evidence(unittest.TestCase):
 
     def test_spoilt(self) -> None:
         """Each spoilt folder is refused."""
-        written = {text: evidence_of(text) for text in (SHOP, LATE, HALL, PRESS, LOADS)}
+        written = {text: evidence_of(text) for text in (SHOP, LATE, HALL, PRESS, LOADS, FRIDAY)}
         for name, (text, spoil) in SPOILT.items():
             folder = dict(written[text])
             spoil(folder)
@@ -201,6 +211,12 @@ class Bounds(unittest.TestCase):
         found = bounds_of(Instance.from_text(HALL), PROGRAM)
         self.assertEqual([(it.value, it.word) for it in found[:1]], [(6, "argued")])
         self.assertIn((Fraction(11, 2), "proved", "group"), [(it.value, it.word, it.solved) for it in found])
+
+    def test_due(self) -> None:
+        """Johnson's order takes 5, and the latest due date is 3. Each machine alone says 4 - 3: three hours, and one in front or behind."""
+        found = bounds_of(Instance.from_text(FRIDAY), PROGRAM)
+        self.assertEqual([(it.value, it.solved) for it in found if it.solved[0] == "F"], [(2, "F2||Cmax")])
+        self.assertEqual([it.value for it in found[:3]], [2, 1, 1])
 
     def test_solved(self) -> None:
         """A class with a solver has its optimum, proved, and no step: c and b end at 2 and 7, a at 4."""

@@ -52,6 +52,7 @@ function afterFirst(cost, plain) {
 const LEFT_OUT = [
   loosening('cut', parts => parts.cut ? null : { ...parts, cut: 'pmtn' }),
   loosening('no-precedence', parts => parts.order ? { ...parts, order: '' } : null, { edit: it => ({ ...it, arcs: [] }) }),
+  loosening('no-due', other({ Lmax: 'Cmax' }), { value: (cost, { jobs }) => minus(cost, fraction(most(jobs.map(it => it.d)))) }),
   loosening('no-release', parts => parts.release ? { ...parts, release: '' } : null,
     { edit: plain => each(plain, it => ({ ...later(it, firstRelease(plain)), r: 0n })), value: afterFirst }),
 ];

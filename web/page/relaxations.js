@@ -13,7 +13,7 @@ import { lateness, oneJob, oneOfShop, stepNamed } from './loosenings.js';
 /** Of so many machines of a shop, those with most work, bounds are asked. */
 const MOST_MACHINES = 8;
 /** What is left out, in the order in which the steps are made; of each place one further is looser. */
-const LEFT_OUT = [['', 'no-precedence'], ['', 'no-release'], ['', 'equal', 'equal unit'], ['', 'cut', 'one-machine']];
+const LEFT_OUT = [['', 'no-due'], ['', 'no-precedence'], ['', 'no-release'], ['', 'equal', 'equal unit'], ['', 'cut', 'one-machine']];
 /** The steps to other criteria.
  * @type {Object<string, string[]>} */
 const CRITERIA = { sumwC: ['least-weight'], sumU: ['greatest'], sumwU: ['least-weight', 'greatest', 'least-weight greatest'],

@@ -120,8 +120,8 @@ class Given(Instance):
         fits = len(factors) == len(self.jobs) and all(0 <= factor <= scale * it.factor for factor, it in zip(factors, self.jobs))
         due = sum(factor * (it.due or 0) for factor, it in zip(factors, self.jobs))
         return {
-            "from": ("r" in self.kind.items and old[-3:] == "max", lambda: self.kept([
-                it for it in self.jobs if it.release_date >= int(which)]), same),
+            "from": ("r" in self.kind.items and "max" in old, lambda: self.kept([it for it in self.jobs if it.release_date >= int(which)]), same),
+            "no-due": (old == "Lmax", lambda: self.to(criterion="Cmax"), lambda cost: cost - max(it.due_date for it in self.jobs)),
             "least-weight": ("w" in old, lambda: self.to(criterion=old.replace("w", "")), lambda cost: cost * least),
             "lateness": (late and fits, lambda: self.kept([replace(it, weight=factor) for factor, it in zip(factors, self.jobs) if factor]).to(
                 criterion="sumwC"), lambda cost: max((cost - due) / scale, Fraction(0))),
