@@ -139,6 +139,7 @@ def instance_of(table: Table, name: str, words: ListWords, told: Told) -> Made:
         raise Fault(f"{told.line} 1: the list is empty")
     kind, needed = found.kind, needed_keys(found.kind, found.machines)
     header = header_of(table, dict(words.column), needed)
+    table = table.of_one_column() if len(header.columns) == 1 else table
     tell_titles(header, table, told)
     need_columns(header, needed, name, words, told)
     left_out(header, table, {"job", *needed, *["after"] * bool(kind.precedence)}, kind, told)

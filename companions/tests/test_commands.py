@@ -56,11 +56,11 @@ class Help(unittest.TestCase):
                 self.assertIn(f"  {word}" if word != "--help" else "-h, --help", text, name)
 
     def test_every_word_has_a_help(self) -> None:
-        """No word is without one, but for those that had another name."""
+        """No word is without one, but for those that had another place."""
         for name in NAMES:
             for action in getattr(command(name).parser(), "_actions"):
                 self.assertTrue(action.help, f"{name} {action.option_strings or action.dest}")
-                self.assertTrue(action.help != argparse.SUPPRESS or action.const or action.dest.startswith("old_"), f"{name} {action.dest}")
+                self.assertTrue(action.help != argparse.SUPPRESS or action.dest.startswith("old_"), f"{name} {action.dest}")
 
     def test_no_abbreviations(self) -> None:
         """A word that is cut off is refused, and the one that is meant is said."""
