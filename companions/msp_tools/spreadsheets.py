@@ -135,12 +135,15 @@ def date_text(value: date) -> str:
 
 
 def cell_text(value: object, zero: datetime = datetime(1899, 12, 31)) -> str:
-    """A value of Python as a list has it: numbers, dates, lengths of time and texts; nothing for None and for what is no number (NaN).
+    """A value of Python as a list has it: numbers, dates, lengths of time and texts, several of them in a list; nothing for None and for what is
+    no number (NaN).
 
     `zero` is the day 0 of a workbook: a cell that shows a clock time beyond 24 hours is a date near it there, and a length of time.
     """
     if value is None or isinstance(value, float) and math.isnan(value) or str(value) in ("NaT", "<NA>"):
         return ""
+    if isinstance(value, (list, tuple)):
+        return ("|" if any(isinstance(it, str) for it in value) else " ").join(map(cell_text, value))
     if isinstance(value, datetime) and zero <= value < zero + timedelta(days=366):
         value -= zero
     if isinstance(value, time):
