@@ -8,6 +8,7 @@ from .cells import unit_in_header
 from .classes import ClassName
 from .faults import Fault
 from .spreadsheets import Record, Table
+from .telling import line_of
 
 KEYS = {"time": "p", "release": "r", "due": "d", "weight": "w"}
 LONG = {letter: word for word, letter in KEYS.items()}
@@ -97,7 +98,7 @@ def header_at(records: list[Record], named: dict[str, str], needed: list[str]) -
 def header_of(table: Table, named: dict[str, str], needed: list[str]) -> Header:
     """The header of a list; `named` has the names of columns by their keys, as --column gives them."""
     at = header_at(table.records, named, needed)
-    record, where = table.records[at], f"{table.line} {table.records[at].line}"
+    record, where = table.records[at], line_of(table.line, table.records[at].line)
     names = [" ".join(it.split()) for it in record.fields]
     keys = {}
     for key, name in named.items():

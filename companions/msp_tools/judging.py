@@ -36,7 +36,8 @@ class AsTheyStand:
 
 @dataclass
 class Verdict:
-    """What check says: whether the schedule is feasible, what is broken first in words, its cost and whether the stated one is that."""
+    """What check says: whether the schedule is feasible, what is broken first in words, its cost in the units of the instance (None where it is not
+    feasible) and whether the stated one is that."""
     feasible: bool
     broken: str = ""
     cost: Fraction | None = None

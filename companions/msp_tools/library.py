@@ -1,14 +1,10 @@
 """The library: instances, the commands of the program as functions that answer dataclasses, schedules, and charts that a notebook shows.
 
-    from msp_tools import Instance, propose, solve
-    week = Instance.from_rows("1||Lmax", [{"job": "saw", "p": 3, "d": 8}, {"job": "glue", "p": 2, "d": 4}])
-    plan = solve(week)
-    plan.cost, plan.ends(), plan.lateness()
-
 Numbers are exact: whole numbers and `Fraction`s. Moments, times and costs are in the units of the instance, counted from its moment 0; what
-shows them to people (`chart`, `table`) uses the units and the dates of the list, where it came from one. Every function refuses by a
-`Refusal`: a `Fault` of a text (status 3), a `Misfit` of words or files (2), or a `ProgramRefusal` with the status of the program (4 a
-limit, 5 no solver, 9 out of memory); each has `status`, `note` and `place`.
+shows them to people (`chart`, `table`, `cost_in_words`) uses the units and the dates of the list, where it came from one. Every function
+refuses by a `Refusal`: a `Fault` of a text (status 3), a `Misfit` of words or files (2), or a `ProgramRefusal` with the status of the program
+(4 a limit, 5 no solver, 9 out of memory); each has `status`, `note` and `place`. A `program` that is not named is $MSP, or the one beside the
+package, in PATH or in the clone; without any a `Misfit` says where it was looked for.
 """
 from __future__ import annotations
 
@@ -32,9 +28,10 @@ from .schedules import Piece, cost_at, cost_of, ends_of
 from .settings import ListWords
 from .spreadsheets import Record, Table, table_of, table_of_rows
 from .telling import Told
+from .texts import Job
 from .units import Names, Units, UnitWords
 
-__all__ = ["Acceptance", "Certificate", "Fault", "Frame", "Instance", "Label", "ListWords", "Misfit", "Piece", "Program", "ProgramRefusal",
+__all__ = ["Acceptance", "Certificate", "Fault", "Frame", "Instance", "Job", "Label", "ListWords", "Misfit", "Piece", "Program", "ProgramRefusal",
            "Proposal", "Refusal", "Schedule", "Trial", "Verdict", "Why", "accept", "certify", "check", "label", "labels", "need_program", "propose",
            "solve", "trial", "why"]
 Row = Mapping[str, object]
@@ -51,7 +48,9 @@ class Frame(Protocol):
 
 @dataclass
 class Instance(texts.Instance):
-    """An instance of a class. One that was read from a list has its `units` and what was remarked on the list (`remarks`)."""
+    """An instance of a class: `kind` (its name by str()), the number of `machines`, their `speeds` on Q kinds, the `time` that all jobs share (or
+    None), the `jobs`, and `arcs`, pairs of names of which the first comes before the second. One that was read from a list has its `units` and
+    what was remarked on the list (`remarks`)."""
     units: Units | None = field(default=None, compare=False, repr=False)
     remarks: list[str] = field(default_factory=list, compare=False, repr=False)
 
@@ -67,12 +66,13 @@ class Instance(texts.Instance):
 
     @classmethod
     def from_file(cls, path: str) -> Instance:
-        """Reads the instance text of a file."""
+        """Reads the instance text of a file. A Fault has its path and the line, a Misfit says that it cannot be read."""
         return cls.from_read(texts.read_instance_at(path))
 
     @classmethod
     def from_table(cls, kind: str, table: Table, words: ListWords | None = None) -> Instance:
-        """The instance of a list, by the name of its class and the words of from-csv. A Fault tells all faults of the list, each at its line."""
+        """The instance of a list, by the name of its class and the words of from-csv: times and dates count in the words' `time_unit`, times their
+        `scale`. A Fault tells all faults of the list, each at its line; a Misfit says which words do not fit the class."""
         told = Told()
         made = lists.instance_of(table, kind, words or ListWords(), told)
         found = cls.from_text(made.text)
@@ -83,12 +83,13 @@ class Instance(texts.Instance):
 
     @classmethod
     def from_spreadsheet(cls, kind: str, path: str, words: ListWords | None = None, encoding: str = "utf-8", sheet: str | None = None) -> Instance:
-        """Reads a list as spreadsheets save it: CSV in an encoding, or a workbook .xlsx with one sheet or a named one."""
+        """Reads a list as spreadsheets save it: CSV in an encoding, or a workbook .xlsx (by openpyxl), its first sheet or a named one."""
         return cls.from_table(kind, table_of(read_bytes(path), encoding, sheet), words)
 
     @classmethod
     def from_rows(cls, kind: str, rows: Iterable[Row], words: ListWords | None = None) -> Instance:
-        """Makes the instance of rows, each a mapping from names of columns (job, p, r, d, w, after ..) to values. A Fault counts them from 1."""
+        """Makes the instance of rows, each a mapping from names of columns (job, p, r, d, w, after ..) to values: texts, numbers, dates, lengths of
+        time (timedelta), and lists, as those of a route or of the jobs in `after`. A Fault counts rows from 1."""
         those = list(rows)
         columns = list(dict.fromkeys(str(name) for row in those for name in row))
         table = table_of_rows([columns, *([row.get(name) for name in columns] for row in those)])
@@ -114,7 +115,8 @@ def as_ours(instance: texts.Instance) -> Instance:
 
 @dataclass
 class Schedule:
-    """A schedule of an instance: its stated cost and its pieces; of a solved one also the solver, and the chain of rows to its class."""
+    """A schedule of an instance: its stated cost and its pieces, in the units of the instance; of a solved one also the solver, and the chain to
+    its class, pairs of a row's number and the class to which it leads. Whether it is feasible is for `check` to say."""
     instance: Instance = field(repr=False)
     cost: Fraction
     pieces: list[Piece]
@@ -123,7 +125,7 @@ class Schedule:
 
     @classmethod
     def from_text(cls, instance: Instance, text: str) -> Schedule:
-        """Reads a schedule text, or a report of `solve`."""
+        """Reads a schedule text, or a report of `solve`. A Fault names the line."""
         found = schedules.read_schedule(text)
         return cls(instance, found.cost, found.pieces, found.solver, found.chain)
 
@@ -138,7 +140,7 @@ class Schedule:
         return cls(instance, cost_of(instance, ends), list(pieces))
 
     def text(self) -> str:
-        """The schedule text, in the least unit."""
+        """The schedule text: moments in the greatest parts of a unit in which all are whole."""
         return schedules.text_of(self.pieces, self.cost)
 
     def ends(self) -> dict[str, Fraction]:
@@ -171,7 +173,7 @@ class Schedule:
         return self.units().cost_in_words(self.cost, self.instance.kind.criterion)
 
     def chart(self, width: int = 1200, by_job: bool = False, title: str | None = None) -> str:
-        """A Gantt chart as SVG, so many pixels wide."""
+        """A Gantt chart as SVG, so many pixels wide, with a line for each machine, or for each job."""
         drawn = schedules.Schedule(self.cost, 1, self.pieces, str(self.instance.kind))
         return svg(Chart(drawn, self.instance, self.units(), Options(by_job, title)), width)
 
@@ -184,7 +186,7 @@ class Schedule:
 
 @dataclass
 class Certificate:
-    """A certificate of a least cost: the class, the cost, and the text that `accept` reads behind the instance."""
+    """A certificate of a least cost: the class, the cost in the units of the instance, and the text that `accept` reads behind the instance."""
     name: str
     cost: Fraction
     text: str
@@ -192,7 +194,7 @@ class Certificate:
 
 @dataclass
 class Acceptance:
-    """What `accept` says: the kind of the certificate, the bound that it states, and whether its evidence shows it."""
+    """What `accept` says: the class, the kind of the certificate, the bound that it states, and whether its evidence shows it."""
     name: str
     kind: str
     bound: Fraction
@@ -243,8 +245,8 @@ def solve(instance: texts.Instance, program: Program | None = None) -> Schedule:
 def propose(instance: texts.Instance, tries: int | None = None, seed: int = 1, begin: Schedule | None = None,
             program: Program | None = None) -> Proposal:
     """A plan for an instance of any class that `check` judges, by rules and a local search that looks at so many schedules (without a number at
-    what takes seconds); `begin` is a plan of one's own from which it begins. ProgramRefusal: 3 where the instance has a fault, 4 a limit, 5 where
-    its class is cut and on R2 or R."""
+    what takes seconds); the same `seed` gives the same plan. `begin` is a plan of one's own from which it begins; a Fault where that is not
+    feasible. ProgramRefusal: 3 where the instance has a fault, 4 a limit, 5 where its class is cut and on R2 or R."""
     given = as_ours(instance)
     start = None if begin is None else schedules.Schedule(begin.cost, 1, begin.pieces)
     found = proposal_of(program or need_program(), given, Search(tries, seed, start))
@@ -252,21 +254,22 @@ def propose(instance: texts.Instance, tries: int | None = None, seed: int = 1, b
 
 
 def check(schedule: Schedule, program: Program | None = None) -> Verdict:
-    """Whether a schedule is feasible, what is broken first, what it costs, and whether that is the stated cost."""
+    """Whether a schedule is feasible, what is broken first, what it costs, and whether that is the stated cost. ProgramRefusal: 3 where instance or
+    schedule have a fault, 4 a limit, 5 where the class is cut and on R2 or R."""
     given = schedule.instance
     reply = (program or need_program()).report(["check"], given.text() + schedule.text())
     return verdict_of(reply.report, schedule.pieces, judging.Words(given, given.units or AsTheyStand()))
 
 
 def certify(instance: texts.Instance, program: Program | None = None) -> Certificate:
-    """The least cost of an instance with a certificate. ProgramRefusal 5 where its class has none."""
+    """The least cost of an instance with a certificate. ProgramRefusal: 3 where it has a fault, 4 a limit, 5 where its class has none."""
     report = (program or need_program()).report(["certify"], instance.text(), (0,)).report
     found = fields_in(report)
     return Certificate(found["class"], fraction(found["cost"], "cost"), report[report.index("certificate\n"):])
 
 
 def accept(instance: texts.Instance, certificate: Certificate | str, program: Program | None = None) -> Acceptance:
-    """Whether a certificate shows its bound for an instance."""
+    """Whether a certificate shows its bound for an instance. ProgramRefusal 3 where one of the two has a fault, with its line in the text of both."""
     text = certificate.text if isinstance(certificate, Certificate) else certificate
     found = fields_in((program or need_program()).report(["accept"], instance.text() + text).report)
     return Acceptance(found["class"], found["kind"], fraction(found["bound"], "bound"), found["accepted"] == "yes")
@@ -278,7 +281,8 @@ def known(results: str | None) -> str:
 
 
 def labels(names: Sequence[str] = (), results: str | None = None, program: Program | None = None) -> list[Label]:
-    """The labels of classes, or of all of them, under the known results of a file."""
+    """The labels of classes, or of all 9,720, under the known results of a file (without one those of the literature that come with the package).
+    A Misfit says what is meant by a name that is none."""
     words = ["label", *(str(class_of(it)) for it in names)]
     status, report, _ = (program or need_program()).report(words, known(results))
     return [Label(name, it, status == 1) for name, it in labels_in(report).items()]
@@ -290,12 +294,13 @@ def label(name: str, results: str | None = None, program: Program | None = None)
 
 
 def why(name: str, results: str | None = None, program: Program | None = None) -> Why:
-    """The label of a class with the chains of reductions that decide it."""
+    """The label of a class with the chains of reductions that decide it; none where it is open."""
     return read_why((program or need_program()).report(["why", str(class_of(name))], known(results)).report)
 
 
 def trial(name: str, jobs: int, seed: int, program: Program | None = None) -> Trial:
-    """Solves the instance of a class that a seed draws: from 1 to 400 jobs, seeds from 0 to 2^31 - 1."""
+    """Solves the instance of a class that a seed draws: from 1 to 400 jobs, seeds from 0 to 2^31 - 1. ProgramRefusal 5 where its class has no
+    solver."""
     found = fields_in((program or need_program()).report(["trial", str(class_of(name)), str(jobs), str(seed)], "", (0,)).report)
     counts = [int(found[it]) for it in ("jobs", "seed", "rows", "pieces")]
     return Trial(found["class"], counts[0], counts[1], found["solver"], counts[2], counts[3], fraction(found["cost"], "cost"))

@@ -19,7 +19,7 @@ from .faults import Fault
 from .rows import Row, RowReader, arcs_of, refuse_order, row_of_sums
 from .settings import ListUnits, ListWords, settled, units_of
 from .spreadsheets import Table
-from .telling import Place, Told
+from .telling import Place, Told, line_of
 
 
 @dataclass
@@ -129,7 +129,7 @@ def tell_titles(header: Header, table: Table, told: Told) -> None:
     """Says what stands above the names of the columns."""
     told.notes += table.notes
     if header.titles:
-        told.notes.append(f"{told.line} {header.line} names the columns; what stands above is taken for a title: {' / '.join(header.titles)}")
+        told.notes.append(f"{line_of(told.line, header.line)} names the columns; what stands above is taken for a title: {' / '.join(header.titles)}")
 
 
 def instance_of(table: Table, name: str, words: ListWords, told: Told) -> Made:
@@ -139,6 +139,7 @@ def instance_of(table: Table, name: str, words: ListWords, told: Told) -> Made:
         raise Fault(f"{told.line} 1: the list is empty")
     kind, needed = found.kind, needed_keys(found.kind, found.machines)
     header = header_of(table, dict(words.column), needed)
+    table = table.of_one_column() if len(header.columns) == 1 else table
     tell_titles(header, table, told)
     need_columns(header, needed, name, words, told)
     left_out(header, table, {"job", *needed, *["after"] * bool(kind.precedence)}, kind, told)

@@ -60,7 +60,7 @@ class Reason:
 
 @dataclass
 class Why:
-    """A report of `why`."""
+    """A report of `why`: a class, its label, and the chains that decide it."""
     name: str
     label: str
     reasons: list[Reason]

@@ -69,8 +69,9 @@ def by_node(path: str) -> Program:
 
 
 def beside_package() -> Iterator[Path]:
-    """Where the program may stand beside the package: in its folder, in that of the commands, or where pip puts programs."""
+    """Where the program may stand beside the package: in its folder, in that of the commands, or where pip puts programs (with --target, too)."""
     yield PACKAGE.parent / "msp"
+    yield PACKAGE.parent / "bin" / "msp"
     yield Path(sysconfig.get_path("scripts")) / "msp"
     if not hasattr(sys, "real_prefix") and sys.prefix == sys.base_prefix:
         yield Path(sysconfig.get_path("scripts", f"{os.name}_user")) / "msp"

@@ -13,7 +13,8 @@ from .texts import Instance, Job
 
 @dataclass
 class Piece:
-    """A piece of a schedule: operation and machine count from 1, the moments are exact. `line` is that of the text, or 0."""
+    """A piece of a schedule: operation and machine count from 1, the moments are exact, in the units of the instance. `line` is that of the text,
+    or 0."""
     job: str
     operation: int
     machine: int

@@ -15,13 +15,14 @@ from .faults import Fault, Misfit
 from .files import read_text
 from .naming import class_of
 from .numbers import decimal, said
-from .telling import Told
+from .telling import Told, line_of
 from .units import start_of, unit_of, words_of_call
 
 
 @dataclass
 class ListWords:
-    """The words that say how a list is read, as they are typed; `column` has pairs of a key (job, p, d ..) and the name of its column."""
+    """The words that say how a list is read, each by the option of from-csv of its name, as it is typed: time_unit="1h", start="2026-03-02 06:00".
+    `column` has pairs of a key (job, p, d ..) and the name of its column. Without `time_unit` the list counts in units of its own."""
     column: list[tuple[str, str]] = field(default_factory=list)
     machines: int | None = None
     speeds: str | None = None
@@ -148,7 +149,7 @@ class ListUnits:
 
 def refuse_units(header: Header, times: list[Column], words: ListWords, line: str) -> None:
     """Refuses columns whose units contradict the words, or are not all known."""
-    where, unit = f"{line} {header.line}", unit_of(words.time_unit) if words.time_unit is not None else None
+    where, unit = line_of(line, header.line), unit_of(words.time_unit) if words.time_unit is not None else None
     other = next((it for it in times if it.unit is not None and unit not in (None, it.unit)), None)
     if other and words.time_unit:
         raise Fault(f"{where}: the column {other.header} contradicts --time-unit {words.time_unit}: leave --time-unit out, or correct the header")

@@ -15,7 +15,7 @@ import warnings
 import zipfile
 import zlib
 from collections.abc import Iterable, Sequence
-from dataclasses import dataclass, field
+from dataclasses import dataclass, field, replace
 from datetime import date, datetime, time, timedelta
 from fractions import Fraction
 from types import ModuleType
@@ -28,6 +28,7 @@ from .numbers import said
 MARKS = ((b"\xff\xfe", "utf-16"), (b"\xfe\xff", "utf-16"), (b"\xef\xbb\xbf", "utf-8-sig"))
 SAVE = "save it as CSV (separated by semicolons or commas), or as .xlsx"
 LOOKED_AT = 20  # (lines that tell the separator)
+NOTHING = "\x1f"  # (what separates where no mark does)
 
 
 @dataclass(frozen=True)
@@ -39,11 +40,18 @@ class Record:
 
 @dataclass
 class Table:
-    """A list: its records, whether semicolons separate the fields, what its lines are called, and what is to be said of it."""
+    """A list: its records, whether semicolons separate the fields, what its lines are called, what is to be said of it, and the text that was
+    parted, with the number of its first line."""
     records: list[Record]
     semicolons: bool = False
     line: str = "line"
     notes: list[str] = field(default_factory=list)
+    text: str = field(default="", repr=False)
+    first: int = 1
+
+    def of_one_column(self) -> Table:
+        """The list with each line as one field, where it is CSV: nothing separates the fields of a single column."""
+        return replace(self, records=records_of(self.text, NOTHING, self.first), semicolons=False) if self.text else self
 
 
 def table_of(data: bytes, encoding: str = "utf-8", sheet: str | None = None) -> Table:
@@ -80,7 +88,7 @@ def text_of(data: bytes, encoding: str) -> str:
 def separator_of(text: str) -> str:
     """The separator of a list: the one that stands equally often in most of its first lines; where none does, nothing separates."""
     lines = [re.sub('"[^"]*"', "", it) for it in text.split("\n") if it.strip()][:LOOKED_AT]
-    best, most = "\x1f", (0, 0)
+    best, most = NOTHING, (0, 0)
     # (spreadsheets save tabs in UTF-16)
     for mark in "\t;,":
         often = [it.count(mark) for it in lines if mark in it]
@@ -95,14 +103,19 @@ def parted(text: str) -> Table:
     found = re.match(r'"?sep=(.)"?\n', text)
     rest, line = (text[found.end():], 2) if found else (text, 1)
     delimiter = found[1] if found else separator_of(text)
-    reader, gone, records = csv.reader(io.StringIO(rest), delimiter=delimiter, strict=True), line - 1, []
+    return Table(records_of(rest, delimiter, line), delimiter == ";", text=rest, first=line)
+
+
+def records_of(text: str, delimiter: str, first: int) -> list[Record]:
+    """The records of a text whose first line has a number, by the separator of its fields."""
+    reader, line, records = csv.reader(io.StringIO(text), delimiter=delimiter, strict=True), first, []
     try:
         for fields in reader:
             records += [Record(line, fields)] if any(it.strip() for it in fields) else []
-            line = reader.line_num + 1 + gone
+            line = reader.line_num + first
     except csv.Error as fault:
         raise Fault(f"line {line}: {fault}") from None
-    return Table(records, delimiter == ";")
+    return records
 
 
 # Rows of values
@@ -122,12 +135,15 @@ def date_text(value: date) -> str:
 
 
 def cell_text(value: object, zero: datetime = datetime(1899, 12, 31)) -> str:
-    """A value of Python as a list has it: numbers, dates, lengths of time and texts; nothing for None and for what is no number (NaN).
+    """A value of Python as a list has it: numbers, dates, lengths of time and texts, several of them in a list; nothing for None and for what is
+    no number (NaN).
 
     `zero` is the day 0 of a workbook: a cell that shows a clock time beyond 24 hours is a date near it there, and a length of time.
     """
     if value is None or isinstance(value, float) and math.isnan(value) or str(value) in ("NaT", "<NA>"):
         return ""
+    if isinstance(value, (list, tuple)):
+        return ("|" if any(isinstance(it, str) for it in value) else " ").join(map(cell_text, value))
     if isinstance(value, datetime) and zero <= value < zero + timedelta(days=366):
         value -= zero
     if isinstance(value, time):

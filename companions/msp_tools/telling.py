@@ -9,6 +9,11 @@ from .faults import Fault
 MOST_FAULTS = 40
 
 
+def line_of(line: str, number: int) -> str:
+    """A line by its number; what names the columns of rows of values is none of them, and has the number 0."""
+    return f"{line} {number}" if number else "columns"
+
+
 @dataclass(frozen=True)
 class Place:
     """A place in a list: its line, and its column as the header has it, where one is meant."""
@@ -17,7 +22,7 @@ class Place:
 
     def said(self, line: str) -> str:
         """The place in words; `line` is what lines are called, and `notes` are on the whole list."""
-        return f"{line} {self.line}" + (f", column {self.column}" if self.column else "")
+        return line_of(line, self.line) + (f", column {self.column}" if self.column else "")
 
 
 @dataclass(frozen=True)

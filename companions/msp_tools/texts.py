@@ -19,7 +19,8 @@ Step = Tuple[int, Optional[int]]  # (a machine from 1 and a time, which is None 
 
 @dataclass
 class Job:
-    """A job of an instance text; what its class does not have is None or empty."""
+    """A job of an instance text; what its class does not have is None or empty. Times and dates are whole numbers in one unit, from the moment 0:
+    `times` one for each machine (R kinds) or operation (O and F kinds), `route` and `curve` as their lines have them. `line` is that of the text."""
     name: str
     line: int = 0
     time: int | None = None

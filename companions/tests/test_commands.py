@@ -12,11 +12,12 @@ import io
 import json
 import os
 import re
+import tempfile
 import unittest
-from dataclasses import dataclass
+from dataclasses import dataclass, fields
 from fractions import Fraction
 from pathlib import Path
-from typing import Any
+from typing import Any, Iterator, get_type_hints
 
 from msp_tools.about import VERSION
 from msp_tools.commands import NAMES
@@ -42,6 +43,17 @@ def refused(parser: Parser, words: list[str]) -> str:
     return err.getvalue()
 
 
+@contextlib.contextmanager
+def working_in(folder: str) -> Iterator[None]:
+    """Makes a folder the working one for a while."""
+    before = os.getcwd()
+    os.chdir(folder)
+    try:
+        yield
+    finally:
+        os.chdir(before)
+
+
 class Help(unittest.TestCase):
     """The help of every command."""
 
@@ -56,11 +68,11 @@ class Help(unittest.TestCase):
                 self.assertIn(f"  {word}" if word != "--help" else "-h, --help", text, name)
 
     def test_every_word_has_a_help(self) -> None:
-        """No word is without one, but for those that had another name."""
+        """No word is without one, but for those that had another place."""
         for name in NAMES:
             for action in getattr(command(name).parser(), "_actions"):
                 self.assertTrue(action.help, f"{name} {action.option_strings or action.dest}")
-                self.assertTrue(action.help != argparse.SUPPRESS or action.const or action.dest.startswith("old_"), f"{name} {action.dest}")
+                self.assertTrue(action.help != argparse.SUPPRESS or action.dest.startswith("old_"), f"{name} {action.dest}")
 
     def test_no_abbreviations(self) -> None:
         """A word that is cut off is refused, and the one that is meant is said."""
@@ -111,6 +123,22 @@ class Scripts(unittest.TestCase):
                 self.assertIsNone(re.search(r"(?m)(?<![\w.])print\(|sys\.exit|sys\.stderr", path.read_text(encoding="utf-8")), path.name)
 
 
+# (what each command is asked for, in a folder with a list of two jobs, its plan and what was handed in)
+ASKED = {
+    "from-csv": ["1||Lmax", "list.csv", "--start", "2026-03-02 06:00", "--scale", "2", "--names", "list.names"],
+    "propose": ["list.txt", "--evidence", "evidence"], "plan": ["list.txt", "--names", "list.names"], "gantt": ["list.txt", "--text"],
+    "to-schedule": ["list.txt", "plan.csv", "--check"], "replan": ["list.txt", "list.txt", "--now", "1"], "grade": ["sheet.txt", "handed-in"],
+    "check-all": ["lists", "1||Lmax", "--start", "2026-03-02", "--scale", "2"], "make-instance": ["1||Lmax", "3", "1"],
+    "print-sheet": ["sheet.txt", "--solution"], "verify": ["evidence"], "board": ["list.txt", "--address"],
+    "choose": ["1||Lmax"], "cite": ["1|r|Lmax"], "reduces": ["1||Lmax", "1|r|Lmax"], "what-if": ["results.csv", "1||sumC", "easy"],
+    "atlas": ["--part", "3", "--output", "page.html"]}
+LIST = "job,p [h],d\nSäge,1.5,2026-03-02 12:00\nTür,2,2026-03-02 09:00\n"
+INSTANCE = "msp 1\nclass 1||Lmax\njob Sage p=3 d=12\njob Tur p=4 d=6\nend\n"
+SCHEDULE = "schedule\ncost -2\nunit 1\npiece Tur 1 1 0 4\npiece Sage 1 1 4 7\nend\n"
+FILES = {"list.csv": LIST, "lists/list.csv": LIST, "list.txt": INSTANCE + SCHEDULE, "sheet.txt": INSTANCE, "handed-in/kim.txt": SCHEDULE,
+         "plan.csv": "job,machine,start,end\nTur,1,0,4\nSage,1,4,7\n", "results.csv": "class,verdict,source\n1||sumwC,easy,Smith 1956\n"}
+
+
 @dataclass
 class Inner:
     """A value within another."""
@@ -124,6 +152,26 @@ class Json(unittest.TestCase):
         """Dataclasses by their fields, exact numbers and classes as texts."""
         value = {"one": [Inner(Fraction(10, 3))], 2: class_of("1||Cmax"), "none": None}
         self.assertEqual(json.loads(json.dumps(plain(value))), {"one": [{"share": "10/3"}], "2": "1||Cmax", "none": None})
+
+    def test_answers(self) -> None:
+        """Every command prints its answer as JSON, whose names are those of its dataclass."""
+        self.assertEqual(sorted(ASKED), sorted(NAMES))
+        found: dict[str, Any] = {}
+        with tempfile.TemporaryDirectory() as folder, working_in(folder):
+            for name, text in FILES.items():
+                Path(name).parent.mkdir(exist_ok=True)
+                Path(name).write_text(text, encoding="utf-8")
+            for name, words in ASKED.items():
+                out = io.StringIO()
+                with contextlib.redirect_stdout(out), contextlib.redirect_stderr(io.StringIO()):
+                    status = command(name).finish(["--json", *words])
+                self.assertLessEqual(status, 1, name)
+                found[name] = json.loads(out.getvalue())
+                answer = get_type_hints(command(name).answer)["return"]
+                self.assertEqual(list(found[name]), [it.name for it in fields(answer) if it.repr], name)
+        # (Jackson 1955: by due dates, the later one ends at 7, due at 12, the other at 4, due at 6)
+        self.assertEqual([found["plan"]["cost"], found["propose"]["proposal"]["cost"], found["to-schedule"]["cost"]], ["-2", "-2", "-2"])
+        self.assertEqual((found["from-csv"]["instance"], found["to-schedule"]["schedule"]), (INSTANCE, SCHEDULE))
 
 
 if __name__ == "__main__":

@@ -1,6 +1,7 @@
 """Tests of the library: what its functions answer, from texts, rows, lists and frames. Expected values are worked out by hand."""
 from __future__ import annotations
 
+import doctest
 import importlib
 import importlib.util
 import os
@@ -10,8 +11,10 @@ from datetime import datetime, timedelta
 from fractions import Fraction
 from pathlib import Path
 
+import msp_tools
 from msp_tools import (Fault, Instance, ListWords, Misfit, Piece, ProgramRefusal, Refusal, Schedule, accept, certify, check, label, labels, propose,
                        solve, trial, why)
+from msp_tools import library
 from msp_tools.faults import PLACE
 from msp_tools.program import find_program, need_program
 
@@ -20,6 +23,31 @@ SHARED = "msp 1\nclass P|pmtn|Cmax\nmachines 2\njob a p=3\njob b p=2\njob c p=2\
 
 
 ARRIVALS = "msp 1\nclass 1|r|Lmax\njob a p=4 r=0 d=9\njob b p=3 r=1 d=6\njob c p=2 r=3 d=7\nend\n"
+
+
+class Names(unittest.TestCase):
+    """The names of the package."""
+
+    def test_promised(self) -> None:
+        """The package has the names of the library, each with a text that says what it is, and so has each that belongs to one of them."""
+        self.assertEqual({*msp_tools.__all__, "Frame"}, set(library.__all__))
+        self.assertEqual(dir(msp_tools), sorted(msp_tools.__all__))
+        for name in msp_tools.__all__:
+            value = getattr(msp_tools, name)
+            self.assertIs(value, getattr(library, name))
+            owned = [getattr(value, it) for it in dir(value) if not it.startswith("_")] if isinstance(value, type) else []
+            for it in [value, *(it for it in owned if callable(it) or isinstance(it, property))]:
+                # (what dataclasses write of themselves begins with the name and its fields)
+                self.assertFalse((it.__doc__ or f"{name}(").startswith(f"{name}("), f"{name}: {it}")
+
+    def test_example(self) -> None:
+        """What the text of the package shows is what comes out."""
+        self.assertEqual(doctest.testmod(msp_tools), (0, 3))
+
+    def test_completion(self) -> None:
+        """A name that is none is refused as in any module."""
+        with self.assertRaisesRegex(AttributeError, "has no attribute 'solved'"):
+            getattr(msp_tools, "solved")
 
 
 class Instances(unittest.TestCase):
@@ -59,7 +87,19 @@ class Instances(unittest.TestCase):
         """A fault of rows has its row."""
         with self.assertRaises(Fault) as caught:
             Instance.from_rows("1||Lmax", [{"job": "a", "p": 1, "d": 2}, {"job": "b", "p": "two", "d": 2}])
-        self.assertTrue(caught.exception.place.startswith("row 2"), caught.exception.place)
+        self.assertEqual((caught.exception.place, caught.exception.note), ("row 2, column p", "not a number: two"))
+        with self.assertRaises(Fault) as caught:
+            Instance.from_rows("1||Lmax", [{"job": "a", "p": 1}])
+        self.assertEqual(caught.exception.place, "columns")
+
+    def test_rows_with_lists(self) -> None:
+        """Several values of a cell: the jobs that come before, by texts or numbers, and a route."""
+        rows: list[dict[str, object]] = [{"job": "Tür, groß", "p": 1}, {"job": 2, "p": 1, "after": ["Tür, groß"]},
+                                         {"job": 3, "p": 1, "after": ("Tür, groß", "2")}, {"job": 4, "p": 1, "after": [2, 3]}]
+        self.assertEqual(Instance.from_rows("1|prec|Cmax", rows).arcs,
+                         [("Tur_gross", "2"), ("Tur_gross", "3"), ("2", "3"), ("2", "4"), ("3", "4")])
+        shop = Instance.from_rows("J2||Cmax", [{"job": "a", "route": [1, 3, 2, 1.5]}], ListWords(scale=2))
+        self.assertEqual(shop.jobs[0].route, [(1, 6), (2, 3)])
 
     def test_spreadsheet(self) -> None:
         """A list as a spreadsheet saves it; what is left out is remarked."""
@@ -195,6 +235,17 @@ class Refusals(unittest.TestCase):
             solve(Instance.from_text("msp 1\nclass 1||sumC\njob a p=0\nend\n"))
         self.assertEqual((caught_again.exception.status, caught_again.exception.place), (4, "line 3"))
 
+    def test_judged(self) -> None:
+        """A class of which check judges no schedule, a class without a solver, and a certificate that is cut."""
+        cut = Instance.from_text("msp 1\nclass R2|pmtn|Cmax\njob a\ntimes 2 3\nend\n")
+        for refused in (lambda: check(Schedule(cut, Fraction(2), [Piece("a", 1, 1, Fraction(0), Fraction(2))])), lambda: trial("1||sumT", 3, 1)):
+            with self.assertRaises(ProgramRefusal) as caught:
+                refused()
+            self.assertEqual(caught.exception.status, 5)
+        with self.assertRaises(ProgramRefusal) as caught:
+            accept(Instance.from_text(SHARED), "certificate")
+        self.assertEqual((caught.exception.status, caught.exception.place), (3, "line 8"))
+
     def test_words(self) -> None:
         """A name that is none is a misfit, with the one that is meant."""
         with self.assertRaisesRegex(Misfit, "is '1||Lmax' meant".replace("|", r"\|")):
@@ -204,7 +255,7 @@ class Refusals(unittest.TestCase):
         """Where a note stands: a line, with a path in front, a column behind, or a word."""
         for text, place in (("line 3: x", "line 3"), ("a.txt: line 3: x: y", "a.txt: line 3"),
                             ("line 2, column Dauer [h]: x", "line 2, column Dauer [h]"),
-                            ("--due: x", "--due"), ("row 4: x", "row 4"), ("cannot read x: y", "")):
+                            ("--due: x", "--due"), ("row 4: x", "row 4"), ("columns: x", "columns"), ("cannot read x: y", "")):
             found = PLACE.match(text)
             self.assertEqual(found[1] if found else "", place)
 

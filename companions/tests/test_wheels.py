@@ -3,18 +3,20 @@
     /usr/bin/python3 companions/tests/test_wheels.py
 
 It needs Debian's python3-venv, python3-setuptools and python3-wheel; where they are missing, it is skipped, and so is a wheel whose program
-is not in released/, or that needs Node where there is none.
+is not in released/, or that needs Node where there is none. The program of the wheel for ARM is run by qemu-aarch64 where that is there.
 """
 from __future__ import annotations
 
 import importlib.util
 import os
 import platform
+import re
 import shutil
 import subprocess
 import sys
 import tempfile
 import unittest
+import zipfile
 from pathlib import Path
 
 COMPANIONS = Path(__file__).resolve().parent.parent
@@ -26,49 +28,75 @@ NAMES = ("atlas", "board", "check-all", "choose", "cite", "from-csv", "gantt", "
          "reduces", "replan", "to-schedule", "verify", "what-if")
 
 
-def run(words: list[str], folder: str) -> str:
+INSTALLING = ["--quiet", "--no-deps", "--no-index"]
+OPTIONS = [*INSTALLING, "--no-build-isolation", "--no-cache-dir"]
+FIND = "import sys; sys.path.insert(0, sys.argv[1]); from msp_tools.program import find_program; print(find_program())"
+# (what runs a program for ARM Linux here)
+ARM = [] if platform.machine() == "aarch64" else ["qemu-aarch64", "-L", "/usr/aarch64-linux-gnu"]
+RUNS_ARM = not ARM or bool(shutil.which(ARM[0])) and os.path.isdir(ARM[2])
+
+
+def run(words: list[str], folder: str, text: str = "") -> str:
     """What a command prints, called in a folder without MSP and with nothing of ours in PATH."""
     node = os.path.dirname(shutil.which("node") or "/usr/bin/node")
     settings = {it: value for it, value in os.environ.items() if it not in ("MSP", "PYTHONPATH")}
     settings["PATH"] = f"/usr/bin:/bin:{node}"
-    got = subprocess.run(words, cwd=folder, env=settings, capture_output=True, text=True, check=False)
+    got = subprocess.run(words, cwd=folder, env=settings, input=text, capture_output=True, text=True, check=False)
     if got.returncode != 0:
         raise AssertionError(f"{' '.join(words)}: status {got.returncode}\n{got.stdout}{got.stderr}")
     return got.stdout
+
+
+def library_needed(program: str) -> int:
+    """The C library that a program needs: the second number of the newest version that it names."""
+    return max(int(it) for it in re.findall(rb"GLIBC_2\.([0-9]+)", Path(program).read_bytes()))
 
 
 @unittest.skipUnless(THERE, "there is no venv, pip, setuptools or wheel")
 class Wheels(unittest.TestCase):
     """Each wheel, installed."""
 
+    clone: str
+    built: str
+    folder: str
+    programs: str
+
+    @classmethod
+    def setUpClass(cls) -> None:
+        """A copy of what is built from, since building writes beside the sources, and a folder for what is built."""
+        cls.clone, cls.built = tempfile.mkdtemp(), tempfile.mkdtemp()
+        for folder in (cls.clone, cls.built):
+            cls.addClassCleanup(shutil.rmtree, folder)
+        for part in ("companions", "docs", "examples", "released", "VERSION", "LICENSE"):
+            here, to = COMPANIONS.parent / part, f"{cls.clone}/{part}"
+            if here.is_dir():
+                shutil.copytree(here, to, ignore=shutil.ignore_patterns("__pycache__", ".mypy_cache", "tests", "build", "*.egg-info"))
+            else:
+                shutil.copy(here, to)
+
     def setUp(self) -> None:
-        """A folder, and a virtual environment in it."""
+        """A folder."""
         self.folder = tempfile.mkdtemp()
         self.addCleanup(shutil.rmtree, self.folder)
-        run([sys.executable, "-m", "venv", "--system-site-packages", f"{self.folder}/venv"], self.folder)
+
+    def environment(self, *words: str) -> None:
+        """Makes a virtual environment in the folder. (Without a pip of its own it takes Debian's, and is made at once.)"""
+        run([sys.executable, "-m", "venv", "--system-site-packages", *words, f"{self.folder}/venv"], self.folder)
         self.programs = f"{self.folder}/venv/bin"
 
-    def clone(self) -> str:
-        """A copy of what is built from, since building writes beside the sources."""
-        clone = Path(self.folder) / "clone"
-        parts = ("companions", "docs", "examples", "released", "VERSION", "LICENSE")
-        clone.mkdir()
-        for part in parts:
-            here = COMPANIONS.parent / part
-            if here.is_dir():
-                shutil.copytree(here, clone / part, ignore=shutil.ignore_patterns("__pycache__", ".mypy_cache", "tests", "build", "*.egg-info"))
-            else:
-                shutil.copy(here, clone / part)
-        return str(clone / "companions")
+    def wheel(self, program: str) -> str:
+        """Builds the wheel with a program inside, where that was not done before; gives its path."""
+        to = f"{self.built}/{program}"
+        if not os.path.isdir(to):
+            words = ["--config-settings", f"program={program}", "--wheel-dir", to]
+            run([sys.executable, "-m", "pip", "wheel", *OPTIONS, *words, f"{self.clone}/companions"], self.folder)
+        return str(next(Path(to).glob("*.whl")))
 
     def install(self, program: str) -> str:
-        """Builds the wheel with a program inside, and installs it; gives its name."""
-        options = ["--quiet", "--no-deps", "--no-index", "--no-build-isolation", "--no-cache-dir"]
-        settings = ["--config-settings", f"program={program}"]
-        run([f"{self.programs}/python3", "-m", "pip", "wheel", *options, *settings, "--wheel-dir", self.folder, self.clone()], self.folder)
-        shutil.rmtree(f"{self.folder}/clone")
-        wheel = next(Path(self.folder).glob("*.whl")).name
-        run([f"{self.programs}/python3", "-m", "pip", "install", "--quiet", "--no-deps", "--no-index", f"{self.folder}/{wheel}"], self.folder)
+        """Installs the wheel with a program inside in an environment; gives its path."""
+        self.environment("--without-pip")
+        wheel = self.wheel(program)
+        run([f"{self.programs}/python3", "-m", "pip", "install", *INSTALLING, wheel], self.folder)
         return wheel
 
     def solves(self) -> None:
@@ -83,6 +111,7 @@ class Wheels(unittest.TestCase):
         """One file is all."""
         self.assertTrue(self.install("x86_64").endswith("-py3-none-manylinux_2_34_x86_64.whl"))
         self.solves()
+        self.assertLessEqual(library_needed(f"{self.programs}/msp"), 34)
         version = (COMPANIONS.parent / "VERSION").read_text(encoding="utf-8").strip()
         self.assertEqual(run([f"{self.programs}/msp-cite", "--version"], self.folder), f"cite (msp) {version}\n")
         self.assertEqual(sorted(it.name for it in Path(self.programs).glob("msp-*")), sorted(f"msp-{it}" for it in NAMES))
@@ -95,18 +124,29 @@ class Wheels(unittest.TestCase):
 
     @unittest.skipUnless((RELEASED / "msp-aarch64").is_file(), "there is no released/msp-aarch64")
     def test_arm(self) -> None:
-        """The wheel for ARM Linux has its name and its program."""
-        options = ["--quiet", "--no-deps", "--no-index", "--no-build-isolation", "--no-cache-dir", "--config-settings", "program=aarch64"]
-        run([f"{self.programs}/python3", "-m", "pip", "wheel", *options, "--wheel-dir", self.folder, self.clone()], self.folder)
-        wheel = next(Path(self.folder).glob("*.whl"))
-        self.assertTrue(wheel.name.endswith("-py3-none-manylinux_2_34_aarch64.whl"))
-        self.assertIn(".data/scripts/msp", run(["unzip", "-l", str(wheel)], self.folder))
+        """The wheel for ARM Linux has its name and its program, which the package finds, also where pip put both into a folder."""
+        wheel, arm = self.wheel("aarch64"), f"{self.folder}/arm"
+        self.assertTrue(wheel.endswith("-py3-none-manylinux_2_34_aarch64.whl"))
+        only = ["--platform", "manylinux_2_34_aarch64", "--only-binary", ":all:"]
+        run([sys.executable, "-m", "pip", "install", *INSTALLING, *only, "--target", arm, wheel], self.folder)
+        self.assertEqual(run([sys.executable, "-c", FIND, arm], self.folder), f"{arm}/bin/msp\n")
+        self.assertLessEqual(library_needed(f"{arm}/bin/msp"), 34)
+
+    @unittest.skipUnless((RELEASED / "msp-aarch64").is_file() and RUNS_ARM, "there is no released/msp-aarch64, or no qemu-aarch64 with Debian's "
+                         "libc6-arm64-cross")
+    def test_arm_answers(self) -> None:
+        """The program of the wheel for ARM Linux solves, called as the library calls it."""
+        with zipfile.ZipFile(self.wheel("aarch64")) as file:
+            name = next(it for it in file.namelist() if it.endswith(".data/scripts/msp"))
+            self.assertEqual(file.getinfo(name).external_attr >> 16 & 0o777, 0o755)
+            Path(f"{self.folder}/msp").write_bytes(file.read(name))
+        os.chmod(f"{self.folder}/msp", 0o755)
+        self.assertIn("\ncost 14\n", run([*ARM, f"{self.folder}/msp", "solve"], self.folder, SMITH))
 
     def test_from_the_clone(self) -> None:
-        """pip install of the folder gives commands and library."""
-        options = ["--quiet", "--no-deps", "--no-index", "--no-build-isolation", "--no-cache-dir"]
-        run([f"{self.programs}/python3", "-m", "pip", "install", *options, self.clone()], self.folder)
-        shutil.rmtree(f"{self.folder}/clone")
+        """pip install of the folder gives commands and library, in an environment as people make it."""
+        self.environment()
+        run([f"{self.programs}/pip", "install", "--quiet", "--no-index", "--no-build-isolation", f"{self.clone}/companions"], self.folder)
         self.solves()
 
 

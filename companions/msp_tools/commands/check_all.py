@@ -11,7 +11,7 @@ from fractions import Fraction
 from typing import Callable, TypeVar
 
 from ..faults import Misfit, Refusal
-from ..files import left_out, read_bytes, write_text
+from ..files import left_out, write_text
 from ..program import Program, need_program
 from ..schedules import read_schedule
 from ..texts import read_instance
@@ -20,7 +20,7 @@ from . import from_csv, gantt, plan
 from .frame import Command, Parser, Tell, add_program
 
 SAYS = """
-Plans every list of a folder: from-csv, solve, plan and gantt, for each NAME.csv in it and in the folders in it.
+Plans every list of a folder: from-csv, solve, plan and gantt, for each NAME.csv and NAME.xlsx in it and in the folders in it.
 
 The words behind the class are those of `from-csv`, for all lists alike, as --scale 2 --time-unit 1h --start '2026-03-02 08:00'. In
 FOLDER/plans it writes of each list NAME.txt, the instance; NAME.names, names and units; NAME.report, what `solve` says; NAME.plan.csv,
@@ -96,8 +96,8 @@ class Planner:
         """The name of a list, by its path in the folder."""
         return os.path.splitext(os.path.relpath(path, self.folder))[0]
 
-    def instance(self, path: str, to: str) -> str:
-        """The instance text of a list, and tells what was remarked."""
+    def instance(self, path: str, to: str) -> from_csv.Answer:
+        """The instance of a list, and tells what was remarked."""
         notes: list[str] = []
         try:
             made = from_csv.answer(replace(self.words, file=path, names=f"{to}.names"), notes.append)
@@ -107,7 +107,7 @@ class Planner:
             raise Unplanned("\n  ".join(str(fault).split("\n"))) from None
         for note in notes:
             self.tell(f"{self.name(path)}: {note}")
-        return made.instance
+        return made
 
     def report(self, text: str) -> str:
         """The report of solve on an instance text."""
@@ -124,17 +124,16 @@ class Planner:
         for end in WRITTEN:
             if os.path.exists(f"{to}.{end}"):
                 os.remove(f"{to}.{end}")
-        text = self.instance(path, to)
-        write_text(f"{to}.txt", text)
-        report = self.report(text)
+        made = self.instance(path, to)
+        write_text(f"{to}.txt", made.instance)
+        report = self.report(made.instance)
         write_text(f"{to}.report", report)
-        german = b";" in read_bytes(path).split(b"\n")[0]
         files, names = (f"{to}.report", f"{to}.txt"), f"{to}.names"
-        _, rows = printed(plan.COMMAND, plan.Wanted(names, file=files[0], instance=files[1], csv=not german, semicolons=german))
+        _, rows = printed(plan.COMMAND, plan.Wanted(names, file=files[0], instance=files[1], csv=not made.semicolons, semicolons=made.semicolons))
         write_text(f"{to}.plan.csv", rows)
         write_text(f"{to}.svg", printed(gantt.COMMAND, gantt.Wanted(names, file=files[0], instance=files[1]))[1])
         whole, _ = printed(plan.COMMAND, plan.Wanted(names, file=files[0], instance=files[1]))
-        cost, kind = read_schedule(report).cost, read_instance(text).kind
+        cost, kind = read_schedule(report).cost, read_instance(made.instance).kind
         return Planned(name, cost, Units(UnitWords(names)).cost_in_words(cost, kind.criterion), whole.summary)
 
 
@@ -167,7 +166,7 @@ def answer(wanted: Wanted, tell: Tell) -> Answer:
     planner = Planner(wanted.folder, words, need_program(wanted.program), tell)
     lists, again = lists_in(wanted.folder, planner.name, tell)
     if not lists:
-        raise Misfit(f"there is no list NAME.csv in {wanted.folder}")
+        raise Misfit(f"there is no list NAME.csv or NAME.xlsx in {wanted.folder}")
     found = []
     for at, path in enumerate(lists, 1):
         if sys.stderr.isatty():

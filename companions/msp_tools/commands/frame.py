@@ -52,20 +52,6 @@ class Parser(argparse.ArgumentParser):
         self.parse_intermixed_args(words, namespace=cast(argparse.Namespace, wanted))
         return wanted
 
-    def renamed(self, old: str, new: str) -> None:
-        """Lets an option be called by the name that it had."""
-        action = self._option_string_actions[new]
-        settings: dict[str, Any] = {"type": action.type, "nargs": action.nargs, "const": new}
-        self.add_argument(old, action=Renamed, dest=action.dest, help=argparse.SUPPRESS, **settings)
-
-
-class Renamed(argparse.Action):
-    """An option by the name that it had: it works, and a line says the new name."""
-
-    def __call__(self, parser: argparse.ArgumentParser, namespace: argparse.Namespace, values: Any, option_string: str | None = None) -> None:
-        print(f"{parser.prog}: {option_string} is called {self.const} now", file=sys.stderr)
-        setattr(namespace, self.dest, values)
-
 
 def positive(text: str) -> int:
     """A reader of whole numbers from 1."""

@@ -3,7 +3,7 @@ from __future__ import annotations
 
 import argparse
 import sys
-from dataclasses import dataclass, fields
+from dataclasses import dataclass, field, fields
 from typing import Callable, Sequence
 
 from ..columns import key_named
@@ -61,11 +61,13 @@ class Wanted(ListWords):
 
 @dataclass
 class Answer:
-    """The instance text, the names of the list, what the file of names says, and what turns moments and costs back."""
+    """The instance text, the names of the list, what the file of names says, what turns moments and costs back, and whether semicolons separated
+    the fields of the list."""
     instance: str
     names: dict[str, str]
     words: dict[str, object]
     comments: list[str]
+    semicolons: bool = field(default=False, repr=False)
 
 
 def comments_on(made: Made, path: str | None) -> list[str]:
@@ -80,14 +82,15 @@ def comments_on(made: Made, path: str | None) -> list[str]:
 def answer(wanted: Wanted, tell: Tell) -> Answer:
     """The instance of the list."""
     told = Told(strict=wanted.strict)
+    table = table_of(read_bytes(wanted.file), wanted.encoding, wanted.sheet)
     try:
-        made = instance_of(table_of(read_bytes(wanted.file), wanted.encoding, wanted.sheet), wanted.kind, wanted, told)
+        made = instance_of(table, wanted.kind, wanted, told)
     finally:
         for line in told.heard():
             tell(line)
     if wanted.names:
         write_names(wanted.names, made.names, made.words)
-    return Answer(made.text, dict(made.names), made.words, comments_on(made, wanted.names))
+    return Answer(made.text, dict(made.names), made.words, comments_on(made, wanted.names), table.semicolons)
 
 
 def show(found: Answer) -> None:
