@@ -83,12 +83,13 @@ const NO_ITEMS = [
   [/^delay|^l(=|_?[ij]|max|$)|^l[ij]/, 'Delays are left out of the notation.'],
   [/^c(=|[ij]+$)|^com|^dup$/, 'Communication delays are left out of the notation.'],
   [/^res|^brkdwn|^breakdown|^avail|^h[ij]$|^nrwin|^maint/, 'Resources and times without machines are left out of the notation.'],
+  [/^m(=|<)/, 'A number of machines stands with their kind, as P2.'],
   [/^m[ij]$/, 'Sets of machines for each job are left out of the notation.'],
   [/^p[ij]*(\u2208|in)|^p[ij]*(<|>|=)/, 'Times are arbitrary, all 1 (p=1) or all equal (p=p); other bounds on times are left out of the notation.'],
   [/^w[ij]*(=|<|\u2208)/, 'Bounds on weights are left out of the notation; a criterion without w has none.'],
   [/^d[ij]*(=|<|\u2208)/, 'A common due date is left out of the notation.'],
   [/^(no)?idle|^agree|^recrc|^online|^rej|^learn|^deter|^split/, 'This is left out of the notation.'],
-  [/^prmu|^perm/, 'Permutation schedules are a restriction here: only on F2 without further items does nothing get worse by them.'],
+  [/^prmu|^perm/, 'Permutation schedules are a restriction here: only on F2 without release dates, precedence and pmtn does nothing get worse by them.'],
 ];
 /** @type {[RegExp, string][]} */
 const NO_ORDERS = [
@@ -98,6 +99,7 @@ const NO_ORDERS = [
 /** @type {[RegExp, string][]} */
 const NO_CRITERIA = [
   [/^tmax/, 'Tmax has no name: Lmax decides it, since Tmax is the greater of 0 and Lmax.'],
+  [/^fmax/, 'The greatest flow time is Lmax with each due date at the release date; fmax, the greatest of any costs, has a small letter.'],
   [/\^|\u00b2/, 'Powers of completion times are left out of the notation.'],
   [/^sumw?[ij]?f[ij]?$|^sumf/, 'Sums of arbitrary costs are left out of the notation; fmax is the greatest of them.'],
   [/^sum.*e[ij]?$|^sum.*e[ij]?\+|earliness|^emax/, 'Earliness is left out of the notation.'],
@@ -112,7 +114,7 @@ const NO_CRITERIA = [
  * @returns {string[]}
  */
 function nearWords(part, word) {
-  if (part === 'criterion') return /^tmax/.test(word) ? ['Lmax'] : [];
+  if (part === 'criterion') return /^[ft]max/.test(word) ? ['Lmax'] : [];
   return part === 'environment' ? ENVIRONMENTS.filter(name => name[0].toLowerCase() === word[0]) : [];
 }
 
@@ -165,10 +167,10 @@ const ITEM_WORDS = [
   [/^(non|no)(pmtn|preemptions?|preemptive)$|^uncut$/, 'cut', ['']],
   [/^chains?$/, 'order', ['chains']], [/^in(trees?|forests?)$/, 'order', ['intree']], [/^out(trees?|forests?)$/, 'order', ['outtree']],
   [/^trees?$/, 'order', ['intree', 'outtree']], [/^(prec|acyclic|precedence|precedenceconstraints)$/, 'order', ['prec']],
-  [/^(r[ij]?|r[ij](>=|\u2265|ge)0|releasedates?|releasetimes?|readytimes?|heads?)$/, 'release', ['r']],
+  [/^(r[ij]?|r[ij](>=|\u2265|geqslant|geq|ge)0|releasedates?|releasetimes?|readytimes?|heads?)$/, 'release', ['r']],
   [/^(p(ij|[ij])?=1|uet|unittimes?|unitprocessingtimes?|unitjobs?)$/, 'times', ['p=1']],
   [/^(p(ij|[ij])?=p|equaltimes|equalprocessingtimes|equaljobs)$/, 'times', ['p=p']],
-  [/^[nmo](ij|[ij])?<=2$/, 'short', ['n<=2']],
+  [/^(?:[no](?:ij|[ij])?|m(?:ij|[ij]))<=2$/, 'short', ['n<=2']],
 ];
 
 /**
@@ -200,6 +202,7 @@ const CRITERION_WORDS = {
  * @returns {string|null}
  */
 function criterionNamed(word) {
+  if (/^(min(imi[sz]e)?)?F_?max/.test(plain(word))) return null;
   const it = letters(word).replace(/^min(imi[sz]e)?(?=[a-z])/, '');
   if (CRITERION_WORDS[it]) return CRITERION_WORDS[it];
   const sum = it.replace(/^sum[ij]=1(?:\^?n)?/, 'sum').match(/^sum[ij]?(?:(w)[ij]?)?([cut])[ij]?$/);
@@ -230,13 +233,14 @@ function empty(word) { return /^(-|\.|o|\u2013|\u2014|\u2205|\\emptyset|\\circ|\
   '')); }
 
 /**
- * Whether an item asks for permutation schedules where they are no restriction: on two machines in sequence, where nothing else is asked.
+ * Whether an item asks for permutation schedules where they are no restriction: on two machines in sequence, where at most times are said.
  * @param {Reading} reading
  * @param {string} word
- * @param {number} count of items
+ * @param {string[]} words all items
  */
-function harmless(reading, word, count) {
-  return /^(prmu|perm|permu|permutation)$/.test(letters(word)) && count === 1 && (reading.wanted.environment || []).join() === 'F2';
+function harmless(reading, word, words) {
+  const restricts = (/** @type {string} */ it) => it !== word && !/^p.*=[1p]$|^(uet|unit|equal)/.test(letters(it));
+  return /^(prmu|perm|permu|permutation)$/.test(letters(word)) && !words.some(restricts) && (reading.wanted.environment || []).join() === 'F2';
 }
 
 /**
@@ -249,7 +253,7 @@ function readItems(reading, field) {
   for (const word of words) {
     const item = itemNamed(word);
     if (item) want(reading, word, item.part, item.values);
-    else if (!harmless(reading, word, words.length)) reading.unknown.push(nothing(word, 'order'));
+    else if (!harmless(reading, word, words)) reading.unknown.push(nothing(word, 'order'));
   }
 }
 

@@ -19,18 +19,26 @@ KINDS = {"one": "1", "single": "1", "identical": "P", "parallel": "P", "uniform"
          "flow-shop": "F", "job-shop": "J", "openshop": "O", "flowshop": "F", "jobshop": "J"}
 # (without blanks, hyphens and signs of LaTeX)
 CRITERIA_IN_WORDS = {
-    "makespan": "Cmax", "lateness": "Lmax", "maximumlateness": "Lmax", "maximumcost": "fmax", "greatestcost": "fmax", "hmax": "fmax",
-    "completiontimes": "sumC", "totalcompletiontime": "sumC", "flowtime": "sumC", "meanflowtime": "sumC", "weightedcompletiontimes": "sumwC",
-    "totalweightedcompletiontime": "sumwC", "weightedflowtime": "sumwC", "latejobs": "sumU", "numberoflatejobs": "sumU",
-    "weightedlatejobs": "sumwU", "weightednumberoflatejobs": "sumwU", "tardiness": "sumT", "totaltardiness": "sumT",
-    "weightedtardiness": "sumwT", "totalweightedtardiness": "sumwT"}
+    "makespan": "Cmax", "maximumcompletiontime": "Cmax", "schedulelength": "Cmax", "lateness": "Lmax", "maximumlateness": "Lmax",
+    "maxlateness": "Lmax", "maximumcost": "fmax", "greatestcost": "fmax", "hmax": "fmax", "completiontimes": "sumC",
+    "totalcompletiontime": "sumC", "sumofcompletiontimes": "sumC", "flowtime": "sumC", "meanflowtime": "sumC", "totalflowtime": "sumC",
+    "sumflowtime": "sumC", "weightedcompletiontimes": "sumwC", "totalweightedcompletiontime": "sumwC",
+    "weightedsumofcompletiontimes": "sumwC", "weightedflowtime": "sumwC", "latejobs": "sumU", "numberoflatejobs": "sumU", "tardyjobs": "sumU",
+    "numberoftardyjobs": "sumU", "weightedlatejobs": "sumwU", "weightednumberoflatejobs": "sumwU", "weightednumberoftardyjobs": "sumwU",
+    "tardiness": "sumT", "totaltardiness": "sumT", "weightedtardiness": "sumwT", "totalweightedtardiness": "sumwT"}
 ITEMS_IN_WORDS = {
-    "prmp": "pmtn", "prmt": "pmtn", "preemption": "pmtn", "chain": "chains", "in-tree": "intree", "out-tree": "outtree", "trees": "tree",
+    **dict.fromkeys(("prmp", "prmt", "preempt", "preemption", "preemptions", "preemptive", "cut"), "pmtn"),
+    "chain": "chains", "in-tree": "intree", "out-tree": "outtree", "trees": "tree",
     "inforest": "intree", "in-forest": "intree", "outforest": "outtree", "out-forest": "outtree",
-    "acyclic": "prec", "\\prec": "prec", "r_j": "r", "rj": "r", "r_i": "r", "ri": "r", "r_j>=0": "r", "heads": "r", "releasedates": "r",
-    "uet": "p=1", "equaltimes": "p=p", **{f"p{at}={time}": f"p={time}" for at in ("_j", "j", "_ij", "ij", "_i", "i") for time in "1p"},
-    **{f"{letter}{at}<=2": "n<=2" for letter in "nmo" for at in ("", "_j", "j", "_i", "i")}}
-NO_ITEM = ("", "-", "°", "o", "∘", "\\circ")
+    **dict.fromkeys(("acyclic", "\\prec", "≺", "precedence", "precedenceconstraints"), "prec"),
+    **dict.fromkeys(("r_j", "rj", "r_i", "ri", "r_j>=0", "heads", "releasedates", "releasetimes", "readytimes"), "r"),
+    **dict.fromkeys(("uet", "unittimes", "unitprocessingtimes", "unitjobs"), "p=1"),
+    **dict.fromkeys(("equaltimes", "equalprocessingtimes", "equaljobs"), "p=p"),
+    **{f"p{at}={time}": f"p={time}" for at in ("_j", "j", "_ij", "ij", "_i", "i") for time in "1p"},
+    **dict.fromkeys(("perm", "permu", "permutation"), "prmu"),
+    **{f"{letter}{at}<=2": "n<=2" for letter in "nmo" for at in ("", "_j", "j", "_i", "i") if letter + at != "m"}}
+NO_ITEM = ("", "-", "–", "—", ".", "°", "·", "•", "o", "∘", "∅", "\\circ", "\\cdot", "\\emptyset")
+UNCUT = ("uncut", *(f"{no}{at}{word}" for no in ("no", "non") for at in ("", "-") for word in ("pmtn", "preemption", "preemptive")))
 TREES = ("intree", "outtree")
 # What other notations have and this one has not, by a pattern of the whole part.
 DEADLINES = "deadlines are no item: each job meets its deadline where Lmax is at most 0"
@@ -43,7 +51,7 @@ NOT_HERE = (
     (r"s_?(i|j|k|f|g|ij|jk|ijk|fg)|st_?(si|sd).*|setup.*", "setup times are left out"),
     (r"m_?[ij]", "each machine can run each job: machines that may not are left out"),
     (r"n=.*", "a fixed number of jobs has no name (n<=2 bounds the operations of a job)"),
-    (r"m=.*", "a fixed number of machines stands in the environment, as P2"),
+    (r"m(=|<=).*", "a number of machines stands in the environment, as P2"),
     (r"prmu|perm(utation)?", "permutation schedules are all that is needed in F2 without release dates, precedence and pmtn, "
                              "and no item elsewhere"),
     (r"on-?line.*|brkdwn|rcrc|l_?[ij]?|nr-?a", "it is left out"),
@@ -53,6 +61,7 @@ ENVIRONMENTS_NOT_HERE = (
     (r"[PQROFJ]0*[01]", "one machine is 1"), (r"[0-9]+", "the number of machines stands behind their kind, as P4"))
 CRITERIA_NOT_HERE = (
     (r"T_?max", "Lmax decides it, since Tmax is the greater of 0 and Lmax"),
+    (r"F_?max", "the greatest flow time is Lmax with each due date at the release date; fmax, the greatest of any costs, has a small letter"),
     (r"sumw?f.*", "sums of any functions have no name: fmax is their greatest value"),
     (r".*\^.*", "powers are left out"), (r".*E.*", "earliness is left out: no criterion falls as jobs end later"),
     (r".*,.*", "one criterion alone has a name"))
@@ -131,7 +140,8 @@ class Meaning:
             lines = [f"name {self.name}"]
             for kind in self.with_input:
                 verdict, why = known_of_a_fixed_number(kind, labels)
-                lines += [f"is {kind.environment}{self.beyond}|{','.join(kind.items)}|{kind.criterion} {verdict}", why]
+                here = " here" if verdict == "unknown" else ""
+                lines += [f"is {kind.environment}{self.beyond}|{','.join(kind.items)}|{kind.criterion} {verdict}{here}", why]
             return lines
         lines = [f"name {self.name}", *(f"is {it} {labels[str(it)]}" for it in self.classes)]
         for wide in self.with_input:
@@ -185,7 +195,7 @@ def letters_of(part: str) -> str:
     plain = re.sub(r"\\(mathrm|mathit|mathsf|text|textrm|textit|operatorname|rm|it|sf)(?![A-Za-z])", "", part)
     plain = re.sub(r"\\max(?![A-Za-z])", "max", plain)
     plain = re.sub(r"\\(leqslant|leq|le)(?![A-Za-z])|≤", "<=", re.sub(r"\\(geqslant|geq|ge)(?![A-Za-z])|≥", ">=", plain))
-    return re.sub(r"[\s{}*]", "", plain)
+    return re.sub(r"[\s{}]", "", plain)
 
 
 def items_in(part: str) -> list[str]:
@@ -210,13 +220,17 @@ def said_of(word: str, patterns: Sequence[tuple[str, str]], known: Sequence[str]
 
 def criterion_of(text: str, part: str) -> str:
     """A criterion by its letters: subscripts and limits of sums go, words are looked up."""
-    plain = re.sub(r"\\(sum|Sigma)(?![A-Za-z])|Σ|∑", "sum", part)
-    plain = re.sub(r"(?<=sum)\s*(_\{[^{}]*\}|_\w)?\s*(\^\{[^{}]*\}|\^\w)?", "", plain, count=1) if re.match(r"\s*sum", plain, re.I) else plain
+    plain = re.sub(r"\\(sum|Sigma)(?![A-Za-z])|Σ|∑", "sum", re.sub(r"\\(no)?limits(?![A-Za-z])|\*", "", part))
+    plain = re.sub(r"^\s*\\?min(imi[sz]e)?(?![a-z])", "", plain)
+    plain = re.sub(r"\\(bar|overline)\s*\{?\s*F\s*\}?|F[\u0304\u0305]", "flowtime", plain)
+    plain = re.sub(r"(?<=sum)\s*(_\{[^{}]*\}|_\w(?=.*\w))?\s*(\^\{[^{}]*\}|\^\w)?", "", plain, count=1) if re.match(r"\s*sum", plain, re.I) else plain
     plain = letters_of(plain)
     word = re.sub(r"[-_\\]", "", plain).lower()
     if word in CRITERIA_IN_WORDS:
         return CRITERIA_IN_WORDS[word]
     plain = re.sub(r"[_\\]", "", plain)
+    if re.match("Fmax", plain):
+        raise refused(text, part, said_of(plain, CRITERIA_NOT_HERE, CRITERIA))
     short = re.sub(r"^(sum)(w?)[ji]?([CUT])[ji]?$", r"\1\2\3", plain, flags=re.I)
     found = next((it for it in CRITERIA if it.lower() == short.lower()), None)
     if found is None:
@@ -269,6 +283,16 @@ def without_prmu(text: str, environments: Sequence[str], items: Sequence[tuple[s
     return [it for it in items if it[1] != "prmu"]
 
 
+def items_of(text: str, field: str) -> list[tuple[str, str]]:
+    """The items of a field that says some, each as it stands there and by its word; one that allows no preemption says nothing beside others."""
+    parts = [it for it in items_in(field) if letters_of(it) not in NO_ITEM]
+    uncut = next((it for it in parts if letters_of(it).lower() in UNCUT), None)
+    found = [(it, item_of(text, it)) for it in parts if letters_of(it).lower() not in UNCUT]
+    if uncut and any(word == "pmtn" for _, word in found):
+        raise refused(text, uncut, "it does not go with pmtn")
+    return found
+
+
 def variants_of(text: str, said: str, environments: Sequence[str], items: Sequence[tuple[str, str]], criterion: str) -> list[Variant]:
     """The classes for which the parts of a name stand: one for each environment and each kind of tree."""
     trees: tuple[str | None, ...] = TREES if any(word == "tree" for _, word in items) else (None,)
@@ -284,9 +308,8 @@ def meaning_of(text: str) -> Meaning:
     """What a name in the spellings of docs/notation.md means, or a misfit that says which part is not understood."""
     environment, middle, last = parts_of(text)
     said, environments, beyond = environments_of(text, environment)
-    items = [(it, item_of(text, it)) for it in items_in(middle) if letters_of(it) not in NO_ITEM]
-    criterion = criterion_of(text, last)
-    variants = variants_of(text, said, environments, without_prmu(text, environments, items), criterion)
+    items = without_prmu(text, environments, items_of(text, middle))
+    variants = variants_of(text, said, environments, items, criterion_of(text, last))
     first = variants[0].kind
     words = ",".join("tree" if it in TREES and variants[0].tree else it for it in first.items)
     return Meaning(f"{first.environment if said in ENVIRONMENTS else said}|{words}|{first.criterion}", tuple(variants), beyond)
@@ -322,10 +345,16 @@ def class_of(text: str) -> ClassName:
     raise Misfit(f"{text} is no class: it stands for {' and '.join(map(str, means.classes))}")
 
 
+def beyond_names(text: str, means: Meaning) -> str:
+    """That a number of machines has no name, and which classes stand beside it."""
+    beside = (f"{replace(wide, environment=greatest_fixed(wide.kind))} has the greatest fixed number, and {wide} the number in the input"
+              for wide in means.with_input)
+    return f"{text} is no class: none has {means.beyond} machines: {'; '.join(beside)}"
+
+
 def named_by(text: str) -> Meaning:
     """What a name means that stands for classes: also refused is a fixed number of machines for which no class has a name."""
     means = meaning_of(text)
     if means.beyond is None:
         return means
-    below, wide = means.classes
-    raise Misfit(f"{text} is no class: none has {means.beyond} machines: {below} has the greatest fixed number, and {wide} the number in the input")
+    raise Misfit(beyond_names(text, means))

@@ -9,7 +9,7 @@ from dataclasses import dataclass, field
 from ..faults import Misfit
 from ..files import read_text
 from ..literature import labels_in
-from ..naming import named_by
+from ..naming import Meaning, beyond_names, known_of_a_fixed_number, meaning_of
 from ..program import Program, need_program
 from .frame import Command, Parser, Tell, add_program
 
@@ -131,6 +131,16 @@ def each_open(program: Program, text: str, hard: str) -> list[Settled]:
         return sorted((Settled(*it) for it in zip(classes, easy, tough)), key=lambda it: -it.easy - it.hard)
 
 
+def entered(program: Program, text: str, name: str) -> Meaning:
+    """The classes at which a result is entered; a misfit where none has its number of machines, with what the file says of that number."""
+    means = meaning_of(name)
+    if means.beyond is None:
+        return means
+    labels = labels_in(program.report(["label"], text).report)
+    said = (": ".join(known_of_a_fixed_number(it, labels)) for it in means.with_input)
+    raise Misfit(f"{beyond_names(name, means)}; for {means.beyond} machines the file says {'; '.join(said)}")
+
+
 def answer(wanted: Wanted, _: Tell) -> Answer:
     """What a result would change, or each open class would settle."""
     if wanted.each_open == (wanted.name is not None) or (wanted.name is not None and wanted.verdict is None):
@@ -145,7 +155,7 @@ def answer(wanted: Wanted, _: Tell) -> Answer:
     verdict = wanted.verdict or ""
     if known and verdict not in known:
         raise Misfit(f"{verdict} is no verdict of this file: it is one of {', '.join(known)}")
-    means = named_by(wanted.name)
+    means = entered(program, text, wanted.name)
     return Answer(change_of(program, text, [str(it) for it in means.classes], verdict), single=means.single)
 
 

@@ -1,9 +1,9 @@
 """Holds what cite, choose, reduces and what-if make of each name of docs/results/names.csv to what stands there.
 
-    python3 check.py NAMES LABELS
+    python3 check.py NAMES LABELS NOTATION
 
-LABELS is a report of `msp label` over all classes. The commands are called with a stand-in for the program, which notes the classes that it
-is asked of.
+LABELS is a report of `msp label` over all classes, NOTATION is docs/notation.md, whose classes on uniform machines are those at which other
+speeds are told. The commands are called with a stand-in for the program, which notes the classes that it is asked of.
 """
 from __future__ import annotations
 
@@ -17,7 +17,8 @@ from msp_tools.classes import class_named
 from msp_tools.commands import choose, cite, reduces, what_if
 from msp_tools.commands.what_if import Wanted as Further
 from msp_tools.faults import Misfit
-from msp_tools.naming import known_of_a_fixed_number
+from msp_tools.literature import lines_of
+from msp_tools.naming import known_of_a_fixed_number, meaning_of
 from msp_tools.program import Program, Reply
 
 
@@ -69,7 +70,16 @@ def wanted_of(row: dict[str, str], tool: str, greatest: dict[str, str]) -> list[
     if row[tool] == "refuses":
         return None
     names = row["class"].split(";")
-    return [greatest[names[0][0]] + names[0][1:], *names] if row["means"] == "fixed" else names
+    return [*(greatest[it[0]] + it[1:] for it in names), *names] if row["means"] == "fixed" else names
+
+
+def speeds(labels: str, classes: Sequence[str], notation: str) -> int:
+    """Prints how many classes have a word on speeds in `cite` and `choose`; gives how many faults that are beside the table of the notation."""
+    with open(notation, encoding="utf-8") as file:
+        listed = {it.replace("\\|", "|") for it in re.findall(r"(?m)^\| `(Q\S+)` \| \w+ \| \w+ \|$", file.read())}
+    said = {it for it in classes if any("any speeds" in line for line in lines_of(Noted(labels), "", meaning_of(it)))}
+    print(f"{len(said)} classes with a word on speeds, {len(said ^ listed)} others than those of the notation")
+    return len(said ^ listed)
 
 
 def main() -> int:
@@ -88,11 +98,12 @@ def main() -> int:
             if not good:
                 faults += 1
                 print(f"{tool} {row['text']}: {got}, and {wanted or 'a misfit with ' + row['part']} is wanted")
-        kind = class_named(row["class"])
-        if row["means"] == "fixed" and kind and known_of_a_fixed_number(kind, by_name)[0] != row["verdict"]:
-            faults += 1
-            print(f"{row['text']}: {known_of_a_fixed_number(kind, by_name)}, and {row['verdict']} is wanted")
+        for kind in map(class_named, row["class"].split(";") if row["means"] == "fixed" else []):
+            if kind is None or known_of_a_fixed_number(kind, by_name)[0] != row["verdict"]:
+                faults += 1
+                print(f"{row['text']}: {kind and known_of_a_fixed_number(kind, by_name)}, and {row['verdict']} is wanted")
     print(f"{len(rows)} names, {faults} false answers")
+    faults += speeds(labels, [it for it in by_name if it.startswith(("Q", "P2"))], sys.argv[3])
     return int(faults > 0)
 
 
