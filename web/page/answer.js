@@ -12,7 +12,7 @@ import { checkedText } from './plan-files.js';
  * @param {string} sheet
  */
 export function answerName(who, sheet) {
-  const words = [who, sheet].filter(it => it.trim()).map(it => plain(it).replace(/^\.+/, '')).filter(Boolean);
+  const words = [who, sheet].filter(it => it.trim()).map(it => plain(it).replace(/^[._]+/, '')).filter(Boolean);
   return `${words.join('_') || 'answer'}.txt`;
 }
 

@@ -90,9 +90,10 @@ export class DrawView {
 
   build() {
     const { activeElement } = document, focus = activeElement instanceof HTMLElement && this.body.contains(activeElement) ? activeElement.id : '';
+    const here = button(this.say('drawDo'), () => this.draw(0), { id: 'draw-do' });
+    const next = button(this.say('drawNext'), () => this.draw(1), { id: 'draw-next' });
     fill(this.body, element('p', { class: 'quiet' }, this.say('drawSays')),
-      element('div', { class: 'fields' }, this.field('jobs'), this.field('seed')), element('p', { class: 'buttons' }, button(this.say('drawDo'), () => this.draw(0), { id: 'draw-do' }),
-        button(this.say('drawNext'), () => this.draw(1), { id: 'draw-next' })));
+      element('div', { class: 'fields' }, this.field('jobs'), this.field('seed')), element('p', { class: 'buttons' }, here, next));
     const again = focus && document.getElementById(focus);
     if (again) again.focus();
   }

@@ -1,5 +1,6 @@
 // Undo and redo: by their buttons and by the keyboard. What is just being typed counts as a change.
 import { element } from '../elements.js';
+import { nameOf } from '../names.js';
 import { button } from './controls.js';
 
 /** @typedef {import('./app.js').App} App */
@@ -8,7 +9,7 @@ import { button } from './controls.js';
 
 /** What a change is of, by the word for it; the first that fits.
  * @type {[string, (problem: Problem) => unknown][]} */
-const PARTS = [['className', it => it.parts], ['jobs', it => it.rows], ['machines', it => it.machines], ['speeds', it => it.speeds],
+const PARTS = [['className', it => nameOf(it.parts)], ['jobs', it => it.rows], ['machines', it => it.machines], ['speeds', it => it.speeds],
   ['time', it => it.time], ['machineNames', it => it.machineNames], ['clock', it => [it.unit, it.start, it.shifts, it.holidays]]];
 
 /**
