@@ -13,7 +13,7 @@ import { ends } from './classes.js';
  * @param {Line[]} lines
  * @returns {Box[]}
  */
-function boxesOf(columns, lines) {
+export function boxesOf(columns, lines) {
   /** @type {Map<number, number>} */
   const places = new Map();
   return columns.flatMap((those, column) => {

@@ -101,7 +101,10 @@ export class App {
    * A change of the problem, which can be taken back.
    * @param {Partial<Problem>} change
    */
-  change(change) { this.store.change({ ...this.state, problem: { ...this.problem, ...change } }); }
+  change(change) {
+    const problem = { ...this.problem, ...change };
+    if (JSON.stringify(problem) !== JSON.stringify(this.problem)) this.store.change({ ...this.state, problem });
+  }
 
   /**
    * Another plan, which can be taken back.
@@ -197,8 +200,11 @@ export class App {
     return answer;
   }
 
-  /** Takes a best plan of the program, or says why there is none. */
-  async solve() {
+  /**
+   * Takes a best plan of the program, or says why there is none.
+   * @param {boolean} [follows] whether the plan belongs to the change before it, and is taken back with that
+   */
+  async solve(follows = false) {
     const { text } = this.built, control = new AbortController();
     if (!text || this.running) return;
     if (this.judging) this.judging.abort();
@@ -209,13 +215,22 @@ export class App {
       const { solved, note, status } = await this.ask(text, control.signal);
       this.running = null;
       this.said = solved ? '' : this.why(status, note);
-      if (solved) this.plan({ pieces: solved.pieces, from: 'best' });
+      if (solved) this.takeBest(solved.pieces, follows);
     } catch (fault) {
       if (this.running !== control) return;
       this.said = control.signal.aborted ? this.words.say('stopped') : this.words.say('failed', String(fault));
     }
     this.running = null;
     this.render();
+  }
+
+  /**
+   * @param {import('./schedule.js').Piece[]} pieces
+   * @param {boolean} follows
+   */
+  takeBest(pieces, follows) {
+    if (follows && !this.state.plan) this.store.set({ ...this.state, plan: { pieces, from: 'best' } });
+    else this.plan({ pieces, from: 'best' });
   }
 
   /**

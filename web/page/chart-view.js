@@ -29,6 +29,9 @@ export class ChartView {
     /** The pieces while one of them is taken by the keyboard; null else.
      * @type {Piece[] | null} */
     this.held = null;
+    /** The plan of which one piece is taken.
+     * @type {import('./state.js').Plan | null} */
+    this.heldOf = null;
     /** @type {Set<number>} */
     this.marked = new Set();
     /** @type {Chart | null} */
@@ -57,6 +60,7 @@ export class ChartView {
   get title() { return `${this.app.name}, ${this.app.words.say('plan')}`; }
 
   render() {
+    if (this.heldOf !== this.app.state.plan) this.held = null;
     const { pieces } = this;
     if (!pieces.length || pieces.length > MOST) {
       this.chart = null;
@@ -166,6 +170,7 @@ export class ChartView {
 
   take() {
     this.held = this.pieces.slice();
+    this.heldOf = this.app.state.plan;
     this.tell(this.app.words.say('taken', this.app.jobName(this.pieces[this.current].row)));
     this.render();
     this.focus();

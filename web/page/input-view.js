@@ -1,9 +1,13 @@
 // What brings a problem into the page, and what takes it out: examples, lists, files, links, dates.
 import { element, fill } from '../elements.js';
+import { ArcsView } from './arcs-view.js';
 import { button, choice, field, folded, give, line, part } from './controls.js';
+import { DrawView } from './draw-view.js';
+import { History } from './history.js';
 import { taken } from './list.js';
 import { piecesIn } from './schedule.js';
 import { listOf } from './spreadsheet.js';
+import { ShopView } from './shop-view.js';
 import { packed, stateIn, textOf } from './state.js';
 import { newRow, TableView } from './table-view.js';
 import { problemOf, scheduleIn } from './texts.js';
@@ -34,8 +38,9 @@ export class InputView {
    * @param {App} app
    * @param {Examples} examples
    * @param {(text: string) => void} say tells readers of screens
+   * @param {import('./shop-words.js').Shelf} shelf
    */
-  constructor(app, examples, say) {
+  constructor(app, examples, say, shelf) {
     this.app = app;
     this.examples = examples;
     this.tell = say;
@@ -43,7 +48,16 @@ export class InputView {
     this.tools = element('section', { id: 'source', 'aria-labelledby': 'source-head' });
     this.root = element('section', { id: 'jobs', 'aria-labelledby': 'jobs-head' });
     this.notes = element('div', { class: 'notes', role: 'status' });
-    this.history = element('span', { class: 'group', role: 'group' });
+    this.history = new History(app, text => {
+      this.note();
+      say(text);
+    });
+    this.draw = new DrawView(app, text => this.note(text));
+    this.arcs = new ArcsView(app, say);
+    this.shop = new ShopView(app, shelf);
+    /** The examples that were chosen, by their problems.
+     * @type {WeakMap<import('./instance.js').Problem, string>} */
+    this.chosen = new WeakMap();
     this.clock = element('div', { class: 'fields' });
     this.shown = '';
     /** What decides whether the fields of the clock are built anew. */
@@ -73,7 +87,7 @@ export class InputView {
     this.app.store.change({ ...this.app.state, problem, plan: null });
     const lines = said.map(([key, ...values]) => key === 'meaning' ? this.say(key, values[0], this.column(values[1])) : this.say(key, ...values));
     this.note(...lines);
-    if (!this.app.faults.length) this.app.solve();
+    if (!this.app.faults.length) this.app.solve(true);
   }
 
   /** @param {string} key */
@@ -97,8 +111,9 @@ export class InputView {
    * @param {string} text
    */
   take(name, text) {
-    const state = stateIn(text) || stateOfText(text);
+    const saved = stateIn(text), state = saved || stateOfText(text);
     if (state) {
+      if (!saved) state.problem.sheet = name.replace(/\.[^.]*$/, '');
       this.app.store.change(state);
       this.note(this.say('opened', name));
     } else if (listOf(text)) this.takeList(text);
@@ -148,8 +163,9 @@ export class InputView {
     const call = this.examples.calls.find(it => it.name === name), state = call && call.text ? stateOfText(this.examples.texts[call.text]) : null;
     if (!state) return;
     this.note();
+    this.chosen.set(state.problem, name);
     this.app.store.change(state);
-    this.app.solve();
+    this.app.solve(true);
   }
 
   /** The list of examples. */
@@ -173,7 +189,7 @@ export class InputView {
     const text = () => give('instance.txt', new Blob([app.built.text], { type: 'text/plain' }));
     return element('div', { class: 'buttons' }, input, element('label', { class: 'button', for: 'file' }, this.say('openFile')),
       button(this.say('saveFile'), save, { id: 'save' }), button(this.say('saveText'), text, { id: 'save-text' }),
-      button(this.say('link'), () => this.link(), { id: 'link' }), this.history);
+      button(this.say('link'), () => this.link(), { id: 'link' }), this.history.root);
   }
 
   // Dates and hours
@@ -209,10 +225,11 @@ export class InputView {
       app.change({ rows: [...app.problem.rows, row] });
       this.table.focus(row.id, 'job');
     }, { id: 'add-row' });
-    const empty = () => app.store.change({ problem: { ...app.problem, rows: [newRow([])] }, plan: null, kept: null });
+    const empty = () => app.store.change({ problem: { ...app.problem, drawn: '', sheet: '', rows: [newRow([])] }, plan: null, kept: null });
     const fresh = button(this.say('fresh'), empty, { id: 'fresh' });
-    const made = part('jobs', this.say('jobs'), this.paste(), this.notes, this.table.root, element('p', { class: 'buttons' }, add, fresh),
-      folded(this.say('clock'), element('p', { class: 'quiet' }, this.say('clockSays')), this.clock));
+    const made = part('jobs', this.say('jobs'), this.paste(), this.draw.root, this.notes, this.table.root,
+      element('p', { class: 'buttons' }, add, fresh), this.arcs.root,
+      folded(this.say('clock'), element('p', { class: 'quiet' }, this.say('clockSays')), this.clock), this.shop.root);
     fill(this.root, ...Array.from(made.childNodes));
     fill(this.tools, field(this.say('example'), this.choices()), this.buttons());
   }
@@ -220,9 +237,9 @@ export class InputView {
   render() {
     const { app } = this;
     if (this.shown !== app.words.language) this.build();
-    fill(this.history, button(this.say('undo'), () => app.store.undo(), { id: 'undo', disabled: app.store.past.length ? null : '' }),
-      button(this.say('redo'), () => app.store.redo(), { id: 'redo', disabled: app.store.future.length ? null : '' }));
-    this.table.render();
+    const example = this.tools.querySelector('#example');
+    if (example instanceof HTMLSelectElement) example.value = this.chosen.get(app.problem) || '';
+    for (const it of [this.history, this.draw, this.table, this.arcs, this.shop]) it.render();
     this.renderClock();
   }
 }

@@ -14,7 +14,8 @@ import { saysSum } from './spreadsheet.js';
  * @typedef {{id: number, name: string, cells: Object<string, string>}} Row
  */
 /**
- * A problem as it is typed. `time` is the time that all operations share, `unit` the word of a unit of time, `start` a date.
+ * A problem as it is typed. `time` is the time that all operations share, `unit` the word of a unit of time, `start` a date; `drawn` has the
+ * number of jobs and the seed from which the jobs were drawn, `sheet` the name of the file from which they came.
  * @typedef {object} Problem
  * @property {Parts} parts
  * @property {string} machines
@@ -25,6 +26,8 @@ import { saysSum } from './spreadsheet.js';
  * @property {string} start
  * @property {string} shifts
  * @property {string} holidays
+ * @property {string} drawn
+ * @property {string} sheet
  * @property {Row[]} rows
  */
 /**

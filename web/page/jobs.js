@@ -40,12 +40,18 @@ export function namesOf(rows, told) {
 }
 
 /**
+ * The places of the jobs by their names; of two with one name, that of the last.
+ * @param {Row[]} rows
+ */
+export function placesOf(rows) { return new Map(rows.map((row, at) => [calledAt(row, at), at])); }
+
+/**
  * The names in a cell of the column after, with |, commas, semicolons or blanks between them; names may hold such signs.
  * @param {string} text
- * @param {Map<string, number>} places
+ * @param {Map<string, number>} places of the jobs by their names
  * @returns {string[]}
  */
-function before(text, places) {
+export function namesBefore(text, places) {
   if (!text) return [];
   if (places.has(text)) return [text];
   const mark = ['|', ';', ','].find(it => text.includes(it));
@@ -66,13 +72,11 @@ function before(text, places) {
  * @returns {[number, number][]}
  */
 export function arcsOf(rows, told) {
-  /** @type {Map<string, number>} */
-  const places = new Map();
-  rows.forEach((row, at) => places.set(calledAt(row, at), at));
+  const places = placesOf(rows);
   /** @type {[number, number][]} */
   const arcs = [];
   rows.forEach((row, at) => {
-    const those = before((row.cells.after || '').trim(), places);
+    const those = namesBefore((row.cells.after || '').trim(), places);
     those.forEach((name, place) => {
       const found = places.get(name);
       if (found === undefined) told.fault(row.id, 'after', 'noJob', name);

@@ -163,5 +163,5 @@ export function taken(list, problem, german) {
   if (nameOf(parts) !== nameOf(problem.parts)) said.push(['classTaken', nameOf(parts)]);
   const machines = String(count > 1 ? count : fixedMachines(parts) || problem.machines || 2);
   const machineNames = list.machines.length ? list.machines : problem.machineNames;
-  return { problem: { ...problem, parts, unit, start, machines, machineNames, rows: rowsOf(list, keys, unit) }, said };
+  return { problem: { ...problem, parts, unit, start, machines, machineNames, drawn: '', sheet: '', rows: rowsOf(list, keys, unit) }, said };
 }

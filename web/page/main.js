@@ -13,6 +13,7 @@ import { InputView, stateOfText } from './input-view.js';
 import { LearnView } from './learn-view.js';
 import { PlanView } from './plan-view.js';
 import { ProblemView } from './problem-view.js';
+import { Shelf } from './shop-words.js';
 import { stateIn, unpacked } from './state.js';
 import { StepsView } from './steps-view.js';
 import { WhyView } from './why-view.js';
@@ -32,8 +33,9 @@ function say(text) { said.textContent = text; }
 
 const first = stateOfText(examples.texts['late-orders.txt']);
 if (!first) throw new Error('there is no first example');
-const app = new App(first, new Words(table, firstLanguage()));
-const input = new InputView(app, examples, say), problem = new ProblemView(app), plan = new PlanView(app, say);
+const shelf = new Shelf(() => globalThis.localStorage), { shop } = shelf.kept;
+const app = new App({ ...first, problem: { ...first.problem, ...shop } }, new Words(table, firstLanguage()));
+const input = new InputView(app, examples, say, shelf), problem = new ProblemView(app), plan = new PlanView(app, say);
 const why = new WhyView(app, rows => {
   plan.chart.marked = rows;
   plan.chart.render();
@@ -43,7 +45,7 @@ const learn = new LearnView(byId('part-learn', HTMLElement), () => app.words, sa
   const state = stateOfText(text);
   if (state) app.store.change(state);
   location.hash = '#plan';
-  app.solve();
+  app.solve(true);
 });
 /** @type {Shown | null} */
 let shown = null;
@@ -153,7 +155,7 @@ async function route() {
   const state = await stateOfLink();
   if (state) {
     app.store.change(state);
-    if (!state.plan) app.solve();
+    if (!state.plan) app.solve(true);
   }
   frame();
   if (partHere() === 'classes') classes();
@@ -168,9 +170,8 @@ function listen() {
     if (!(event.ctrlKey || event.metaKey) || partHere() !== 'plan') return;
     const key = event.key.toLowerCase();
     if (key === 'enter') app.solve();
-    else if (key === 'z' && !(event.target instanceof HTMLTextAreaElement)) event.shiftKey ? app.store.redo() : app.store.undo();
-    else if (key === 'y') app.store.redo();
-    else return;
+    else if (event.target instanceof HTMLTextAreaElement || !['z', 'y'].includes(key)) return;
+    else input.history.go(key === 'y' || event.shiftKey ? 'redo' : 'undo');
     event.preventDefault();
   });
   window.addEventListener('dragover', event => event.preventDefault());
@@ -188,12 +189,13 @@ async function begin() {
   for (const view of [problem, input, plan, why, steps]) app.show(() => view.render());
   listen();
   app.render();
+  if (shop) input.note(app.words.say('shopBegins', input.shop.said(shop)));
   await route();
   prepare().catch(fault => {
     app.said = app.words.say('failed', fault instanceof Error ? fault.message : String(fault));
     app.render();
   });
-  if (!app.state.plan && !app.running) app.solve();
+  if (!app.state.plan && !app.running) app.solve(true);
   unpackAtlas().catch(fault => say(app.words.say('failed', String(fault))));
 }
 

@@ -1,5 +1,6 @@
 // The plan: its verdict, its chart, its lists, its files.
 import { element, fill } from '../elements.js';
+import { AnswerView } from './answer.js';
 import { ChartView } from './chart-view.js';
 import { button, part } from './controls.js';
 import { early } from './own.js';
@@ -22,6 +23,7 @@ export class PlanView {
     this.app = app;
     this.chart = new ChartView(app, say);
     this.searching = new Searching(app);
+    this.answer = new AnswerView(app);
     this.root = element('section', { id: 'the-plan', 'aria-labelledby': 'the-plan-head' });
     this.verdict = element('div', { class: 'verdict', role: 'status', 'aria-live': 'polite' });
     this.bars = element('div', { class: 'buttons' });
@@ -86,7 +88,8 @@ export class PlanView {
     fill(this.verdict, ...verdictNodes(app, this.searching, true));
     this.chart.render();
     const open = Array.from(this.below.querySelectorAll('details'), it => it.open);
-    fill(this.below, ...(app.state.plan && app.built.text ? [...lists(app), files(app, this.chart)] : []));
+    this.answer.render();
+    fill(this.below, ...(app.state.plan && app.built.text ? [...lists(app), files(app, this.chart), this.answer.root] : []));
     this.below.querySelectorAll('details').forEach((it, at) => { it.open = open[at] || false; });
     const again = focus && document.getElementById(/^(best|stop)$/.test(focus) ? app.running || this.searching.running ? 'stop' : 'best' : focus);
     if (again) again.focus();

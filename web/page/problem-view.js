@@ -17,8 +17,9 @@ export class ProblemView {
   constructor(app) {
     this.app = app;
     this.root = element('section', { id: 'problem', 'aria-labelledby': 'problem-head' });
-    /** What stands in the field of the class where it was not understood. */
+    /** What stands in the field of the class where it was not understood, and the class that stood there. */
     this.typed = '';
+    this.typedOver = app.problem.parts;
     /** What decides whether this part is built anew. */
     this.shape = '';
   }
@@ -42,6 +43,7 @@ export class ProblemView {
   read(text) {
     const rank = asked(read(text));
     this.typed = rank < 0 ? text : '';
+    this.typedOver = this.app.problem.parts;
     if (rank < 0 || NAMES[rank] === this.app.name) this.render();
     else this.take(rank);
   }
@@ -103,6 +105,7 @@ export class ProblemView {
   }
 
   render() {
+    if (this.typedOver !== this.app.problem.parts) this.typed = '';
     const { app } = this, faults = app.faults.filter(it => it.row === 0);
     const shape = JSON.stringify([app.words.language, { ...app.problem, rows: [] }, app.label, this.typed, faults]);
     if (shape === this.shape) return;

@@ -22,6 +22,9 @@ export class Searching {
     /** @type {Worker | null} */
     this.worker = null;
     this.tried = 0;
+    /** The last plan of the search.
+     * @type {import('./state.js').Plan | null} */
+    this.plan = null;
     /** The instance that is searched. */
     this.text = '';
     /** @type {Bound | null} */
@@ -55,16 +58,15 @@ export class Searching {
     }
     this.text = app.built.text;
     this.worker = new Worker(URL.createObjectURL(new Blob([source.textContent || ''], { type: 'text/javascript' })));
-    let first = true;
+    this.plan = null;
     this.worker.addEventListener('message', ({ data }) => {
       if (app.built.text !== this.text) {
         this.stop();
         return;
       }
       this.tried = data.tried;
-      if (data.best) this.take(data.best.placed, timed.parts, first);
+      if (data.best) this.take(data.best.placed, timed.parts);
       else this.tell();
-      first = first && !data.best;
     });
     this.worker.addEventListener('error', () => this.stop());
     this.worker.postMessage({ timed, seed: SEED });
@@ -72,18 +74,18 @@ export class Searching {
   }
 
   /**
-   * Takes a plan; the first one can be taken back.
+   * Takes a plan in the place of the one before it; what stood there when the search began, and what was changed by hand since, can be taken back.
    * @param {Placed[]} placed
    * @param {number} parts
-   * @param {boolean} first
    */
-  take(placed, parts, first) {
+  take(placed, parts) {
     const { app } = this, unit = app.built.scale * BigInt(parts);
     const pieces = placed.map(it => ({ row: app.built.jobs[it.job].row.id, op: it.number, machine: it.machine + 1, from: fraction(it.start, unit),
       to: fraction(it.end, unit) }));
-    const state = { ...app.state, plan: { pieces, from: /** @type {'rules'} */ ('rules') } };
-    if (first) app.store.change(state);
-    else app.store.set(state);
+    const goesOn = this.plan !== null && app.state.plan === this.plan;
+    this.plan = { pieces, from: 'rules' };
+    if (goesOn) app.store.set({ ...app.state, plan: this.plan });
+    else app.plan(this.plan);
   }
 
   stop() {

@@ -18,8 +18,8 @@ import { emptyProblem } from './texts.js';
 
 const VERSION = 'msp-page 1', LONGEST = 400, MOST_ROWS = 5000, MOST_PIECES = 20000, MOST_BYTES = 8000000;
 const FROM = /** @type {Plan['from'][]} */ (['best', 'rules', 'own']);
-const TEXTS = /** @type {(keyof Problem & ('machines' | 'speeds' | 'time' | 'unit' | 'start' | 'shifts' | 'holidays'))[]} */ (
-  ['machines', 'speeds', 'time', 'unit', 'start', 'shifts', 'holidays']);
+const TEXTS = /** @type {Exclude<keyof Problem, 'parts' | 'machineNames' | 'rows'>[]} */ (
+  ['machines', 'speeds', 'time', 'unit', 'start', 'shifts', 'holidays', 'drawn', 'sheet']);
 
 /** @param {Plan | null} plan */
 function planOut(plan) {
@@ -43,19 +43,21 @@ export function textOf({ problem, plan, kept }) {
 }
 
 /** @param {unknown} value */
-function text(value) { return typeof value === 'string' ? value.slice(0, LONGEST) : ''; }
+export function text(value) { return typeof value === 'string' ? value.slice(0, LONGEST) : ''; }
 
 /**
  * @param {unknown} value
  * @returns {Object<string, unknown>}
  */
-function record(value) { return value && typeof value === 'object' && !Array.isArray(value) ? /** @type {Object<string, unknown>} */ (value) : {}; }
+export function record(value) {
+  return value && typeof value === 'object' && !Array.isArray(value) ? /** @type {Object<string, unknown>} */ (value) : {};
+}
 
 /**
  * @param {unknown} value
  * @returns {unknown[]}
  */
-function list(value) { return Array.isArray(value) ? value : []; }
+export function list(value) { return Array.isArray(value) ? value : []; }
 
 /**
  * @param {unknown} value

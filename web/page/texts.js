@@ -13,7 +13,7 @@ import { fixedMachines } from './columns.js';
  */
 export function emptyProblem(parts) {
   return { parts, machines: String(fixedMachines(parts) || 2), speeds: '', time: '1', machineNames: [], unit: '', start: '', shifts: '', holidays: '',
-    rows: [] };
+    drawn: '', sheet: '', rows: [] };
 }
 
 /**

@@ -59,11 +59,20 @@
     const colour = it ? getComputedStyle(it).backgroundColor : 'rgb(255, 255, 255)';
     return it && /^rgba\(.*, 0\)$|transparent/.test(colour) ? ground(it.parentElement) : colour;
   };
-  /** @param {Element} it */
-  const contrast = it => {
-    const both = [light(getComputedStyle(it).color), light(ground(it))];
+  /** @param {...string} colours two of them */
+  const ratio = (...colours) => {
+    const both = colours.map(light);
     return (Math.max(...both) + 0.05) / (Math.min(...both) + 0.05);
   };
+  /** @param {Element} it */
+  const contrast = it => ratio(getComputedStyle(it).color, ground(it));
+  /**
+   * Letters of a picture that are too pale on what is behind them.
+   * @param {string} letters
+   * @param {string} behind
+   */
+  const pale = (letters, behind) => Array.from(document.querySelectorAll(letters)).filter((it, at) =>
+    ratio(getComputedStyle(it).fill, getComputedStyle(document.querySelectorAll(behind)[at]).fill) < 4.5).map(it => it.textContent);
   const poor = () => Array.from(document.querySelectorAll('body *'))
     .filter(it => Array.from(it.childNodes).some(node => node.nodeType === 3 && (node.textContent || '').trim()))
     .filter(it => it.getClientRects().length && !it.closest('svg, script, style, noscript, .hidden, .skip'))
@@ -79,5 +88,5 @@
     const area = document.querySelector('textarea');
     return area ? area.value : '';
   };
-  Object.assign(window.trial, { poor, small, whole, file });
+  Object.assign(window.trial, { poor, pale, small, whole, file });
 })();

@@ -47,7 +47,42 @@
     Object.defineProperty(event, 'clipboardData', { value: data });
     cell(page.app.problem.rows[0].id, 'job').dispatchEvent(event);
   };
-  Object.assign(window.trial, { language, takeList, cell, typeIn, typeInto, pasteIn });
+  /** @param {string} id */
+  const open = id => document.querySelectorAll(`#${id} > details`).forEach(it => it.setAttribute('open', ''));
+  Object.assign(window.trial, { language, takeList, cell, typeIn, typeInto, pasteIn, open });
+})();
+
+// Jobs and their order.
+(() => {
+  /** @type {any} */
+  const page = /** @type {any} */ (window).msp;
+  const wait = () => new Promise(done => setTimeout(done, 30));
+  /**
+   * Chooses a job of the picture, and then one that waits for it.
+   * @param {number} before
+   * @param {number} after
+   */
+  const join = (before, after) => {
+    page.input.arcs.render();
+    for (const it of [before, after]) {
+      /** @type {Element} */ (document.querySelector(`.arcs [data-place="${it}"]`)).dispatchEvent(new MouseEvent('click', { bubbles: true }));
+    }
+  };
+  /**
+   * Goes to an address of the page, and waits until it is shown.
+   * @param {string} text
+   */
+  const hash = async text => {
+    location.hash = text;
+    await wait();
+    await wait();
+  };
+  /** Waits until no call of the program goes on. */
+  const settled = async () => {
+    await wait();
+    for (let left = 200; left && page.app.running; left--) await wait();
+  };
+  Object.assign(window.trial, { join, hash, settled });
 })();
 
 // Bars and files.

@@ -31,6 +31,7 @@ declare module 'node:fs' {
   export function readFileSync(path: string | URL): Uint8Array;
   export function readFileSync(path: string | URL, encoding: 'utf8'): string;
   export function readdirSync(path: string | URL): string[];
+  export function mkdirSync(path: string | URL): void;
   export function mkdtempSync(prefix: string): string;
   export function rmSync(path: string | URL, how?: { recursive?: boolean; force?: boolean }): void;
   export function writeFileSync(path: string | URL, data: string | Uint8Array): void;
