@@ -33,11 +33,20 @@ def standard_tries(problem: Problem) -> int:
     looked_at = problem.operations()
     if not problem.shop and not problem.bound and not problem.cut:
         looked_at = 2 * problem.count // problem.machines
-    slow = 20 if problem.cut else 4 if problem.instance.kind.kind in "OJ" or problem.bound and not problem.alike else 1
+    slow = slowness(problem)
     effort = problem.count * (EFFORT_IN_SHOPS if problem.shop else EFFORT * isqrt(problem.count))
     tries = max(LEAST_EFFORT, effort) // ((looked_at + 10) * slow)
     most = max(MOST_TRIES, TRIES_FOR_A_JOB * problem.count)
     return min(max(tries, LEAST_TRIES // slow), most, TRIES_FOR_AN_OPERATION * problem.operations())
+
+
+def slowness(problem: Problem) -> int:
+    """What it takes to look at a neighbour, for each operation: in permutations 1."""
+    if problem.cut:
+        return 20
+    if problem.instance.kind.kind in "OJ":
+        return 4 if problem.greatest else 2
+    return 4 if problem.bound and not problem.alike else 1
 
 
 def starts_of(found: Sequence[Tried], state: Callable[[Tried], S], most: int = MOST_STARTS) -> List[S]:
@@ -126,7 +135,11 @@ def in_shop(problem: Problem, found: Sequence[Tried], effort: Effort, draw: Draw
         those.append(as_flow(problem, found, before, draw))
         spend(effort, before)
     space = Routes(problem, draw)
-    return space.placed(tabu(space, effort, starts_of(those, lambda it: space.state_of(it.placed))).state)
+    starts = starts_of(those, lambda it: space.state_of(it.placed))
+    if problem.greatest:
+        return space.placed(tabu(space, effort, starts).state)
+    space.back(starts[0])
+    return space.placed(search(space, effort, starts).state)
 
 
 def uncut(problem: Problem, found: Sequence[Tried], effort: Effort, draw: Draw) -> Tuple[str, List[Placed]]:
