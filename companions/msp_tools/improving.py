@@ -25,6 +25,7 @@ EFFORT_IN_SHOPS = 100_000
 EFFORT = 13_000
 # (tries: at least, at most, of many jobs for each of them, of few operations for each of them)
 LEAST_TRIES, MOST_TRIES, TRIES_FOR_A_JOB, TRIES_FOR_AN_OPERATION = 2_000, 70_000, 1_200, 2_000
+TRIES_BEFORE_TABU = 400  # (of sums in shops, for each operation)
 FINE = 2**40  # (into so many parts a cost is divided where it is no whole number)
 
 
@@ -104,17 +105,10 @@ def searched(space: Sequences, starts: List[State], effort: Effort) -> Best[Stat
 
 def branched(problem: Problem, found: Sequence[Tried], effort: Effort) -> Tuple[bool, Tried]:
     """What branching finds with half of an effort on one machine, and whether nothing costs less."""
-    before = Effort(effort.tries // 2, effort.target, effort.heard)
     tree = Branching(problem, by_begins(min(found, key=lambda it: it.cost).placed))
-    closed = tree.run(before)
-    spend(effort, before)
+    with effort.part() as before:
+        closed = tree.run(before)
     return closed, Tried(BRANCHING, "serial", tree.value, serial(problem, tree.order), tree.order)
-
-
-def spend(effort: Effort, before: Effort) -> None:
-    """Takes what half of an effort was for away from it."""
-    effort.tries = 0 if before.interrupted else effort.tries - effort.tries // 2
-    effort.interrupted = before.interrupted
 
 
 def as_flow(problem: Problem, found: Sequence[Tried], effort: Effort, draw: Draw) -> Tried:
@@ -128,18 +122,18 @@ def as_flow(problem: Problem, found: Sequence[Tried], effort: Effort, draw: Draw
 
 
 def in_shop(problem: Problem, found: Sequence[Tried], effort: Effort, draw: Draw) -> List[Placed]:
-    """Graphs of shops, and before it in flow shops one order on all machines."""
+    """Graphs of shops by tabu; before it in flow shops one order on all machines, and of sums graphs by late acceptance."""
     those = list(found)
     if problem.instance.kind.kind == "F":
-        before = Effort(effort.tries // 2, effort.target, effort.heard)
-        those.append(as_flow(problem, found, before, draw))
-        spend(effort, before)
+        with effort.part() as before:
+            those.append(as_flow(problem, found, before, draw))
     space = Routes(problem, draw)
     starts = starts_of(those, lambda it: space.state_of(it.placed))
-    if problem.greatest:
-        return space.placed(tabu(space, effort, starts).state)
-    space.back(starts[0])
-    return space.placed(search(space, effort, starts).state)
+    if not problem.greatest:
+        space.back(starts[0])
+        with effort.part(TRIES_BEFORE_TABU * problem.operations()) as before:
+            starts.insert(0, search(space, before, starts).state)
+    return space.placed(tabu(space, effort, starts).state)
 
 
 def uncut(problem: Problem, found: Sequence[Tried], effort: Effort, draw: Draw) -> Tuple[str, List[Placed]]:
