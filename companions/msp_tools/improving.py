@@ -25,6 +25,7 @@ EFFORT_IN_SHOPS = 100_000
 EFFORT = 13_000
 # (tries: at least, at most, of many jobs for each of them, of few operations for each of them)
 LEAST_TRIES, MOST_TRIES, TRIES_FOR_A_JOB, TRIES_FOR_AN_OPERATION = 2_000, 70_000, 1_200, 2_000
+TRIES_BEFORE_TABU = 400  # (of sums in shops, for each operation)
 FINE = 2**40  # (into so many parts a cost is divided where it is no whole number)
 
 
@@ -33,11 +34,20 @@ def standard_tries(problem: Problem) -> int:
     looked_at = problem.operations()
     if not problem.shop and not problem.bound and not problem.cut:
         looked_at = 2 * problem.count // problem.machines
-    slow = 20 if problem.cut else 4 if problem.instance.kind.kind in "OJ" or problem.bound and not problem.alike else 1
+    slow = slowness(problem)
     effort = problem.count * (EFFORT_IN_SHOPS if problem.shop else EFFORT * isqrt(problem.count))
     tries = max(LEAST_EFFORT, effort) // ((looked_at + 10) * slow)
     most = max(MOST_TRIES, TRIES_FOR_A_JOB * problem.count)
     return min(max(tries, LEAST_TRIES // slow), most, TRIES_FOR_AN_OPERATION * problem.operations())
+
+
+def slowness(problem: Problem) -> int:
+    """What it takes to look at a neighbour, for each operation: in permutations 1."""
+    if problem.cut:
+        return 20
+    if problem.instance.kind.kind in "OJ":
+        return 4 if problem.greatest else 2
+    return 4 if problem.bound and not problem.alike else 1
 
 
 def starts_of(found: Sequence[Tried], state: Callable[[Tried], S], most: int = MOST_STARTS) -> List[S]:
@@ -95,17 +105,10 @@ def searched(space: Sequences, starts: List[State], effort: Effort) -> Best[Stat
 
 def branched(problem: Problem, found: Sequence[Tried], effort: Effort) -> Tuple[bool, Tried]:
     """What branching finds with half of an effort on one machine, and whether nothing costs less."""
-    before = Effort(effort.tries // 2, effort.target, effort.heard)
     tree = Branching(problem, by_begins(min(found, key=lambda it: it.cost).placed))
-    closed = tree.run(before)
-    spend(effort, before)
+    with effort.part() as before:
+        closed = tree.run(before)
     return closed, Tried(BRANCHING, "serial", tree.value, serial(problem, tree.order), tree.order)
-
-
-def spend(effort: Effort, before: Effort) -> None:
-    """Takes what half of an effort was for away from it."""
-    effort.tries = 0 if before.interrupted else effort.tries - effort.tries // 2
-    effort.interrupted = before.interrupted
 
 
 def as_flow(problem: Problem, found: Sequence[Tried], effort: Effort, draw: Draw) -> Tried:
@@ -119,14 +122,18 @@ def as_flow(problem: Problem, found: Sequence[Tried], effort: Effort, draw: Draw
 
 
 def in_shop(problem: Problem, found: Sequence[Tried], effort: Effort, draw: Draw) -> List[Placed]:
-    """Graphs of shops, and before it in flow shops one order on all machines."""
+    """Graphs of shops by tabu; before it in flow shops one order on all machines, and of sums graphs by late acceptance."""
     those = list(found)
     if problem.instance.kind.kind == "F":
-        before = Effort(effort.tries // 2, effort.target, effort.heard)
-        those.append(as_flow(problem, found, before, draw))
-        spend(effort, before)
+        with effort.part() as before:
+            those.append(as_flow(problem, found, before, draw))
     space = Routes(problem, draw)
-    return space.placed(tabu(space, effort, starts_of(those, lambda it: space.state_of(it.placed))).state)
+    starts = starts_of(those, lambda it: space.state_of(it.placed))
+    if not problem.greatest:
+        space.back(starts[0])
+        with effort.part(TRIES_BEFORE_TABU * problem.operations()) as before:
+            starts.insert(0, search(space, before, starts).state)
+    return space.placed(tabu(space, effort, starts).state)
 
 
 def uncut(problem: Problem, found: Sequence[Tried], effort: Effort, draw: Draw) -> Tuple[str, List[Placed]]:

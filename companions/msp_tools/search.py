@@ -48,6 +48,15 @@ class Effort:
         except KeyboardInterrupt:
             self.tries, self.interrupted = 0, True
 
+    @contextlib.contextmanager
+    def part(self, most: int | None = None) -> Iterator[Effort]:
+        """Half of it, or at most so many tries, for what is searched before the rest."""
+        tries = self.tries // 2 if most is None else min(self.tries // 2, most)
+        before = Effort(tries, self.target, self.heard)
+        yield before
+        self.tries = 0 if before.interrupted else self.tries - tries
+        self.interrupted = before.interrupted
+
     def met(self, value: int) -> bool:
         """Whether a value is one below which nothing is."""
         return self.target is not None and value <= self.target
