@@ -7,7 +7,8 @@ PLACE = re.compile(r"((?:.*: )?(?:line|row) [0-9]+(?:, column [^:\n]*)?|columns|
 
 
 class Refusal(Exception):
-    """Something is refused. `status` is the one of docs/formats.md, `place` a line, a word or the columns (or empty), `note` says what is wrong there."""
+    """Something is refused. `status` is the one of docs/formats.md, `place` a line, a word or the columns (or empty), `note` says what is wrong
+    there."""
     status = 3
 
     def __init__(self, text: str, status: int | None = None) -> None:

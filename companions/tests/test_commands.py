@@ -99,6 +99,13 @@ class Help(unittest.TestCase):
             self.assertEqual(out.getvalue(), f"{name} (msp) {VERSION}\n")
 
 
+def sources() -> list[tuple[Path, str]]:
+    """The files of Python with their texts: the package, what builds it, the commands, and the tests and their scripts."""
+    paths = [it for pattern in ("*", "msp_tools/**/*", "build_backend/*", "tests/*") for it in COMPANIONS.glob(pattern) if it.is_file()]
+    found = [(it, it.read_text(encoding="utf-8")) for it in paths if it.suffix in (".py", "")]
+    return [(path, text) for path, text in found if path.suffix or text.startswith("#!/usr/bin/env python3")]
+
+
 class Scripts(unittest.TestCase):
     """The commands of a clone."""
 
@@ -111,10 +118,17 @@ class Scripts(unittest.TestCase):
 
     def test_short_functions(self) -> None:
         """No function has more than 40 lines."""
-        for path in [*COMPANIONS.glob("msp_tools/**/*.py"), *COMPANIONS.glob("build_backend/*.py"), *COMPANIONS.glob("tests/*.py")]:
-            for node in ast.walk(ast.parse(path.read_text(encoding="utf-8"))):
+        for path, text in sources():
+            for node in ast.walk(ast.parse(text)):
                 if isinstance(node, (ast.FunctionDef, ast.AsyncFunctionDef)):
                     self.assertLessEqual((node.end_lineno or 0) - node.lineno + 1, 40, f"{path}: {node.name}")
+
+    def test_nothing_switched_off(self) -> None:
+        """No check of types or of style is switched off anywhere."""
+        for path, text in sources():
+            self.assertIsNone(re.search(r"#\s*(type:\s*ignore|noqa|pylint:|mypy:)", text), str(path))
+        for word in ("disable", "ignore_errors", "ignore_missing_imports", "exclude"):
+            self.assertNotIn(word, (COMPANIONS / "pyproject.toml").read_text(encoding="utf-8"))
 
     def test_who_prints(self) -> None:
         """No module but the commands prints or exits."""

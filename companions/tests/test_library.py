@@ -238,10 +238,10 @@ class Refusals(unittest.TestCase):
     def test_judged(self) -> None:
         """A class of which check judges no schedule, a class without a solver, and a certificate that is cut."""
         cut = Instance.from_text("msp 1\nclass R2|pmtn|Cmax\njob a\ntimes 2 3\nend\n")
-        for refused in (lambda: check(Schedule(cut, Fraction(2), [Piece("a", 1, 1, Fraction(0), Fraction(2))])), lambda: trial("1||sumT", 3, 1)):
-            with self.assertRaises(ProgramRefusal) as caught:
-                refused()
-            self.assertEqual(caught.exception.status, 5)
+        with self.assertRaisesRegex(ProgramRefusal, r"no check for R2\|pmtn\|Cmax"):
+            check(Schedule(cut, Fraction(2), [Piece("a", 1, 1, Fraction(0), Fraction(2))]))
+        with self.assertRaisesRegex(ProgramRefusal, r"no solver for 1\|\|sumT"):
+            trial("1||sumT", 3, 1)
         with self.assertRaises(ProgramRefusal) as caught:
             accept(Instance.from_text(SHARED), "certificate")
         self.assertEqual((caught.exception.status, caught.exception.place), (3, "line 8"))
