@@ -79,8 +79,10 @@ export class ArcsView {
   /**
    * Says how it went, below the heading and to readers of screens.
    * @param {string} text
+   * @param {boolean} [refused]
    */
-  note(text) {
+  note(text, refused = false) {
+    this.said.className = refused ? 'faulty' : 'quiet';
     this.said.textContent = text;
     this.tell(text);
   }
@@ -105,7 +107,7 @@ export class ArcsView {
       this.app.change({ rows: found.rows });
     } else {
       this.note('circle' in found ? this.say('arcCircle', names[place], names[first], found.circle.map(it => names[it]).join(' \u2192 '))
-        : this.say('arcNameless', names[first]));
+        : this.say('arcNameless', names[first]), true);
       this.draw();
     }
   }
@@ -243,9 +245,13 @@ export class ArcsView {
     }
     if (!this.frame.parentElement) fill(this.root, this.frame);
     if (summary) summary.textContent = words.say('arcs');
-    const shape = JSON.stringify([words.language, this.frame.open, problem.rows, problem.parts, app.faults.filter(it => it.key === 'after')]);
-    if (shape === this.shape || !this.frame.open) return;
-    if (!this.shape.startsWith(`["${words.language}"`)) this.said.textContent = this.say('arcsSay');
+    if (!this.frame.open) return;
+    const shape = JSON.stringify([words.language, problem.rows, problem.parts, app.faults.filter(it => it.key === 'after')]);
+    if (shape === this.shape) return;
+    if (!this.shape.startsWith(`["${words.language}"`)) {
+      this.said.className = 'quiet';
+      this.said.textContent = this.say('arcsSay');
+    }
     this.shape = shape;
     this.draw();
   }

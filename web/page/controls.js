@@ -68,6 +68,17 @@ export function part(id, title, ...children) {
 export function folded(title, ...children) { return element('details', { class: 'folded' }, element('summary', {}, title), ...children); }
 
 /**
+ * Puts children in the place of others. One that is as it was stays, so that a click on it that leaves a field does not get lost.
+ * @param {HTMLElement} parent
+ * @param {...HTMLElement} children
+ */
+export function refill(parent, ...children) {
+  const before = Array.from(parent.children);
+  if (before.length !== children.length) parent.replaceChildren(...children);
+  else children.forEach((it, at) => { if (!before[at].isEqualNode(it)) before[at].replaceWith(it); });
+}
+
+/**
  * Gives a file to the person.
  * @param {string} name
  * @param {Blob} content

@@ -1,5 +1,5 @@
 // Jobs that a seed draws, for an example of the class that is chosen.
-import { element, fill } from '../elements.js';
+import { byId, element, fill } from '../elements.js';
 import { button, field, folded, line } from './controls.js';
 import { DRAWN, drawn } from './draw.js';
 import { problemOf } from './texts.js';
@@ -43,11 +43,16 @@ export class DrawView {
     this.app = app;
     this.note = note;
     this.typed = { ...FIRST };
-    this.body = element('div', {});
     this.root = element('div', { id: 'draw' });
     this.shown = '';
     /** The numbers of the last drawing that the page had. */
     this.seen = '';
+    this.root.addEventListener('keydown', event => {
+      if (event.key !== 'Enter' || !(event.target instanceof HTMLInputElement)) return;
+      event.preventDefault();
+      event.target.dispatchEvent(new Event('change'));
+      this.draw(0);
+    });
   }
 
   /** @param {string} key
@@ -56,11 +61,9 @@ export class DrawView {
 
   /** @param {Field} key */
   field(key) {
-    const { least, most } = DRAWN[key], said = most.toLocaleString(this.app.words.language), valid = numberIn(key, this.typed[key]) !== null;
-    const input = line(`draw-${key}`, this.typed[key], text => this.type(key, text), { inputmode: 'numeric', 'aria-invalid': valid ? null : 'true',
-      'aria-describedby': valid ? null : `draw-${key}-fault` });
-    const fault = valid ? [] : [element('span', { class: 'fault', id: `draw-${key}-fault` }, this.say('wholeFrom', least, said))];
-    return field(this.say(key === 'jobs' ? 'drawJobs' : 'seed'), input, ...fault);
+    const more = { inputmode: 'numeric', 'aria-describedby': `draw-${key}-fault` };
+    const input = line(`draw-${key}`, this.typed[key], text => this.type(key, text), more);
+    return field(this.say(key === 'jobs' ? 'drawJobs' : 'seed'), input, element('span', { class: 'fault', id: `draw-${key}-fault` }));
   }
 
   /**
@@ -69,7 +72,17 @@ export class DrawView {
    */
   type(key, text) {
     this.typed = { ...this.typed, [key]: text };
-    this.build();
+    this.mark();
+  }
+
+  /** Puts the numbers into their fields, and says of each where it is none. */
+  mark() {
+    for (const key of /** @type {Field[]} */ (['jobs', 'seed'])) {
+      const { least, most } = DRAWN[key], input = byId(`draw-${key}`, HTMLInputElement), valid = numberIn(key, this.typed[key]) !== null;
+      if (input.value !== this.typed[key]) input.value = this.typed[key];
+      input.setAttribute('aria-invalid', String(!valid));
+      byId(`draw-${key}-fault`, HTMLElement).textContent = valid ? '' : this.say('wholeFrom', least, most.toLocaleString(this.app.words.language));
+    }
   }
 
   /**
@@ -79,7 +92,7 @@ export class DrawView {
   draw(step) {
     const jobs = numberIn('jobs', this.typed.jobs), seed = numberIn('seed', this.typed.seed);
     if (jobs === null || seed === null) {
-      this.build();
+      byId(jobs === null ? 'draw-jobs' : 'draw-seed', HTMLElement).focus();
       return;
     }
     const next = (seed + step) % (DRAWN.seed.most + 1), { app } = this;
@@ -88,14 +101,12 @@ export class DrawView {
     app.solve(true);
   }
 
+  /** Builds what stays, in the words of the page. */
   build() {
-    const { activeElement } = document, focus = activeElement instanceof HTMLElement && this.body.contains(activeElement) ? activeElement.id : '';
     const here = button(this.say('drawDo'), () => this.draw(0), { id: 'draw-do' });
     const next = button(this.say('drawNext'), () => this.draw(1), { id: 'draw-next' });
-    fill(this.body, element('p', { class: 'quiet' }, this.say('drawSays')),
-      element('div', { class: 'fields' }, this.field('jobs'), this.field('seed')), element('p', { class: 'buttons' }, here, next));
-    const again = focus && document.getElementById(focus);
-    if (again) again.focus();
+    fill(this.root, folded(this.say('draw'), element('p', { class: 'quiet' }, this.say('drawSays')),
+      element('div', { class: 'fields' }, this.field('jobs'), this.field('seed')), element('p', { class: 'buttons' }, here, next)));
   }
 
   render() {
@@ -105,8 +116,9 @@ export class DrawView {
       this.typed = { jobs, seed: seed || FIRST.seed };
     }
     this.seen = problem.drawn;
-    if (this.shown !== words.language) fill(this.root, folded(this.say('draw'), this.body));
-    if (isNew || this.shown !== words.language) this.build();
+    if (this.shown !== words.language) this.build();
+    else if (!isNew) return;
     this.shown = words.language;
+    this.mark();
   }
 }

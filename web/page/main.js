@@ -162,6 +162,15 @@ async function route() {
   if (partHere() === 'learn') learn.show(location.hash.slice('#learn/'.length));
 }
 
+/**
+ * Whether a field is no part of the state, so that undo belongs to what is typed in it.
+ * @param {EventTarget | null} target
+ */
+function isOwn(target) {
+  return target instanceof HTMLTextAreaElement || target instanceof HTMLInputElement && target.type === 'text'
+    && target.closest('#draw, #answer, #why') !== null;
+}
+
 /** What is done by hand over the whole page. */
 function listen() {
   window.addEventListener('hashchange', route);
@@ -170,7 +179,7 @@ function listen() {
     if (!(event.ctrlKey || event.metaKey) || partHere() !== 'plan') return;
     const key = event.key.toLowerCase();
     if (key === 'enter') app.solve();
-    else if (event.target instanceof HTMLTextAreaElement || !['z', 'y'].includes(key)) return;
+    else if (!['z', 'y'].includes(key) || isOwn(event.target)) return;
     else input.history.go(key === 'y' || event.shiftKey ? 'redo' : 'undo');
     event.preventDefault();
   });

@@ -2,7 +2,7 @@
 import { element, fill } from '../elements.js';
 import { AnswerView } from './answer.js';
 import { ChartView } from './chart-view.js';
-import { button, part } from './controls.js';
+import { button, part, refill } from './controls.js';
 import { early } from './own.js';
 import { files } from './plan-files.js';
 import { lists } from './plan-lists.js';
@@ -49,14 +49,19 @@ export class PlanView {
     return button(this.say('best'), () => app.solve(), { id: 'best', class: 'main', disabled: app.built.text ? null : '' });
   }
 
+  /** Moves each piece as early as it can. */
+  early() {
+    const { plan } = this.app.state;
+    if (plan) this.app.plan({ pieces: early(plan.pieces, this.app.built), from: 'own' });
+  }
+
   buttons() {
     const { app, chart } = this, { plan } = app.state, off = plan ? null : '';
     const redraw = (/** @type {() => void} */ act) => () => { act(); this.render(); };
     const lines = (/** @type {string} */ id, /** @type {string} */ text, /** @type {boolean} */ byJob) => button(text,
       redraw(() => { chart.byJob = byJob; }), { id, 'aria-pressed': String(chart.byJob === byJob), disabled: off });
     return [this.mainButton(),
-      button(this.say('early'), () => plan && app.plan({ pieces: early(plan.pieces, app.built), from: 'own' }),
-        { id: 'early', title: this.say('earlySays'), disabled: off }),
+      button(this.say('early'), () => this.early(), { id: 'early', title: this.say('earlySays'), disabled: off }),
       element('span', { class: 'group', role: 'group' }, lines('by-machine', this.say('byMachine'), false), lines('by-job', this.say('byJob'), true)),
       element('span', { class: 'group', role: 'group' },
         button('\u2212', redraw(() => { chart.zoom = Math.max(1, chart.zoom / ZOOM); }),
@@ -84,7 +89,7 @@ export class PlanView {
   render() {
     const { app } = this, focus = this.focused();
     if (this.shown !== app.words.language) this.build();
-    fill(this.bars, ...this.buttons());
+    refill(this.bars, ...this.buttons());
     fill(this.verdict, ...verdictNodes(app, this.searching, true));
     this.chart.render();
     const open = Array.from(this.below.querySelectorAll('details'), it => it.open);

@@ -1,7 +1,7 @@
 // A shop's words in the page: what is kept can be seen, taken over and deleted, and nothing is kept that was not asked for.
 import { element, fill } from '../elements.js';
 import { button, folded } from './controls.js';
-import { hasWords, shopOf, shopText } from './shop-words.js';
+import { hasWords, shopOf } from './shop-words.js';
 
 /** @typedef {import('./app.js').App} App */
 /** @typedef {import('./shop-words.js').Shop} Shop */
@@ -16,7 +16,9 @@ export class ShopView {
     this.app = app;
     this.shelf = shelf;
     this.root = element('div', { id: 'shop' });
-    this.body = element('div', {});
+    this.state = element('div', {});
+    /** @type {HTMLButtonElement[]} */
+    this.buttons = [];
     this.answer = element('p', { class: 'quiet', role: 'status' });
     this.shown = '';
     this.shape = '';
@@ -68,39 +70,35 @@ export class ShopView {
       ...this.lines(shop).map(([key, said]) => element('tr', {}, element('th', { scope: 'row' }, key), element('td', { dir: 'auto' }, said)))));
   }
 
-  /**
-   * The buttons: what is kept, and whether the problem has the same words.
-   * @param {Shop | null} shop
-   * @param {Shop} now
-   */
-  buttons(shop, now) {
-    const same = shop !== null && shopText(shop) === shopText(now);
-    const keep = button(this.say(shop ? 'shopKeepNow' : 'shopKeep'), () => this.tell(this.shelf.keep(now), 'shopIsKept'),
-      { id: 'shop-keep', disabled: same || !hasWords(now) ? '' : null });
-    const take = button(this.say('shopTake'), () => this.tell(this.take(), 'shopTaken'), { id: 'shop-take', disabled: same ? '' : null });
-    const drop = button(this.say('shopDrop'), () => this.tell(this.shelf.drop(), 'shopDropped'), { id: 'shop-drop' });
-    return element('p', { class: 'buttons' }, keep, ...shop ? [take, drop] : []);
+  /** Keeps the words of the problem, where it has some. */
+  keep() {
+    const now = shopOf(this.app.problem);
+    if (hasWords(now)) this.tell(this.shelf.keep(now), 'shopIsKept');
+    else this.answer.textContent = this.say('shopNothing');
   }
 
+  /** Builds what stays, in the words of the page: a button that is pressed is never another one when it is let go. */
   build() {
-    const { shop, open } = this.shelf.kept, now = shopOf(this.app.problem), { activeElement } = document;
-    const focus = activeElement instanceof HTMLElement && this.body.contains(activeElement) ? activeElement.id : '';
-    const nothing = open ? hasWords(now) ? 'shopNone' : 'shopNothing' : 'shopRefused';
-    const state = shop ? this.table(shop) : element('p', { id: 'shop-none' }, this.say(nothing));
-    fill(this.body, state, this.buttons(shop, now), this.answer);
-    const again = focus && (document.getElementById(focus) || this.body.querySelector('button'));
-    if (again instanceof HTMLElement) again.focus();
+    const act = (/** @type {string} */ id, /** @type {() => void} */ done) => button('', done, { id: `shop-${id}` });
+    this.buttons = [act('keep', () => this.keep()), act('take', () => this.tell(this.take(), 'shopTaken')),
+      act('drop', () => this.tell(this.shelf.drop(), 'shopDropped'))];
+    this.answer.textContent = '';
+    fill(this.root, folded(this.say('shop'), element('p', { class: 'quiet' }, this.say('shopSays')), this.state,
+      element('p', { class: 'buttons' }, ...this.buttons), this.answer));
   }
 
   render() {
-    const { words, problem } = this.app, shape = JSON.stringify([words.language, shopOf(problem), this.shelf.kept]);
-    if (this.shown !== words.language) {
-      this.answer.textContent = '';
-      fill(this.root, folded(this.say('shop'), element('p', { class: 'quiet' }, this.say('shopSays')), this.body));
-    }
-    this.shown = words.language;
+    const { words } = this.app, { shop, open } = this.shelf.kept, shape = JSON.stringify([words.language, shop, open]);
     if (shape === this.shape) return;
     this.shape = shape;
-    this.build();
+    if (this.shown !== words.language) this.build();
+    this.shown = words.language;
+    fill(this.state, shop ? this.table(shop) : element('p', { id: 'shop-none' }, this.say(open ? 'shopNone' : 'shopRefused')));
+    const [keep, take, drop] = this.buttons, lost = document.activeElement === drop && !shop;
+    keep.textContent = this.say(shop ? 'shopKeepNow' : 'shopKeep');
+    take.textContent = this.say('shopTake');
+    drop.textContent = this.say('shopDrop');
+    take.hidden = drop.hidden = !shop;
+    if (lost) keep.focus();
   }
 }

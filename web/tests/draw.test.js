@@ -14,8 +14,8 @@ import { recordsOf } from '../page/spreadsheet.js';
 import { problemOf } from '../page/texts.js';
 import { Draw } from './drawn.js';
 
-/** How many solved classes are tried by the program. */
-const TRIED = Number(env.MSP_DRAWN || 40);
+/** How many solved classes are tried by the program, of 666. */
+const TRIED = Number(env.MSP_DRAWN || 300);
 const missing = existsSync(new URL('../../released/msp.wasm', import.meta.url)) ? false : 'there is no released/msp.wasm here';
 const noPython = spawnSync('python3', ['--version']).status === 0 ? false : 'there is no python3 here';
 const named = (/** @type {string} */ name) => partsOf(rankOf(name));

@@ -180,7 +180,9 @@
     document.head.append(it);
     return !('foreign' in globalThis);
   };
-  Object.assign(window.trial, { nameless, foreign });
+  /** Names of elements that stand twice; each chart has its own stripes. */
+  const twice = () => Array.from(document.querySelectorAll('[id]:not(pattern)'), it => it.id).filter((it, at, all) => all.indexOf(it) !== at);
+  Object.assign(window.trial, { nameless, foreign, twice });
 })();
 
 // Lessons.
