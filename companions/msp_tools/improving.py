@@ -2,8 +2,9 @@
 from __future__ import annotations
 
 from math import isqrt
-from typing import Callable, List, Sequence, TypeVar
+from typing import Callable, List, Sequence, Tuple, TypeVar
 
+from .branching import Branching
 from .cutting import cut_cost, cut_pieces
 from .lanes import Lanes, lanes_of
 from .priorities import Tried
@@ -16,6 +17,7 @@ from .tabu import tabu
 from .timing import serial
 
 S = TypeVar("S")
+SEARCH, BRANCHING = "local search", "branching"
 MOST_STARTS = 3
 # (operations that are looked at, in the standard effort: at least; for each job of a shop; elsewhere for each job, times the root of their number)
 LEAST_EFFORT = 6_000_000
@@ -31,11 +33,20 @@ def standard_tries(problem: Problem) -> int:
     looked_at = problem.operations()
     if not problem.shop and not problem.bound and not problem.cut:
         looked_at = 2 * problem.count // problem.machines
-    slow = 20 if problem.cut else 4 if problem.instance.kind.kind in "OJ" or problem.bound and not problem.alike else 1
+    slow = slowness(problem)
     effort = problem.count * (EFFORT_IN_SHOPS if problem.shop else EFFORT * isqrt(problem.count))
     tries = max(LEAST_EFFORT, effort) // ((looked_at + 10) * slow)
     most = max(MOST_TRIES, TRIES_FOR_A_JOB * problem.count)
     return min(max(tries, LEAST_TRIES // slow), most, TRIES_FOR_AN_OPERATION * problem.operations())
+
+
+def slowness(problem: Problem) -> int:
+    """What it takes to look at a neighbour, for each operation: in permutations 1."""
+    if problem.cut:
+        return 20
+    if problem.instance.kind.kind in "OJ":
+        return 4 if problem.greatest else 2
+    return 4 if problem.bound and not problem.alike else 1
 
 
 def starts_of(found: Sequence[Tried], state: Callable[[Tried], S], most: int = MOST_STARTS) -> List[S]:
@@ -91,6 +102,21 @@ def searched(space: Sequences, starts: List[State], effort: Effort) -> Best[Stat
     return search(space, effort, starts)
 
 
+def branched(problem: Problem, found: Sequence[Tried], effort: Effort) -> Tuple[bool, Tried]:
+    """What branching finds with half of an effort on one machine, and whether nothing costs less."""
+    before = Effort(effort.tries // 2, effort.target, effort.heard)
+    tree = Branching(problem, by_begins(min(found, key=lambda it: it.cost).placed))
+    closed = tree.run(before)
+    spend(effort, before)
+    return closed, Tried(BRANCHING, "serial", tree.value, serial(problem, tree.order), tree.order)
+
+
+def spend(effort: Effort, before: Effort) -> None:
+    """Takes what half of an effort was for away from it."""
+    effort.tries = 0 if before.interrupted else effort.tries - effort.tries // 2
+    effort.interrupted = before.interrupted
+
+
 def as_flow(problem: Problem, found: Sequence[Tried], effort: Effort, draw: Draw) -> Tried:
     """One order on all machines of a flow shop."""
     decode = by_permutation(problem)
@@ -107,16 +133,25 @@ def in_shop(problem: Problem, found: Sequence[Tried], effort: Effort, draw: Draw
     if problem.instance.kind.kind == "F":
         before = Effort(effort.tries // 2, effort.target, effort.heard)
         those.append(as_flow(problem, found, before, draw))
-        effort.tries = 0 if before.interrupted else effort.tries - effort.tries // 2
-        effort.interrupted = before.interrupted
+        spend(effort, before)
     space = Routes(problem, draw)
-    return space.placed(tabu(space, effort, starts_of(those, lambda it: space.state_of(it.placed))).state)
+    starts = starts_of(those, lambda it: space.state_of(it.placed))
+    if problem.greatest:
+        return space.placed(tabu(space, effort, starts).state)
+    space.back(starts[0])
+    return space.placed(search(space, effort, starts).state)
 
 
-def uncut(problem: Problem, found: Sequence[Tried], effort: Effort, draw: Draw) -> List[Placed]:
-    """The best schedule that the search finds, in a class without cuts."""
+def uncut(problem: Problem, found: Sequence[Tried], effort: Effort, draw: Draw) -> Tuple[str, List[Placed]]:
+    """The best schedule that the search finds, in a class without cuts, and how it was found."""
+    those = list(found)
+    if problem.machines == 1 and problem.criterion == "Lmax" and not problem.shop:
+        closed, one = branched(problem, found, effort)
+        if closed:
+            return BRANCHING, one.placed
+        those.append(one)
     way = in_shop if problem.shop else in_order if problem.bound else in_lanes
-    return way(problem, found, effort, draw)
+    return SEARCH, way(problem, those, effort, draw)
 
 
 def cut(problem: Problem, found: Sequence[Tried], effort: Effort, draw: Draw) -> List[Piece]:

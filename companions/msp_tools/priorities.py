@@ -14,7 +14,9 @@ from .timing import Choice, active, allowed, chosen, dispatched, listed, serial
 
 MOST_ROUNDS = 200  # (of Potts's rule)
 MOST_FOR_NEH = 120  # (jobs, where each place is costed anew)
-LOOKS_AHEAD = 2  # (of apparent tardiness cost)
+LOOKS_AHEAD = 2  # (of apparent tardiness cost, in mean times)
+LOOKS_AHEAD_IN_SHOPS = 2, 5, 15
+WAITS = 2  # (of an operation, in its times)
 
 
 class Tried(NamedTuple):
@@ -134,6 +136,22 @@ def apparent(problem: Problem) -> Choice:
     return choice
 
 
+def remaining(problem: Problem, ahead: int | None) -> Choice:
+    """In flow and job shops the most weight for the geometric mean of time and work remaining; where it looks ahead, less where there is slack beyond
+    the waits that are to come, which are in proportion to the times (Vepsalainen and Morton 1987)."""
+    rest = [rests(problem, job) for job in range(problem.count)]
+    mean = max(sum(map(problem.work, range(problem.count))) / max(problem.operations(), 1), 1)
+
+    def choice(job: int, step: Step, now: int) -> Tuple[float, ...]:
+        left, share = rest[job][step.number], 1.0
+        if ahead is not None:
+            slack = max(problem.due[job] - now - step.time - WAITS * (left - step.time), 0) / (ahead * mean)
+            share = 1 + slack + slack * slack / 2
+        return -problem.weight[job] * problem.weight[job] / (step.time * left * share * share), job
+
+    return choice
+
+
 def rests(problem: Problem, job: int) -> Dict[int, int]:
     """The work of a shop's job from each operation on."""
     found, rest = {}, 0
@@ -154,6 +172,10 @@ def choices(problem: Problem) -> Dict[str, Choice]:
     if "d" in problem.instance.kind.keys:
         found["least slack of operations"] = lambda job, step, now: (problem.due[job] - rest[job][step.number] - after[job], job)
         found["due date of operations"] = lambda job, step, now: (problem.due[job] - rest[job][step.number] + step.time, job)
+    if not problem.greatest and not problem.open:
+        found["time and work remaining"] = remaining(problem, None)
+        if "d" in problem.instance.kind.keys:
+            found.update((f"apparent tardiness cost with waits, {ahead} ahead", remaining(problem, ahead)) for ahead in LOOKS_AHEAD_IN_SHOPS)
     return found
 
 

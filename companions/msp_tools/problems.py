@@ -136,7 +136,16 @@ class Problem:
 
     def cost(self, ends: Sequence[int]) -> int:
         """The cost in parts (of counted jobs: as it is) of a schedule in which the jobs end so."""
-        return self.total(self.costs(range(self.count), ends))
+        kind = self.criterion
+        if kind == "Lmax":
+            those = [end - due for end, due in zip(ends, self.due)]
+        elif kind == "sumwC":
+            those = [weight * end for weight, end in zip(self.weight, ends)]
+        elif kind[-1] == "T":
+            those = [weight * (end - due) for weight, end, due in zip(self.weight, ends, self.due) if end > due]
+        else:
+            those = self.costs(range(self.count), ends)
+        return self.total(those)
 
     def total(self, costs: Sequence[int]) -> int:
         """The cost of a schedule whose jobs cost so much."""

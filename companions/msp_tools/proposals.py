@@ -13,7 +13,7 @@ from typing import Callable, Iterator, List, Mapping, Sequence, Tuple
 from .bounds import Bound, bounds_of
 from .cutting import cut_cost, cut_pieces
 from .faults import Fault, Misfit
-from .improving import cut, standard_tries, uncut
+from .improving import SEARCH, cut, standard_tries, uncut
 from .judging import AsTheyStand, Verdict, Words, judge
 from .priorities import Tried, tried
 from .problems import Placed, Problem, ends_of
@@ -27,7 +27,6 @@ from .texts import Instance
 from .timing import early, listed, serial
 
 Heard = Callable[[str], None]
-SEARCH = "local search"
 
 
 @dataclass
@@ -147,7 +146,8 @@ class Planner:
             self.plans.append((SEARCH, self.whole(cut(self.problem, self.tried, effort, draw))))
             self.without_cuts(tries, bound)
         else:
-            self.plans.append((SEARCH, self.whole(self.problem.pieces(uncut(self.problem, self.tried, effort, draw)))))
+            name, placed = uncut(self.problem, self.tried, effort, draw)
+            self.plans.append((name, self.whole(self.problem.pieces(placed))))
         self.interrupted = self.interrupted or effort.interrupted
 
     def without_cuts(self, tries: int, bound: Bound | None) -> None:
@@ -156,7 +156,8 @@ class Planner:
         problem = Problem(replace(self.instance, kind=kind), self.problem.free, self.problem.later)
         effort = Effort(tries, self.target(bound), self.heard)
         if not self.interrupted:
-            self.plans.append((f"{SEARCH} without cuts", problem.pieces(uncut(problem, list(tried(problem)), effort, Draw(self.wanted.seed)))))
+            name, placed = uncut(problem, list(tried(problem)), effort, Draw(self.wanted.seed))
+            self.plans.append((f"{name} without cuts", problem.pieces(placed)))
             self.interrupted = effort.interrupted
 
     def best(self) -> Tuple[str, List[Piece], Fraction]:

@@ -10,6 +10,7 @@ from typing import Dict, List, NamedTuple, Sequence, Tuple
 from .problems import Placed, Problem
 from .search import Draw
 
+MOST_DRAWN = 12  # (operations, until an arc is found)
 Arc = Tuple[int, int, bool]  # (two operations, and whether they follow each other on a machine; else in a job)
 
 
@@ -176,13 +177,30 @@ class Routes:
         self.turn_back(arc)
         return Trial(arc, low, high, stretch, found, value)
 
-    def neighbour(self) -> int | None:
-        """Turns an arc."""
-        if self.arcs is None:
-            self.arcs = self.critical()
-        if not self.arcs:
+    def drawn(self) -> Arc | None:
+        """An arc without a pause, of which the later operation begins sooner where it is turned; None where what was drawn is none."""
+        node = self.draw.below(self.count)
+        on_machine = not self.problem.open or self.draw.one() < 0.5
+        before, other = self.held.machine_before[node], self.held.job_before[node]
+        if not on_machine:
+            before, other = other, before
+        start = self.ends[node] - self.times[node]
+        if before >= self.count or self.ends[before] != start or self.ends[other] == start:
             return None
-        self.trial = self.look(self.arcs[self.draw.below(len(self.arcs))])
+        if self.heads_move and self.jobs[before] in self.problem.before[self.jobs[node]]:
+            return None
+        return before, node, on_machine
+
+    def neighbour(self) -> int | None:
+        """Turns an arc: of the sums any one, and of the greatest costs one on which they hang."""
+        if not self.problem.greatest:
+            arc = next(filter(None, (self.drawn() for _ in range(MOST_DRAWN))), None)
+        else:
+            self.arcs = self.critical() if self.arcs is None else self.arcs
+            arc = self.arcs[self.draw.below(len(self.arcs))] if self.arcs else None
+        if arc is None:
+            return None
+        self.trial = self.look(arc)
         return self.trial.value
 
     def take(self) -> None:
