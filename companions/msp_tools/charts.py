@@ -10,8 +10,7 @@ from fractions import Fraction
 
 from .calendars import Calendar
 from .dates import DAY, HOUR, MINUTE, Moment
-from .faults import Fault
-from .schedules import Piece, Schedule
+from .schedules import Piece, Schedule, need_jobs
 from .texts import Instance
 from .units import Units
 
@@ -78,9 +77,8 @@ class Chart:
             self.machine_names = dict(enumerate((it.strip() for it in re.split("[,;]", options.machine_names)), 1))
         self.pieces = sorted(schedule.pieces, key=lambda it: (it.start, it.end, it.machine))
         self.jobs = [it.name for it in instance.jobs] if instance else list(dict.fromkeys(it.job for it in self.pieces))
-        unknown = next((it for it in self.pieces if it.job not in set(self.jobs)), None)
-        if unknown:
-            raise Fault(f"line {unknown.line}: the instance has no job {unknown.job}")
+        if instance:
+            need_jobs(self.pieces, instance)
         self.ends = schedule.ends()
         self.span = max((it.end for it in self.pieces), default=Fraction(1)) or Fraction(1)
         self.due = {it.name: it.due for it in (instance.jobs if instance else []) if it.due is not None}

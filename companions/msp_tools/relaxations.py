@@ -49,7 +49,7 @@ def dropped(before: ClassName, after: ClassName) -> tuple[str, Edit]:
 def by_hand(name: str, before: ClassName, after: ClassName) -> str | None:
     """The expression of sed that makes a step, where the class and what goes with it is all that changes; or None."""
     curved = before.criterion != "fmax" and after.criterion == "fmax"
-    if curved or name in ("equal", "unit", "one-machine", "fastest", "least-times"):
+    if curved or name in ("no-due", "equal", "unit", "one-machine", "fastest", "least-times"):
         return None
     return dropped(before, after)[0] + "/^arc /d" * (name == "no-precedence")
 

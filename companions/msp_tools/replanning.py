@@ -6,12 +6,14 @@ from fractions import Fraction
 from typing import Dict, List, Optional, Sequence, Tuple
 
 from .bounds import Bound
+from .faults import Fault
+from .judging import AsTheyStand, Words, judge
 from .leftover import Happened, Leftover, Running, left_of
 from .problems import Placed, Problem, ends_of
 from .priorities import Tried
 from .program import Program
 from .proposals import Planner, Proposal, Search
-from .schedules import Piece, Schedule
+from .schedules import Piece, Schedule, need_jobs, text_of
 from .texts import Instance
 from .timing import soonest
 
@@ -138,10 +140,19 @@ def carried_on(problem: Problem, order: Sequence[Tuple[str, int, Optional[int]]]
 
 
 def replanned(program: Program, given: Instance, old: Schedule, happened: Happened, wanted: Search) -> Replanned:
-    """The new plan of what is left of an old one."""
+    """The new plan of what is left of an old one, which is feasible."""
+    need_feasible(program, given, old.pieces)
     left = left_of(given, old.pieces, happened)
     proposal = Replanner(program, left, wanted, old.pieces).proposal()
     return Replanned(left.instance, left.origin, proposal, begins_of(given, old.pieces, left, proposal), left.told)
+
+
+def need_feasible(program: Program, given: Instance, pieces: List[Piece]) -> None:
+    """Refuses an old plan that is not feasible."""
+    need_jobs(pieces, given)
+    verdict = judge(program, given.text(), text_of(pieces, 0), pieces, Words(given, AsTheyStand()))
+    if not verdict.feasible:
+        raise Fault(f"the old plan is not feasible: {verdict.broken}")
 
 
 def begins_of(given: Instance, old: Sequence[Piece], left: Leftover, proposal: Proposal) -> List[Begin]:

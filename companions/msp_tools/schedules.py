@@ -123,6 +123,13 @@ def read_schedule(text: str) -> Schedule:
     raise Fault("the line end of the schedule is missing" if begun else "there is no line schedule")
 
 
+def need_jobs(pieces: Iterable[Piece], instance: Instance) -> None:
+    """Refuses pieces of a job that the instance does not have, with the line."""
+    unknown = next((it for it in pieces if instance.job(it.job) is None), None)
+    if unknown:
+        raise Fault(f"line {unknown.line}: the instance has no job {unknown.job}")
+
+
 def text_of(pieces: Iterable[Piece], cost: Number) -> str:
     """A schedule text in the least unit."""
     those = list(pieces)

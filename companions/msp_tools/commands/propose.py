@@ -6,13 +6,13 @@ from typing import List
 
 from ..benchmarks import jssp, taillard
 from ..evidence import write_evidence
-from ..faults import Misfit
+from ..faults import Fault, Misfit
 from ..files import read_text
 from ..minizinc import NODES
 from ..numbers import said
 from ..program import need_program
 from ..proposals import Candidate, Proposal, Search, candidates_of, proposal_of
-from ..schedules import read_schedule, text_of
+from ..schedules import need_jobs, read_schedule, text_of
 from ..texts import Instance, read_instance, read_instance_at
 from ..units import Units, UnitWords
 from .frame import Command, Parser, Tell, add_program, positive
@@ -72,6 +72,8 @@ def instance_of(wanted: Wanted) -> Instance:
     if not (wanted.taillard or wanted.jssp):
         return read_instance_at(wanted.file) if wanted.file else read_instance(read_text(None))
     those = list(taillard(read_text(wanted.file)) if wanted.taillard else jssp(read_text(wanted.file)))
+    if not those:
+        raise Fault("there is no instance in the text: no line has the numbers of jobs and machines")
     if wanted.number > len(those):
         raise Misfit(f"--number {wanted.number}: the number of instances in the text is {len(those)}")
     return those[wanted.number - 1]
@@ -83,6 +85,8 @@ def answer(wanted: Wanted, tell: Tell) -> Answer:
     given = instance_of(wanted)
     units.need(None, given)
     begin = read_schedule(read_text(wanted.begin)) if wanted.begin else None
+    if begin:
+        need_jobs(begin.pieces, given)
     search = Search(wanted.tries, wanted.seed, begin, wanted.nodes if wanted.solver else None, tell if wanted.progress else lambda line: None)
     if wanted.candidates:
         return Answer(None, candidates_of(program, given, search), units)

@@ -4,3 +4,6 @@ printf 'msp 1\nclass R2|pmtn|Lmax\njob a d=1\ntimes 1 2\nend\n' | propose; echo 
 propose nothing.txt; echo "status $?"
 propose arrivals.txt --tries 0; echo "status $?"
 propose cut.txt --by minizinc; echo "status $?"
+printf 'schedule\ncost 0\nunit 1\npiece nobody 1 1 0 3\nend\n' > nobody.txt
+propose arrivals.txt --from nobody.txt; echo "status $?"
+propose --jssp arrivals.txt; echo "status $?"
