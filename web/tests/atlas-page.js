@@ -79,5 +79,24 @@
     const area = document.querySelector('textarea');
     return area ? area.value : '';
   };
-  Object.assign(window.trial, { poor, small, whole, file });
+  /** Saves the file that is shown. */
+  const save = () => {
+    const link = document.querySelector('a[download]');
+    if (link instanceof HTMLElement) link.click();
+  };
+  /** When the greatest part of what is seen was drawn last, in milliseconds since the page was asked for. */
+  const drawn = () => new Promise(done => {
+    const watch = new PerformanceObserver(list => done(Math.max(...list.getEntries().map(it => it.startTime))));
+    watch.observe({ type: 'largest-contentful-paint', buffered: true });
+  });
+  /** Whether the class around which the picture is stands in sight once one goes there. */
+  const centred = async () => {
+    const here = document.querySelector('.picture .here'), frame = document.querySelector('.scroll');
+    if (!here || !frame) return false;
+    frame.scrollIntoView();
+    await new Promise(done => setTimeout(done, 300));
+    const [inner, outer] = [here.getBoundingClientRect(), frame.getBoundingClientRect()];
+    return inner.left >= outer.left - 1 && inner.right <= outer.right + 1;
+  };
+  Object.assign(window.trial, { poor, small, whole, file, save, drawn, centred });
 })();
