@@ -4,13 +4,13 @@
   /** @param {string} name */
   const one = name => /** @type {HTMLElement} */ (document.querySelector(name));
   /**
-   * The address after something was done, or after a while where it stays.
+   * Does something, and waits for the page where that changes the address.
    * @param {() => void} act
    */
   const moved = async act => {
-    const changed = new Promise(done => { window.addEventListener('hashchange', done, { once: true }); setTimeout(done, 300); });
+    const before = location.hash, changed = new Promise(done => window.addEventListener('hashchange', done, { once: true }));
     act();
-    await changed;
+    if (location.hash !== before) await changed;
     await new Promise(done => setTimeout(done));
   };
   const seen = () => ({
