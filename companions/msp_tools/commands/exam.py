@@ -37,8 +37,8 @@ ITEMS = {"pmtn": "jobs may be cut and go on later", "r": "no job begins before i
 @dataclass
 class Wanted:
     """The words of the call."""
-    count: int = 5
-    seed: int = 1
+    count: str = ""
+    seed: str = ""
     environment: str | None = None
     rows: int = 4
     solution: bool = False
@@ -61,6 +61,13 @@ class Answer:
     questions: list[Question]
     text: str
     few: bool = field(default=False, repr=False)
+
+
+def number(text: str, what: str) -> int:
+    """A whole number from 1, or a misfit."""
+    if not text.isdecimal() or len(text) > 9 or int(text) < 1:
+        raise Misfit(f"{what} is a whole number from 1, not {text}")
+    return int(text)
 
 
 # Drawing
@@ -88,14 +95,14 @@ class Drawing:
         return (it for it in map(self.question, names) if it)
 
 
-def drawn(drawing: Drawing, wanted: Wanted) -> list[Question]:
+def drawn(drawing: Drawing, environment: str | None, count: int, seed: int) -> list[Question]:
     """So many questions, on easy and on hard classes in turn."""
     labels = labels_in(drawing.program.report(["label"], drawing.results).report)
-    among = [it for it in labels if wanted.environment in (None, it.split("|")[0])]
-    random.Random(wanted.seed).shuffle(among)
+    among = [it for it in labels if environment in (None, it.split("|")[0])]
+    random.Random(seed).shuffle(among)
     kinds = [drawing.questions([it for it in among if labels[it] in those]) for those in (("easy",), ("weak", "hard", "strong"))]
     found: list[Question] = []
-    while kinds and len(found) < wanted.count:
+    while kinds and len(found) < count:
         question = next(kinds[0], None)
         kinds = [*kinds[1:], kinds[0]] if question else kinds[1:]
         found += [question] if question else []
@@ -143,15 +150,16 @@ def text_of(wanted: Wanted, questions: list[Question]) -> str:
 
 def answer(wanted: Wanted, tell: Tell) -> Answer:
     """The questions."""
+    count, seed = number(wanted.count, "QUESTIONS"), number(wanted.seed, "SEED")
     if wanted.environment and wanted.environment not in ENVIRONMENTS:
         raise Misfit(f"{wanted.environment} is no environment: it is one of {' '.join(ENVIRONMENTS)}")
     program = need_program(wanted.program)
     results = read_text(need_file(None, PUBLISHED, "--results"))
     drawing = Drawing(program, results, documents_of(program, Citing(published=True), results), wanted.rows, set())
-    found = drawn(drawing, wanted)
-    if len(found) < wanted.count:
-        tell(f"{len(found)} questions are found in place of {wanted.count}")
-    return Answer(found, text_of(wanted, found), len(found) < wanted.count)
+    found = drawn(drawing, wanted.environment, count, seed)
+    if len(found) < count:
+        tell(f"{len(found)} questions are found in place of {count}")
+    return Answer(found, text_of(wanted, found), len(found) < count)
 
 
 def show(found: Answer) -> None:
@@ -166,8 +174,8 @@ def status(found: Answer) -> int:
 
 def words(parser: Parser) -> None:
     """Adds the words."""
-    parser.add_argument("count", metavar="QUESTIONS", type=positive, help="how many questions")
-    parser.add_argument("seed", metavar="SEED", type=positive, help="a whole number by which they are drawn: the same gives the same")
+    parser.add_argument("count", metavar="QUESTIONS", help="how many questions")
+    parser.add_argument("seed", metavar="SEED", help="a whole number by which they are drawn: the same gives the same")
     parser.add_argument("--environment", metavar="E", help="draws classes on these machines alone, as 1, P2, P or F")
     parser.add_argument("--rows", metavar="N", type=positive, help="at most N reductions in a chain; 4 without it")
     parser.add_argument("--solution", action="store_true", help="the questions with their answers")
