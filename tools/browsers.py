@@ -44,8 +44,9 @@ class Screen:
 
 
 class Browser(Protocol):
-    """A browser with one page."""
+    """A browser with one page. What a page saves comes into the folder `saved`, without a question."""
     name: str
+    saved: Path
 
     def open(self, address: str) -> None:
         """Opens a page, and waits until it is there."""
@@ -58,6 +59,9 @@ class Browser(Protocol):
 
     def picture(self, file: Path) -> None:
         """Writes what is seen, as a PNG."""
+
+    def slow(self, times: int) -> bool:
+        """Slows the processor for all pages from now on; whether the browser can do that."""
 
     def close(self) -> None:
         """Ends the browser."""
@@ -94,7 +98,7 @@ class Chromium:
     name = "chromium"
 
     def __init__(self, screen: Screen, folder: str) -> None:
-        self.selenium = library("selenium.webdriver")
+        self.selenium, self.saved = library("selenium.webdriver"), saved_in(folder)
         options = self.selenium.ChromeOptions()
         options.binary_location = needed("chromium")
         for word in ("--headless=new", "--no-sandbox", "--disable-dev-shm-usage", "--disable-gpu", f"--user-data-dir={folder}/profile"):
@@ -110,8 +114,9 @@ class Chromium:
 
     @driven()
     def shape(self, screen: Screen) -> None:
-        """Gives the page its window, which may be narrower than any that chromium opens."""
+        """Gives the page its window, which may be narrower than any that chromium opens, and says where files go."""
         self.driver.set_script_timeout(PATIENCE)
+        self.driver.execute_cdp_cmd("Browser.setDownloadBehavior", {"behavior": "allow", "downloadPath": str(self.saved)})
         self.driver.execute_cdp_cmd("Emulation.setDeviceMetricsOverride",
                                     {"width": screen.width, "height": screen.height, "deviceScaleFactor": 1, "mobile": False})
         self.driver.execute_cdp_cmd("Emulation.setEmulatedMedia",
@@ -142,6 +147,12 @@ class Chromium:
     def picture(self, file: Path) -> None:
         """Writes what is seen."""
         file.write_bytes(self.driver.get_screenshot_as_png())
+
+    @driven()
+    def slow(self, times: int) -> bool:
+        """Slows the processor."""
+        self.driver.execute_cdp_cmd("Emulation.setCPUThrottlingRate", {"rate": times})
+        return True
 
     @driven()
     def close(self) -> None:
@@ -206,11 +217,14 @@ class Firefox:
     name = "firefox-esr"
 
     def __init__(self, screen: Screen, folder: str) -> None:
-        profile = Path(folder) / "profile"
+        profile, self.saved = Path(folder) / "profile", saved_in(folder)
         profile.mkdir()
         (profile / "user.js").write_text("".join(f"user_pref({json.dumps(key)}, {json.dumps(value)});\n" for key, value in {
             "layout.css.prefers-color-scheme.content-override": 0 if screen.dark else 1,
             "ui.systemUsesDarkTheme": 1 if screen.dark else 0,
+            "browser.download.folderList": 2,
+            "browser.download.dir": str(self.saved),
+            "browser.download.always_ask_before_handling_new_types": False,
         }.items()), encoding="utf-8")
         words = [needed("firefox-esr"), "--headless", "--no-remote", "--profile", str(profile), "--remote-debugging-port=0", "about:blank"]
         self.ending = contextlib.ExitStack()
@@ -259,6 +273,10 @@ class Firefox:
         """Writes what is seen."""
         file.write_bytes(base64.b64decode(self.channel.ask("browsingContext.captureScreenshot", context=self.context)["data"]))
 
+    def slow(self, _: int) -> bool:
+        """Firefox has no word for it."""
+        return False
+
     def close(self) -> None:
         """Ends the browser."""
         with contextlib.suppress(Failed, OSError):
@@ -273,6 +291,13 @@ class Firefox:
 # Both
 
 BROWSERS: dict[str, type[Chromium] | type[Firefox]] = {Chromium.name: Chromium, Firefox.name: Firefox}
+
+
+def saved_in(folder: str) -> Path:
+    """The folder for what pages save."""
+    saved = Path(folder) / "saved"
+    saved.mkdir()
+    return saved
 
 
 def needed(program: str) -> str:

@@ -33,6 +33,7 @@ import { nameOf, NAMES, partsOf, rankOf } from './names.js';
  * @property {number[]} [own] the entries that rest on a proof that no journal has seen
  * @property {Object<string, [string, string, string]>} [facts] time, problem outside of the table, and their source, by entry
  * @property {Object<string, string>} [sections] the text of each proof by its heading
+ * @property {Object<string, string[]>} [chapters] the headings of each chapter of the proofs
  * @property {{version: string, title: string, author: string, released: string}} [citation]
  */
 /** @typedef {Facts & Told} Data */

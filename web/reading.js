@@ -89,7 +89,8 @@ const NO_ITEMS = [
   [/^w[ij]*(=|<|\u2208)/, 'Bounds on weights are left out of the notation; a criterion without w has none.'],
   [/^d[ij]*(=|<|\u2208)/, 'A common due date is left out of the notation.'],
   [/^(no)?idle|^agree|^recrc|^online|^rej|^learn|^deter|^split/, 'This is left out of the notation.'],
-  [/^prmu|^perm/, 'Permutation schedules are a restriction here: only on F2 without release dates, precedence and pmtn does nothing get worse by them.'],
+  [/^prmu|^perm/,
+    'Permutation schedules are a restriction here: only on F2 without release dates, precedence and pmtn does nothing get worse by them.'],
 ];
 /** @type {[RegExp, string][]} */
 const NO_ORDERS = [

@@ -67,6 +67,13 @@ def sections_of(text: str | None) -> dict[str, str]:
     return found
 
 
+def chapters_of(text: str | None) -> dict[str, list[str]]:
+    """From each chapter of the proofs to the headings of its sections."""
+    chapters = re.findall(r"(?ms)^## ([^\n]+)\n(.*?)(?=^## |\Z)", text or "")
+    found = {title: re.findall(r"(?m)^### (.+)$", body) for title, body in chapters}
+    return {title: headings for title, headings in found.items() if headings}
+
+
 def citation_of(text: str | None) -> dict[str, str] | None:
     """The version, and what CITATION.cff says of it."""
     if text is None:

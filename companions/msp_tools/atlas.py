@@ -9,7 +9,7 @@ from concurrent.futures import ThreadPoolExecutor
 from dataclasses import dataclass
 from typing import Any, Dict, Iterator, List, Mapping, Sequence, Tuple, TypeVar
 
-from .apart import Apart, Listing, citation_of, facts_of, renumbered, sections_of, without_same
+from .apart import Apart, Listing, chapters_of, citation_of, facts_of, renumbered, sections_of, without_same
 from .classes import class_named
 from .draws import Wanted, text_of
 from .faults import Fault, ProgramRefusal
@@ -217,7 +217,8 @@ class Source:
         """Times, the texts of proofs and the version."""
         if self.own:
             return {}
-        return {"facts": facts_of(entries, shipped("docs/results/facts.csv")), "sections": sections_of(shipped("docs/results/proofs-of-results.md")),
+        proofs = shipped("docs/results/proofs-of-results.md")
+        return {"facts": facts_of(entries, shipped("docs/results/facts.csv")), "sections": sections_of(proofs), "chapters": chapters_of(proofs),
                 "citation": citation_of(shipped("CITATION.cff"))}
 
     def data(self, part: int | None) -> Made:

@@ -24,7 +24,7 @@ RELEASED = COMPANIONS.parent / "released"
 THERE = all(importlib.util.find_spec(it) for it in ("venv", "pip", "setuptools", "wheel"))
 SMITH = "msp 1\nclass 1||sumwC\njob a p=3 w=1\njob b p=1 w=2\njob c p=2 w=2\nend\n"
 SOLVES = f"from msp_tools import Instance, solve; print(solve(Instance.from_text({SMITH!r})).cost)"
-NAMES = ("atlas", "board", "check-all", "choose", "cite", "from-csv", "gantt", "grade", "make-instance", "plan", "print-sheet", "propose",
+NAMES = ("atlas", "board", "check-all", "choose", "cite", "exam", "from-csv", "gantt", "grade", "make-instance", "plan", "print-sheet", "propose",
          "reduces", "replan", "to-schedule", "verify", "what-if")
 
 

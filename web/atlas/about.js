@@ -8,13 +8,23 @@ import { dot, linkTo, named } from './parts.js';
 /** @typedef {import('./parts.js').View} View */
 
 /**
+ * A text with the indices and powers that it writes as x_j, S_{a-1}, C_(k) and 2^n.
+ * @param {string} text
+ * @returns {(Node | string)[]}
+ */
+function indexed(text) {
+  return text.split(/([_^](?:\{[^{}]*\}|\([^()]*\)|[\p{L}\p{N}]+))/u).map((it, place) => place % 2 === 0 ? it
+    : element(it[0] === '_' ? 'sub' : 'sup', {}, it.slice(1).replace(/^\{(.*)\}$/, '$1')));
+}
+
+/**
  * A part of a line between marks: code, strong or weak stress; links of the documents become their texts.
  * @param {string} text
  * @returns {(Node | string)[]}
  */
 function inline(text) {
-  return text.replace(/\[([^\]]*)\]\([^)]*\)/g, '$1').split(/(`[^`]+`|\*\*[^*]+\*\*|\*[^*\s][^*]*\*)/).map((it, place) => {
-    if (place % 2 === 0) return it;
+  return text.replace(/\[([^\]]*)\]\([^)]*\)/g, '$1').split(/(`[^`]+`|\*\*[^*]+\*\*|\*[^*\s][^*]*\*)/).flatMap((it, place) => {
+    if (place % 2 === 0) return indexed(it);
     return it[0] === '`' ? named(it.slice(1, -1)) : it.startsWith('**') ? element('b', {}, ...inline(it.slice(2, -2))) : element('em', {},
       ...inline(it.slice(1, -1)));
   });
@@ -34,13 +44,14 @@ export function prose(text) {
 }
 
 /**
- * The list of all proofs, as links.
+ * The list of all proofs, as links, by the chapters of the document.
  * @param {View} view
  * @param {string} title
  */
 function proofList(view, title) {
-  const lines = Object.keys(view.atlas.data.sections || {}).map(it => element('li', {}, linkTo(view, `proof=${it}`, it)));
-  return element('section', {}, element('h3', {}, title), element('ul', { class: 'columns' }, ...lines));
+  const chapters = Object.entries(view.atlas.data.chapters || {}).flatMap(([chapter, those]) => [element('h4', {}, chapter),
+    element('ul', { class: 'columns' }, ...those.map(it => element('li', {}, linkTo(view, `proof=${it}`, it))))]);
+  return element('section', {}, element('h3', {}, title), ...chapters);
 }
 
 const ON_PAPER = 'This is a proof on paper. Where it stands for a result of our own, no journal has seen it. Nothing of it is proved by the program.';

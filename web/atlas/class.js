@@ -1,11 +1,11 @@
 // The view of one class: its label and why, its solver, its neighbours.
-import { MEANING, withAnySpeeds } from '../classes.js';
+import { MEANING } from '../classes.js';
 import { element } from '../elements.js';
 import { NAMES } from '../names.js';
 import { decidedBy, isOwn } from '../results.js';
 import { around } from '../picture.js';
 import { drawn } from './drawing.js';
-import { address, badge, chainList, classLink, reasons, restsOnOwn, rowText, selected, told } from './parts.js';
+import { address, badge, chainList, classLink, reasons, restsOnOwn, rowText, selected, speedsRemark, told } from './parts.js';
 
 /** @typedef {import('./parts.js').View} View */
 
@@ -45,12 +45,9 @@ function ownRemark(view, at) {
  * @returns {Node[]}
  */
 function remarks(view, at) {
-  const { atlas } = view, { labels } = told(view), found = [], opened = atlas.data.open[at], fast = withAnySpeeds(labels, at);
+  const { atlas } = view, { labels } = told(view), found = [], opened = atlas.data.open[at];
   if (opened && labels[at] === 'open') found.push(element('p', {}, element('b', {}, `${opened[0]}. `), opened[1]));
-  if (fast >= 0) {
-    found.push(element('p', { class: 'warned' }, 'Here p=1 on uniform machines goes with whole speeds: a job of one unit on a machine of speed s '
-      + 'takes 1/s. With any speeds the class that books call p=1 is ', classLink(view, fast), `, which is ${labels[fast]}.`));
-  }
+  found.push(...speedsRemark(view, at));
   const own = ownRemark(view, at), same = atlas.problem(at).filter(it => it !== at);
   if (own) found.push(element('p', { class: 'warned' }, own));
   if (same.length) {

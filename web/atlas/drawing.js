@@ -9,33 +9,42 @@ import { saveButton } from './saving.js';
 /** @typedef {import('../picture.js').Picture} Picture */
 /** @typedef {import('../picture.js').Box} Box */
 
-const [BOX, ROW, GAP, TOP] = [212, 28, 64, 26];
+const [ROW, GAP, TOP, LETTERS] = [28, 48, 26, 7.4];
 
 /**
  * Where a box begins.
  * @param {Box} box
  * @param {number[]} counts how many boxes each column has
  * @param {number} most
+ * @param {number} wide
  */
-function corner(box, counts, most) {
-  return { x: box.column * (BOX + GAP), y: TOP + (box.place + (most - counts[box.column]) / 2) * ROW };
+function corner(box, counts, most, wide) {
+  return { x: box.column * (wide + GAP), y: TOP + (box.place + (most - counts[box.column]) / 2) * ROW };
 }
+
+/**
+ * What stands in a box: the name of the class, and a mark where it has a solver.
+ * @param {View} view
+ * @param {number} at
+ */
+function inside(view, at) { return NAMES[at] + (view.atlas.solver(at) ? ' \u2713' : ''); }
 
 /**
  * A class in the picture: a link in a box with the letter and the colour of its label.
  * @param {View} view
  * @param {Box} box
  * @param {{x: number, y: number}} where
+ * @param {number} wide
  * @param {boolean} here
  */
-function boxShape(view, box, where, here) {
+function boxShape(view, box, where, wide, here) {
   const label = told(view).labels[box.at], { x, y } = where, solver = view.atlas.solver(box.at) ? ', with a solver' : '';
   return shape('a', { href: address(view, NAMES[box.at]), 'aria-label': `${NAMES[box.at]} ${label}${solver}`, 'data-at': box.at, class: here
     ? 'here' : '' },
-    shape('rect', { x, y: y + 1, width: BOX, height: ROW - 4, rx: 4, class: 'box' }),
+    shape('rect', { x, y: y + 1, width: wide, height: ROW - 4, rx: 4, class: 'box' }),
     shape('rect', { x, y: y + 1, width: 20, height: ROW - 4, rx: 4, class: `fill ${label}` }),
     shape('text', { x: x + 10, y: y + 17, 'text-anchor': 'middle', class: `letter ${label}` }, LETTER[label]),
-    shape('text', { x: x + 26, y: y + 17, class: 'label' }, NAMES[box.at] + (solver ? ' \u2713' : '')));
+    shape('text', { x: x + 26, y: y + 17, class: 'label' }, inside(view, box.at)));
 }
 
 /**
@@ -43,10 +52,11 @@ function boxShape(view, box, where, here) {
  * @param {View} view
  * @param {import('../picture.js').Line} line
  * @param {Map<number, {x: number, y: number}>} places
+ * @param {number} wide
  */
-function lineShape(view, { from, to, row }, places) {
+function lineShape(view, { from, to, row }, places, wide) {
   const [start, end] = [from, to].map(it => places.get(it) || { x: 0, y: 0 }), half = ROW / 2 - 1;
-  const [x, y, u, v] = [start.x + BOX, start.y + half, end.x, end.y + half];
+  const [x, y, u, v] = [start.x + wide, start.y + half, end.x, end.y + half];
   return shape('path', { d: `M${x} ${y}C${x + GAP / 2} ${y} ${u - GAP / 2} ${v} ${u} ${v}`, class: 'line', 'data-from': from, 'data-to': to },
     shape('title', {}, row ? rowText(view, row) : 'a chain of rows'));
 }
@@ -66,6 +76,20 @@ function follow(svg) {
 }
 
 /**
+ * Scrolls a picture that is wider than its frame, when it is first seen, so that a box stands in the middle.
+ * @param {HTMLElement} frame
+ * @param {number} middle
+ */
+function centre(frame, middle) {
+  const watch = new IntersectionObserver(seen => {
+    if (!seen.some(it => it.isIntersecting)) return;
+    watch.disconnect();
+    frame.scrollLeft = middle - frame.clientWidth / 2;
+  });
+  watch.observe(frame);
+}
+
+/**
  * The picture, and below it what it says as a list.
  * @param {View} view
  * @param {Picture} picture
@@ -74,15 +98,18 @@ function follow(svg) {
  */
 export function drawn(view, picture, here, title) {
   const counts = picture.heads.map((_, column) => picture.boxes.filter(it => it.column === column).length), most = Math.max(1, ...counts);
-  const width = Math.max(1, counts.length) * (BOX + GAP) - GAP + 4, height = TOP + most * ROW + 4;
-  const places = new Map(picture.boxes.map(it => [it.at, corner(it, counts, most)]));
+  const wide = Math.ceil(36 + LETTERS * Math.max(...picture.boxes.map(it => inside(view, it.at).length), 12));
+  const width = Math.max(1, counts.length) * (wide + GAP) - GAP + 4, height = TOP + most * ROW + 4;
+  const places = new Map(picture.boxes.map(it => [it.at, corner(it, counts, most, wide)]));
   const svg = shape('svg', { viewBox: `-2 0 ${width} ${height}`, width, height, role: 'group', 'aria-label': title, class: 'picture' },
-    ...picture.lines.map(it => lineShape(view, it, places)),
-    ...picture.heads.map((text, column) => shape('text', { x: column * (BOX + GAP), y: 14, class: 'head' }, text)),
-    ...picture.boxes.map(it => boxShape(view, it, corner(it, counts, most), it.at === here)));
+    ...picture.lines.map(it => lineShape(view, it, places, wide)),
+    ...picture.heads.map((text, column) => shape('text', { x: column * (wide + GAP), y: 14, class: 'head' }, text)),
+    ...picture.boxes.map(it => boxShape(view, it, corner(it, counts, most, wide), wide, it.at === here)));
   follow(svg);
   const panel = element('div', { class: 'saved' }), save = saveButton('Picture as SVG', 'reductions.svg', () => asFile(svg), panel);
   const frame = element('div', { class: 'scroll', tabindex: '0', role: 'region', 'aria-label': title }, svg);
+  const place = places.get(here);
+  if (place) centre(frame, place.x + wide / 2);
   return element('div', {}, frame, asList(view, picture), element('p', {}, save), panel);
 }
 

@@ -78,6 +78,12 @@ function tabs(view, kind, places, here) {
 }
 
 /**
+ * What is said of a place that is none.
+ * @param {string} text
+ */
+function nothing(text) { return element('section', {}, element('h2', { tabindex: '-1' }, text), element('p', {}, 'These are there:')); }
+
+/**
  * The picture of the frontier on some machines.
  * @param {View} view
  * @param {number} machines a place in MACHINES
@@ -99,10 +105,11 @@ function frontierPicture(view, machines, name) {
  */
 export function frontierView(view, place) {
   const lists = told(view).frontier, words = Object.keys(FRONTIER), names = MACHINES.map(it => [it.environment, it.short].filter(Boolean).join(' '));
-  const here = names.includes(place) || words.includes(place) ? place : words[2];
+  const here = place || words[2];
   const both = [tabs(view, 'frontier', words.map(it => [it, [`${it} (${(lists[it] || []).length})`]]), here),
     tabs(view, 'frontier', names.map(it => [it, [it]]), here)];
   if (names.includes(here)) return [...both, frontierPicture(view, names.indexOf(here), here)];
+  if (!words.includes(here)) return [nothing(`The frontier has no list and no machines of the name ${here}`), ...both];
   return [...both, classList(view, here[0].toUpperCase() + here.slice(1), lists[here] || [], FRONTIER[here])];
 }
 
@@ -113,24 +120,28 @@ export function frontierView(view, place) {
  * @returns {Node[]}
  */
 export function labelView(view, place) {
-  const { labels } = told(view), [wanted, among] = place.split(','), label = labels.includes(wanted) ? wanted : 'open';
+  const { labels } = told(view), [label, among] = (place || 'open').split(','), known = view.atlas.data.label_names;
   const those = filtered(view, labels.flatMap((it, at) => it === label ? [at] : []));
   /** @type {(environment: string) => number[]} */
   const on = environment => environment === 'all' ? those : those.filter(at => partsOf(at).environment === environment);
   const environments = ['all', ...ENVIRONMENTS].filter(it => it === 'all' ? those.length <= MOST : on(it).length);
-  const here = environments.includes(among) ? among : environments[0], shown = view.atlas.data.label_names.filter(it => labels.includes(it));
-  return [tabs(view, 'lists', shown.map(it => [it, [dot(it), it]]), label),
-    tabs(view, 'lists', environments.map(it => [`${label},${it}`, [`${it} (${on(it).length})`]]), `${label},${here}`),
-    classList(view, `Label ${label}${here === 'all' ? '' : ` on ${here}`}`, on(here), MEANING[label])];
+  const here = among || environments[0] || 'all', names = tabs(view, 'lists', known.filter(it => labels.includes(it)).map(it => [it, [dot(it), it]]),
+    label);
+  if (!known.includes(label)) return [nothing(`No label has the name ${label}`), names];
+  const machines = tabs(view, 'lists', environments.map(it => [`${label},${it}`, [`${it} (${on(it).length})`]]), `${label},${here}`);
+  if (here !== 'all' && !ENVIRONMENTS.includes(here)) return [nothing(`No machines have the name ${here}`), names, machines];
+  return [names, machines, classList(view, `Label ${label}${here === 'all' ? '' : ` on ${here}`}`, on(here), MEANING[label])];
 }
 
 /**
  * The classes that were selected.
  * @param {View} view
+ * @param {string[]} wrong what an address has among them that is no class
  * @returns {Node[]}
  */
-export function selectionView(view) {
+export function selectionView(view, wrong) {
   const box = classList(view, 'Selection', view.selection, 'A link to this page keeps it.');
+  if (wrong.length) box.append(element('p', { class: 'warned' }, `Not understood, and left out: ${wrong.join('; ')}`));
   box.append(element('p', {}, element('button', { type: 'button', class: 'act', 'data-select': 'none' }, 'Empty the selection')));
   return [box];
 }

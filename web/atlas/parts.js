@@ -1,6 +1,6 @@
 // Pieces of the atlas that several of its views show: links to classes with their labels, chains, entries.
 import { KINDS, leadsToEntry } from '../chains.js';
-import { LETTER, MEANING } from '../classes.js';
+import { LETTER, MEANING, withAnySpeeds } from '../classes.js';
 import { element } from '../elements.js';
 import { NAMES } from '../names.js';
 import { isOwn, keysOf, sourceOf } from '../results.js';
@@ -100,6 +100,19 @@ export function classLink(view, at) {
 }
 
 /**
+ * What is said of unit times on uniform machines where the class of the books, with any speeds, has another label; nothing elsewhere.
+ * @param {View} view
+ * @param {number} at
+ * @returns {Node[]}
+ */
+export function speedsRemark(view, at) {
+  const { labels } = told(view), fast = withAnySpeeds(labels, at);
+  if (fast < 0) return [];
+  return [element('p', { class: 'warned' }, 'Here p=1 on uniform machines goes with whole speeds: a job of one unit on a machine of speed s '
+    + 'takes 1/s. With any speeds the class that books call p=1 is ', classLink(view, fast), `, which is ${labels[fast]}.`)];
+}
+
+/**
  * A row by its number and its text.
  * @param {View} view
  * @param {number} row
@@ -139,7 +152,7 @@ export function reference(view, key, decides) {
  * @returns {Node[]}
  */
 function factLines(view, record) {
-  const [time, from, source] = (view.atlas.data.facts || {})[record] || ['', '', ''], lines = [];
+  const [time, from, said] = (view.atlas.data.facts || {})[record] || ['', '', ''], source = said.endsWith('.md') ? 'our own proof' : said, lines = [];
   if (time) {lines.push(element('p', { class: 'reference' }, `Time of the rule there: ${time}`, source ? ` (${source})` : '',
     '. It is the literature\u2019s, not that of msp solve.'));}
   if (from) lines.push(element('p', { class: 'reference' }, `Reduced from ${from}`, source ? ` (${source})` : '', '.'));
@@ -153,8 +166,9 @@ function factLines(view, record) {
  */
 export function entryBox(view, record) {
   const { data } = view.atlas, [at, kind, source] = data.entries[record], keys = keysOf(data, record), own = isOwn(data, record);
+  const said = sourceOf(source), from = said ? [linkTo(view, said, said), source.slice(source.indexOf(said) + said.length)] : ['without a source'];
   const box = element('div', { class: 'entry' }, element('p', {}, 'This decides: ', classLink(view, at), ` is ${LISTED[kind]} (entry ${record}): `,
-    element('b', {}, source || 'without a source')));
+    element('b', {}, ...from)));
   for (const key of keys) box.append(...reference(view, key, `% decides by ${NAMES[at]}, ${LISTED[kind]}`));
   if (!keys.length && !/^(own proof|from CLIQUE|from VERTEX COVER)$/.test(sourceOf(source))) {
     box.append(element('p', { class: 'reference' }, 'The bibliography has no reference for it.'));

@@ -83,34 +83,25 @@ export class Shown {
   }
 
   /**
-   * A view over the whole width.
-   * @param {string} title
+   * A view over the whole width; its title is its first heading.
    * @param {Node[]} nodes
    */
-  showWide(title, nodes) {
-    this.frame.main.className = 'wide';
-    this.frame.main.replaceChildren(element('div', {}, ...nodes));
-    return `${title} \u2013 ${TITLE}`;
+  showWide(nodes) {
+    const { main } = this.frame;
+    main.className = 'wide';
+    main.replaceChildren(element('div', {}, ...nodes));
+    const head = main.querySelector('h2');
+    return head ? `${head.textContent} \u2013 ${TITLE}` : TITLE;
   }
 
   /**
-   * The classes of a selection as an address has them.
-   * @param {string} text
-   */
-  select(text) {
-    const places = text.split(';').filter(Boolean), ranks = places.map(rankOf);
-    this.view.selection = Array.from(new Set(ranks.filter(it => it >= 0)));
-    const wrong = places.filter((_, it) => ranks[it] < 0);
-    if (wrong.length) this.say(`No class: ${wrong.join(', ')}`);
-  }
-
-  /**
-   * Shows the selection, which an address may have.
+   * Shows the selection, which an address may have; each class there is read as the search reads it.
    * @param {string | undefined} rest
    */
   showSelection(rest) {
-    if (rest !== undefined) this.select(rest);
-    return this.showWide('Selection', selectionView(this.view));
+    const places = (rest || '').split(';').filter(it => it.trim()), ranks = places.map(it => rankOf(placeOf(this.view, it.trim())));
+    if (rest !== undefined) this.view.selection = Array.from(new Set(ranks.filter(it => it >= 0)));
+    return this.showWide(selectionView(this.view, places.filter((_, it) => ranks[it] < 0)));
   }
 
   /**
@@ -122,14 +113,14 @@ export class Shown {
   showWord(word, rest) {
     const { view } = this, behind = rest || '';
     switch (word) {
-    case 'lists': return this.showWide(`Label ${(behind || 'open').replace(',', ' on ')}`, labelView(view, behind));
-    case 'frontier': return this.showWide(`Frontier ${behind}`.trim(), frontierView(view, behind));
-    case 'proof': return this.showWide(behind || 'Proofs', proofView(view, behind));
+    case 'lists': return this.showWide(labelView(view, behind));
+    case 'frontier': return this.showWide(frontierView(view, behind));
+    case 'proof': return this.showWide(proofView(view, behind));
     case 'search': return this.showText(behind);
     case 'selection': return this.showSelection(rest);
     default:
       if (rest !== undefined) return null;
-      return word === 'about' ? this.showWide('About', aboutView(view)) : word === 'class' ? this.showClass(view.current) : null;
+      return word === 'about' ? this.showWide(aboutView(view)) : word === 'class' ? this.showClass(view.current) : null;
     }
   }
 
@@ -142,7 +133,7 @@ export class Shown {
     const { view } = this, name = placeOf(view, text), at = rankOf(name);
     if (at < 0) {
       this.frame.input.value = text;
-      return this.showWide(text, askedView(view, text));
+      return this.showWide(askedView(view, text));
     }
     if (name !== text) history.replaceState(null, '', address(view, name));
     return this.showClass(at);

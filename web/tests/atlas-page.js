@@ -4,13 +4,13 @@
   /** @param {string} name */
   const one = name => /** @type {HTMLElement} */ (document.querySelector(name));
   /**
-   * The address after something was done, or after a while where it stays.
+   * Does something, and waits for the page where that changes the address.
    * @param {() => void} act
    */
   const moved = async act => {
-    const changed = new Promise(done => { window.addEventListener('hashchange', done, { once: true }); setTimeout(done, 300); });
+    const before = location.hash, changed = new Promise(done => window.addEventListener('hashchange', done, { once: true }));
     act();
-    await changed;
+    if (location.hash !== before) await changed;
     await new Promise(done => setTimeout(done));
   };
   const seen = () => ({
@@ -88,5 +88,24 @@
     const area = document.querySelector('textarea');
     return area ? area.value : '';
   };
-  Object.assign(window.trial, { poor, pale, small, whole, file });
+  /** Saves the file that is shown. */
+  const save = () => {
+    const link = document.querySelector('a[download]');
+    if (link instanceof HTMLElement) link.click();
+  };
+  /** When the greatest part of what is seen was drawn last, in milliseconds since the page was asked for. */
+  const drawn = () => new Promise(done => {
+    const watch = new PerformanceObserver(list => done(Math.max(...list.getEntries().map(it => it.startTime))));
+    watch.observe({ type: 'largest-contentful-paint', buffered: true });
+  });
+  /** Whether the class around which the picture is stands in sight once one goes there. */
+  const centred = async () => {
+    const here = document.querySelector('.picture .here'), frame = document.querySelector('.scroll');
+    if (!here || !frame) return false;
+    frame.scrollIntoView();
+    await new Promise(done => setTimeout(done, 300));
+    const [inner, outer] = [here.getBoundingClientRect(), frame.getBoundingClientRect()];
+    return inner.left >= outer.left - 1 && inner.right <= outer.right + 1;
+  };
+  Object.assign(window.trial, { poor, pale, small, whole, file, save, drawn, centred });
 })();

@@ -4,7 +4,7 @@ from __future__ import annotations
 import importlib
 import sys
 
-NAMES = ("atlas", "board", "check-all", "choose", "cite", "from-csv", "gantt", "grade", "make-instance",
+NAMES = ("atlas", "board", "check-all", "choose", "cite", "exam", "from-csv", "gantt", "grade", "make-instance",
          "plan", "print-sheet", "propose", "reduces", "replan", "to-schedule", "verify", "what-if")
 
 

@@ -1,0 +1,1 @@
+exam 3 1 --environment P4
