@@ -1,8 +1,9 @@
 // What brings a problem into the page, and what takes it out: examples, lists, files, links, dates.
 import { element, fill } from '../elements.js';
 import { ArcsView } from './arcs-view.js';
-import { button, choice, field, folded, give, line, part } from './controls.js';
+import { button, choice, copied, field, folded, give, line, part } from './controls.js';
 import { DrawView } from './draw-view.js';
+import { pastedText } from './evidence.js';
 import { History } from './history.js';
 import { taken } from './list.js';
 import { piecesIn } from './schedule.js';
@@ -55,6 +56,9 @@ export class InputView {
     this.draw = new DrawView(app, text => this.note(text));
     this.arcs = new ArcsView(app, say);
     this.shop = new ShopView(app, shelf);
+    /** Judges a certificate that was brought in.
+     * @type {(text: string) => void} */
+    this.judge = () => undefined;
     /** The examples that were chosen, by their problems.
      * @type {WeakMap<import('./instance.js').Problem, string>} */
     this.chosen = new WeakMap();
@@ -100,24 +104,36 @@ export class InputView {
   paste() {
     const area = element('textarea', { id: 'paste', rows: '5', spellcheck: 'false', 'aria-label': this.say('pasteHead') });
     return folded(this.say('pasteHead'), element('p', { class: 'quiet' }, this.say('pasteSays')), area,
-      element('p', { class: 'buttons' }, button(this.say('take'), () => this.takeList(area.value), { id: 'take-list' })));
+      element('p', { class: 'buttons' }, button(this.say('take'), () => this.take(this.say('pasted'), area.value), { id: 'take-list' })));
   }
 
   // Files and links
 
   /**
-   * Takes what a file has: a saved state, an instance, or a list.
+   * Takes what a file has: a saved state, an instance with what stands behind it, a plan or a certificate of the instance here, or a list.
    * @param {string} name
    * @param {string} text
    */
   take(name, text) {
-    const saved = stateIn(text), state = saved || stateOfText(text);
-    if (state) {
-      if (!saved) state.problem.sheet = name.replace(/\.[^.]*$/, '');
-      this.app.store.change(state);
-      this.note(this.say('opened', name));
-    } else if (listOf(text)) this.takeList(text);
+    const saved = stateIn(text), state = saved || stateOfText(text), certificate = pastedText(text);
+    if (state && !saved) state.problem.sheet = name.replace(/\.[^.]*$/, '');
+    if (state) this.app.store.change(state);
+    if (state || certificate) this.note(this.say('opened', name));
+    else if (scheduleIn(text)) this.takePlan(name, scheduleIn(text));
+    else if (listOf(text)) this.takeList(text);
     else this.note(this.say('notOpened', name));
+    if (certificate) this.judge(certificate);
+  }
+
+  /**
+   * Takes a plan of the jobs here, as solve and propose write one.
+   * @param {string} name
+   * @param {string} schedule
+   */
+  takePlan(name, schedule) {
+    const pieces = piecesIn(schedule, this.app.built), all = schedule.match(/^piece /gm), fits = all !== null && pieces.length === all.length;
+    if (fits) this.app.plan({ pieces, from: 'own' });
+    this.note(this.say(fits ? 'opened' : 'planOther', name));
   }
 
   /** @param {File} file */
@@ -147,15 +163,14 @@ export class InputView {
   async link() {
     const address = `${location.href.split('#')[0]}#state=${await this.word()}`;
     history.replaceState(null, '', address);
-    try {
-      await navigator.clipboard.writeText(address);
+    if (await copied(address)) {
       this.note(this.say('linkCopied'));
-    } catch (fault) {
-      const area = element('textarea', { rows: '3', readonly: '', 'aria-label': this.say('link') });
-      area.value = address;
-      this.note(this.say('noCopy'), area);
-      area.select();
+      return;
     }
+    const area = element('textarea', { rows: '3', readonly: '', 'aria-label': this.say('link') });
+    area.value = address;
+    this.note(this.say('noCopy'), area);
+    area.select();
   }
 
   /** @param {string} name */
@@ -166,11 +181,12 @@ export class InputView {
     this.chosen.set(state.problem, name);
     this.app.store.change(state);
     this.app.solve(true);
+    if (call && call.group === 'accept') this.judge(this.examples.texts[call.text || '']);
   }
 
   /** The list of examples. */
   choices() {
-    const calls = this.examples.calls.filter(it => it.text && problemOf(this.examples.texts[it.text]) && it.group !== 'accept');
+    const calls = this.examples.calls.filter(it => it.text && problemOf(this.examples.texts[it.text]));
     const options = calls.map(({ name, text }) => {
       const kind = this.examples.texts[text || ''].match(/^class (.*)$/m);
       return /** @type {[string, string]} */ ([name, `${name.replace(/-/g, ' ')}: ${kind ? kind[1] : ''}`]);

@@ -41,6 +41,7 @@ const why = new WhyView(app, rows => {
   plan.chart.render();
 });
 const steps = new StepsView(app, 'plan-steps');
+input.judge = (/** @type {string} */ text) => { why.take(text); };
 const learn = new LearnView(byId('part-learn', HTMLElement), () => app.words, say, text => {
   const state = stateOfText(text);
   if (state) app.store.change(state);
@@ -210,4 +211,4 @@ async function begin() {
 
 begin();
 // (for the console of the browser, and for tests)
-Object.assign(globalThis, { msp: { run, runBytes, app, input, learn, steps, lessons: LESSONS } });
+Object.assign(globalThis, { msp: { run, runBytes, app, input, plan, why, learn, steps, lessons: LESSONS } });
