@@ -33,7 +33,8 @@ def standard_tries(problem: Problem) -> int:
     """How many neighbours are looked at where it is not said: fewer of large ones, so that it takes seconds."""
     looked_at = problem.operations()
     if not problem.shop and not problem.bound and not problem.cut:
-        looked_at = 2 * problem.count // problem.machines
+        summed = problem.machines == 1 and not problem.greatest and problem.criterion[-1] != "U"
+        looked_at = (1 if summed else 2) * problem.count // problem.machines
     slow = slowness(problem)
     effort = problem.count * (EFFORT_IN_SHOPS if problem.shop else EFFORT * isqrt(problem.count))
     tries = max(LEAST_EFFORT, effort) // ((looked_at + 10) * slow)
