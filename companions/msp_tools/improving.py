@@ -24,8 +24,8 @@ LEAST_EFFORT = 6_000_000
 EFFORT_IN_SHOPS = 100_000
 EFFORT = 13_000
 # (tries: at least, at most, of many jobs for each of them, of few operations for each of them)
-LEAST_TRIES, MOST_TRIES, TRIES_FOR_A_JOB, TRIES_FOR_AN_OPERATION = 2_000, 70_000, 1_200, 2_000
-TRIES_BEFORE_TABU = 400  # (of sums in shops, for each operation)
+LEAST_TRIES, MOST_TRIES, TRIES_FOR_A_JOB, TRIES_FOR_AN_OPERATION = 2_000, 70_000, 1_200, 3_000
+TRIES_BEFORE_TABU = 100  # (of sums in shops, for each operation)
 FINE = 2**40  # (into so many parts a cost is divided where it is no whole number)
 
 
