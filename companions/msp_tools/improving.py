@@ -33,8 +33,7 @@ def standard_tries(problem: Problem) -> int:
     """How many neighbours are looked at where it is not said: fewer of large ones, so that it takes seconds."""
     looked_at = problem.operations()
     if not problem.shop and not problem.bound and not problem.cut:
-        summed = problem.machines == 1 and not problem.greatest and problem.criterion[-1] != "U"
-        looked_at = (1 if summed else 2) * problem.count // problem.machines
+        looked_at = (1 if summed_alone(problem) else 2) * problem.count // problem.machines
     slow = slowness(problem)
     effort = problem.count * (EFFORT_IN_SHOPS if problem.shop else EFFORT * isqrt(problem.count))
     tries = max(LEAST_EFFORT, effort) // ((looked_at + 10) * slow)
@@ -42,13 +41,20 @@ def standard_tries(problem: Problem) -> int:
     return min(max(tries, LEAST_TRIES // slow), most, TRIES_FOR_AN_OPERATION * problem.operations())
 
 
+def summed_alone(problem: Problem) -> bool:
+    """Whether there is one machine, and costs are added: then ends and costs are worked out only where jobs move."""
+    return problem.machines == 1 and not problem.shop and not problem.greatest and problem.criterion[-1] != "U"
+
+
 def slowness(problem: Problem) -> int:
-    """What it takes to look at a neighbour, for each operation: in permutations 1."""
+    """How much longer it takes to look at a neighbour than in sequences, for each operation."""
     if problem.cut:
         return 20
     if problem.instance.kind.kind in "OJ":
         return 4 if problem.greatest else 2
-    return 4 if problem.bound and not problem.alike else 1
+    if problem.bound and not summed_alone(problem):
+        return 2 if problem.alike else 4
+    return 1
 
 
 def starts_of(found: Sequence[Tried], state: Callable[[Tried], S], most: int = MOST_STARTS) -> List[S]:
@@ -63,7 +69,7 @@ def starts_of(found: Sequence[Tried], state: Callable[[Tried], S], most: int = M
 
 
 def in_lanes(problem: Problem, found: Sequence[Tried], effort: Effort, draw: Draw) -> List[Placed]:
-    """Sequences of machines, where no job comes after another."""
+    """Sequences of machines."""
     space = Lanes(problem, draw)
     told = effort.heard
     effort.heard = lambda value: told(value // space.base)
@@ -145,7 +151,7 @@ def uncut(problem: Problem, found: Sequence[Tried], effort: Effort, draw: Draw) 
         if closed:
             return BRANCHING, one.placed
         those.append(one)
-    way = in_shop if problem.shop else in_order if problem.bound else in_lanes
+    way = in_shop if problem.shop else in_lanes if not problem.bound or summed_alone(problem) else in_order
     return SEARCH, way(problem, those, effort, draw)
 
 

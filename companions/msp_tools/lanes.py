@@ -1,6 +1,7 @@
-"""Schedules as the sequences of the machines: where each job has one operation, and none comes after another.
+"""Schedules as the sequences of the machines: where each job has one operation, and none comes after another; on one machine also where they do,
+as long as costs are added.
 
-A neighbour moves a job to another place, or exchanges two. Only the sequences that change are costed anew.
+A neighbour moves a job to another place, or exchanges two. Only the sequences that change are costed anew, and sums only where they change.
 """
 from __future__ import annotations
 
@@ -38,6 +39,13 @@ def ranked(problem: Problem) -> list[list[int]] | None:
     return found
 
 
+def within_arcs(problem: Problem, lane: List[int], job: int, place: int) -> int:
+    """The place of a job's that is next to another one, behind all jobs of its machine that it comes after, and before those that come after it."""
+    least = max((lane.index(it) for it in problem.before[job]), default=-1) + 1
+    most = min((lane.index(it) for it in problem.after[job]), default=len(lane)) - 1
+    return min(max(place, least), most)
+
+
 def ratio(time: int, weight: int) -> float:
     """Time for weight."""
     return time / weight if weight else float("inf")
@@ -59,7 +67,7 @@ class Lanes:
         self.problem, self.draw = problem, draw
         self.machines = problem.machines
         self.times = [[it[at] for it in problem.times] for at in range(problem.machines)]
-        self.ranks = ranked(problem)
+        self.ranks = None if problem.bound else ranked(problem)
         # (the machines of a job, the fastest first, where they are not alike)
         self.prefers = [] if problem.alike else [sorted(range(self.machines), key=it.__getitem__) for it in problem.times]
         self.counted = problem.criterion[-1] == "U"
@@ -228,10 +236,12 @@ class Lanes:
         place = lane.index(job)
         step = self.draw.near(len(lane))
         other = place + step if self.draw.one() < 0.5 else place - step
-        if not 0 <= other < len(lane):
+        if self.problem.bound:
+            other = within_arcs(self.problem, lane, job, other)
+        if not 0 <= other < len(lane) or other == place:
             return None
         those = lane[min(place, other): max(place, other) + 1]
-        if self.draw.one() < 0.4:
+        if not self.problem.bound and self.draw.one() < 0.4:
             those[0], those[-1] = those[-1], those[0]
         elif other > place:
             those.append(those.pop(0))
