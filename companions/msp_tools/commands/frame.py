@@ -94,8 +94,8 @@ class Command(Generic[W, A]):
         installed = os.path.basename(sys.argv[0]).partition(".")[0] == f"msp-{self.name}"
         example = re.sub(rf"(?<![\w./-])({'|'.join(NAMES)})(?=\s|$)", r"msp-\1", self.example) if installed else self.example
         examples = "\n".join(f"  {it}" for it in example.strip().split("\n"))
-        parser = Parser(prog=f"msp-{self.name}" if installed else self.name, usage=f"%(prog)s {self.usage}", description=self.says.strip(), epilog=f"example:\n{examples}",
-                        allow_abbrev=False, formatter_class=Form)
+        parser = Parser(prog=f"msp-{self.name}" if installed else self.name, usage=f"%(prog)s {self.usage}", description=self.says.strip(),
+                        epilog=f"example:\n{examples}", allow_abbrev=False, formatter_class=Form)
         self.words(parser)
         parser.add_argument("--json", action="store_true", help="prints the answer as JSON; exact numbers are texts, as 10/3")
         parser.add_argument("--version", action="version", version=f"{self.name} (msp) {VERSION}", help="prints the version")
