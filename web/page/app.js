@@ -38,6 +38,9 @@ export class App {
     this.atlas = null;
     this.clock = clockOf(state.problem);
     this.built = built(state.problem, this.clock);
+    /** The names of the jobs of a problem, by their rows.
+     * @type {{of: Problem | null, names: Map<number, string>}} */
+    this.called = { of: null, names: new Map() };
     /** @type {Fault[]} */
     this.told = [];
     /** @type {Map<string, Answer>} */
@@ -88,8 +91,9 @@ export class App {
    * @param {number} row
    */
   jobName(row) {
-    const rows = usedRows(this.problem), at = rows.findIndex(it => it.id === row);
-    return at < 0 ? '?' : calledAt(rows[at], at);
+    const { problem } = this;
+    if (this.called.of !== problem) this.called = { of: problem, names: new Map(usedRows(problem).map((it, at) => [it.id, calledAt(it, at)])) };
+    return this.called.names.get(row) || '?';
   }
 
   /** @param {number} machine */

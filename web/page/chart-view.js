@@ -1,7 +1,7 @@
 // The chart in the page: bars that are dragged, or moved by the keyboard.
 import { element, fill } from '../elements.js';
 import { BAR, chartOf, LINE, noteOf, TOP } from './chart.js';
-import { drawn } from './drawing.js';
+import { barShape, drawn } from './drawing.js';
 import { compare, fraction, minus, near, plus, ZERO } from '../fractions.js';
 import { hasChoice, moved, snapped, split } from './own.js';
 import { brokenPieces } from './verdicts.js';
@@ -36,6 +36,9 @@ export class ChartView {
     this.marked = new Set();
     /** @type {Chart | null} */
     this.chart = null;
+    /** What the chart was drawn of: where it is the same again, only bars that break a condition are drawn anew.
+     * @type {unknown[]} */
+    this.drawnOf = [];
     this.root.addEventListener('keydown', event => this.key(event));
     this.root.addEventListener('pointerdown', event => this.drag(event));
     this.root.addEventListener('focusin', event => {
@@ -63,17 +66,38 @@ export class ChartView {
     if (this.heldOf !== this.app.state.plan) this.held = null;
     const { pieces } = this;
     if (!pieces.length || pieces.length > MOST) {
-      this.chart = null;
+      [this.chart, this.drawnOf] = [null, []];
       fill(this.root, element('p', { class: 'quiet' }, this.app.words.say(pieces.length ? 'tooLong' : 'noPlan')));
       return;
     }
-    const wanted = this.wanted(), hadFocus = this.root.contains(document.activeElement);
+    const wanted = this.wanted(), hadFocus = this.root.contains(document.activeElement), before = this.chart;
+    const drawnOf = [pieces, wanted.built, wanted.clock, this.app.problem, this.app.words, wanted.width, this.byJob, this.held, ...wanted.marked];
+    const isSame = before !== null && drawnOf.length === this.drawnOf.length && drawnOf.every((it, at) => it === this.drawnOf[at]);
     this.chart = chartOf(wanted);
+    this.drawnOf = drawnOf;
     this.current = Math.min(this.current, pieces.length - 1);
-    const svg = drawn(this.chart, this.title);
-    svg.querySelectorAll('.bar').forEach(bar => this.name(bar, wanted));
-    fill(this.root, svg);
+    if (before && isSame) this.again(before, this.chart, wanted);
+    else {
+      const svg = drawn(this.chart, this.title);
+      svg.querySelectorAll('.bar').forEach(bar => this.name(bar, wanted));
+      fill(this.root, svg);
+    }
     if (hadFocus) this.focus();
+  }
+
+  /**
+   * Draws the bars anew that came to break a condition, or break none any more.
+   * @param {Chart} before
+   * @param {Chart} now
+   * @param {import('./chart.js').Wanted} wanted
+   */
+  again(before, now, wanted) {
+    const broken = new Map(before.bars.map(it => [it.at, it.broken]));
+    for (const bar of now.bars.filter(it => broken.get(it.at) !== it.broken)) {
+      const old = this.root.querySelector(`[data-at="${bar.at}"]`), made = barShape(bar);
+      this.name(made, wanted);
+      if (old) old.replaceWith(made);
+    }
   }
 
   /**

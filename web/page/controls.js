@@ -79,6 +79,20 @@ export function refill(parent, ...children) {
 }
 
 /**
+ * Something to unfold that takes long to make: it is made when it is opened.
+ * @param {string} title
+ * @param {boolean} open
+ * @param {() => Node} make
+ */
+export function unfolded(title, open, make) {
+  const made = folded(title), fill = () => { if (made.open && made.childElementCount === 1) made.append(make()); };
+  made.open = open;
+  fill();
+  made.addEventListener('toggle', fill);
+  return made;
+}
+
+/**
  * Gives a file to the person.
  * @param {string} name
  * @param {Blob} content

@@ -13,7 +13,7 @@ export const FILLS = ['#a9c8f0', '#f3c98b', '#b5dcae', '#e3bce6', '#f0b6ab', '#a
  * A bar with its label.
  * @param {Bar} bar
  */
-function barShape(bar) {
+export function barShape(bar) {
   const { x, y, width, broken } = bar;
   const classes = ['bar', bar.late ? 'late' : '', broken ? 'broken' : '', bar.marked ? 'marked' : ''].filter(Boolean).join(' ');
   const edge = broken || bar.late ? '#a11d27' : bar.marked ? '#1c232e' : '#5b6675';

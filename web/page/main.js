@@ -210,4 +210,4 @@ async function begin() {
 
 begin();
 // (for the console of the browser, and for tests)
-Object.assign(globalThis, { msp: { run, runBytes, app, input, learn, steps, lessons: LESSONS } });
+Object.assign(globalThis, { msp: { run, runBytes, app, input, plan, why, learn, steps, lessons: LESSONS } });

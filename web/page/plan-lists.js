@@ -2,7 +2,7 @@
 import { element } from '../elements.js';
 import { listed } from './chart-view.js';
 import { momentText } from './clock.js';
-import { folded } from './controls.js';
+import { unfolded } from './controls.js';
 import { added, costText, lengthText, together } from './costs.js';
 import { compare, minus, ZERO } from '../fractions.js';
 import { endsOf } from './schedule.js';
@@ -56,9 +56,14 @@ export function table(heads, rows) {
 /**
  * Both lists, to unfold.
  * @param {App} app
+ * @param {boolean[]} open which of them are unfolded
  */
-export function lists(app) {
-  const jobs = jobTable(app), pieces = folded(app.words.say('list'), table(pieceHeads(app), pieceRows(app)));
+export function lists(app, open) {
+  const jobs = unfolded(app.words.say('byJobs'), open[0] || false, () => {
+    const { heads, rows } = jobTable(app);
+    return table(heads, rows);
+  });
+  const pieces = unfolded(app.words.say('list'), open[1] || false, () => table(pieceHeads(app), pieceRows(app)));
   pieces.classList.add('printed');
-  return [folded(app.words.say('byJobs'), table(jobs.heads, jobs.rows)), pieces];
+  return [jobs, pieces];
 }

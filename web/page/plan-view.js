@@ -94,7 +94,7 @@ export class PlanView {
     this.chart.render();
     const open = Array.from(this.below.querySelectorAll('details'), it => it.open);
     this.answer.render();
-    fill(this.below, ...(app.state.plan && app.built.text ? [...lists(app), files(app, this.chart), this.answer.root] : []));
+    fill(this.below, ...(app.state.plan && app.built.text ? [...lists(app, open), files(app, this.chart), this.answer.root] : []));
     this.below.querySelectorAll('details').forEach((it, at) => { it.open = open[at] || false; });
     const again = focus && document.getElementById(/^(best|stop)$/.test(focus) ? app.running || this.searching.running ? 'stop' : 'best' : focus);
     if (again) again.focus();
