@@ -93,6 +93,19 @@ export function unfolded(title, open, make) {
 }
 
 /**
+ * Copies a text; whether the browser lets the page.
+ * @param {string} text
+ */
+export async function copied(text) {
+  try {
+    await navigator.clipboard.writeText(text);
+    return true;
+  } catch (fault) {
+    return false;
+  }
+}
+
+/**
  * Gives a file to the person.
  * @param {string} name
  * @param {Blob} content

@@ -1,8 +1,9 @@
 // What brings a problem into the page, and what takes it out: examples, lists, files, links, dates.
 import { element, fill } from '../elements.js';
 import { ArcsView } from './arcs-view.js';
-import { button, choice, field, folded, give, line, part } from './controls.js';
+import { button, choice, copied, field, folded, give, line, part } from './controls.js';
 import { DrawView } from './draw-view.js';
+import { pastedText } from './evidence.js';
 import { History } from './history.js';
 import { taken } from './list.js';
 import { piecesIn } from './schedule.js';
@@ -100,24 +101,24 @@ export class InputView {
   paste() {
     const area = element('textarea', { id: 'paste', rows: '5', spellcheck: 'false', 'aria-label': this.say('pasteHead') });
     return folded(this.say('pasteHead'), element('p', { class: 'quiet' }, this.say('pasteSays')), area,
-      element('p', { class: 'buttons' }, button(this.say('take'), () => this.takeList(area.value), { id: 'take-list' })));
+      element('p', { class: 'buttons' }, button(this.say('take'), () => this.take(this.say('pasted'), area.value), { id: 'take-list' })));
   }
 
   // Files and links
 
   /**
-   * Takes what a file has: a saved state, an instance, or a list.
+   * Takes what a file has: a saved state, an instance with or without a certificate behind it, a certificate, or a list.
    * @param {string} name
    * @param {string} text
    */
   take(name, text) {
-    const saved = stateIn(text), state = saved || stateOfText(text);
-    if (state) {
-      if (!saved) state.problem.sheet = name.replace(/\.[^.]*$/, '');
-      this.app.store.change(state);
-      this.note(this.say('opened', name));
-    } else if (listOf(text)) this.takeList(text);
+    const saved = stateIn(text), state = saved || stateOfText(text), certificate = pastedText(text);
+    if (state && !saved) state.problem.sheet = name.replace(/\.[^.]*$/, '');
+    if (state) this.app.store.change(state);
+    if (state || certificate) this.note(this.say('opened', name));
+    else if (listOf(text)) this.takeList(text);
     else this.note(this.say('notOpened', name));
+    if (certificate) this.judge(certificate);
   }
 
   /** @param {File} file */
@@ -147,15 +148,14 @@ export class InputView {
   async link() {
     const address = `${location.href.split('#')[0]}#state=${await this.word()}`;
     history.replaceState(null, '', address);
-    try {
-      await navigator.clipboard.writeText(address);
+    if (await copied(address)) {
       this.note(this.say('linkCopied'));
-    } catch (fault) {
-      const area = element('textarea', { rows: '3', readonly: '', 'aria-label': this.say('link') });
-      area.value = address;
-      this.note(this.say('noCopy'), area);
-      area.select();
+      return;
     }
+    const area = element('textarea', { rows: '3', readonly: '', 'aria-label': this.say('link') });
+    area.value = address;
+    this.note(this.say('noCopy'), area);
+    area.select();
   }
 
   /** @param {string} name */
@@ -166,11 +166,12 @@ export class InputView {
     this.chosen.set(state.problem, name);
     this.app.store.change(state);
     this.app.solve(true);
+    if (call && call.group === 'accept') this.judge(this.examples.texts[call.text || '']);
   }
 
   /** The list of examples. */
   choices() {
-    const calls = this.examples.calls.filter(it => it.text && problemOf(this.examples.texts[it.text]) && it.group !== 'accept');
+    const calls = this.examples.calls.filter(it => it.text && problemOf(this.examples.texts[it.text]));
     const options = calls.map(({ name, text }) => {
       const kind = this.examples.texts[text || ''].match(/^class (.*)$/m);
       return /** @type {[string, string]} */ ([name, `${name.replace(/-/g, ' ')}: ${kind ? kind[1] : ''}`]);

@@ -40,7 +40,7 @@ const why = new WhyView(app, rows => {
   plan.chart.marked = rows;
   plan.chart.render();
 });
-const steps = new StepsView(app, 'plan-steps');
+const input = new InputView(app, examples, say, text => why.take(text)), steps = new StepsView(app, 'plan-steps');
 const learn = new LearnView(byId('part-learn', HTMLElement), () => app.words, say, text => {
   const state = stateOfText(text);
   if (state) app.store.change(state);

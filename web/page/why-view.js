@@ -2,13 +2,13 @@
 import { run } from '../engine.js';
 import { element, fill } from '../elements.js';
 import { CellFault, numberOf } from './cells.js';
-import { button, choice, field, line, part } from './controls.js';
-import { CERTIFIED, certificateIn, ownText, whyText } from './evidence.js';
+import { button, choice, copied, field, folded, give, line, part } from './controls.js';
+import { CERTIFIED, certificateIn, ownText, pastedText, toldOf, whyText } from './evidence.js';
 import { print } from '../fractions.js';
 
 /** @typedef {import('./app.js').App} App */
 /** @typedef {import('./evidence.js').Certificate} Certificate */
-/** @typedef {'group' | 'machine' | 'line'} Kind */
+/** @typedef {'group' | 'machine' | 'line' | 'text'} Kind what shows a bound of one's own; `text` is a certificate of any kind */
 
 /** The part of the page with the reasons. */
 export class WhyView {
@@ -36,6 +36,8 @@ export class WhyView {
     this.kind = 'group';
     this.bound = '';
     this.machine = '1';
+    /** The certificate that was pasted or opened. */
+    this.given = '';
     /** @type {Set<number>} */
     this.chosen = new Set();
     this.shape = '';
@@ -45,38 +47,67 @@ export class WhyView {
    * @param {...(string | number)} values */
   say(key, ...values) { return this.app.words.say(key, ...values); }
 
-  /** The kinds of evidence that can show something in the class. */
+  /** The kinds of evidence that can show something in the class.
+   * @returns {Kind[]} */
   get kinds() {
-    const { environment, criterion } = this.app.problem.parts;
-    if (criterion !== 'Cmax') return /** @type {Kind[]} */ ([]);
-    return /** @type {Kind[]} */ ('OFJ'.includes(environment[0]) ? ['machine', 'line'] : environment[0] === 'R' ? [] : ['group']);
+    const { environment, criterion } = this.app.problem.parts, shop = 'OFJ'.includes(environment[0]);
+    /** @type {Kind[]} */
+    const simple = criterion !== 'Cmax' || environment[0] === 'R' ? [] : shop ? ['machine', 'line'] : ['group'];
+    return this.ownOnly ? simple : [...simple, 'text'];
   }
 
   /** Asks the program for a certificate. */
   async ask() {
     const { app } = this, { text } = app.built, { status, report } = await run(['certify'], text);
     this.asked = { text, found: status === 0 ? certificateIn(report, app.built) : null };
-    if (this.asked.found) this.mark(new Set(this.asked.found.rows));
+    if (this.asked.found) this.mark(new Set(toldOf(this.asked.found, app).rows));
     this.render();
+  }
+
+  /** The text of the evidence for a bound of one's own. */
+  ownText() {
+    const text = this.kind === 'text' ? pastedText(this.given)
+      : ownText(this.kind, numberOf(this.bound), [...this.chosen], Number(this.machine), this.app.built);
+    if (!text) throw new CellFault('noCertificate');
+    return text;
   }
 
   /** Lets the program judge a bound of one's own. */
   async judge() {
     const { app } = this;
-    this.evidence = null;
+    [this.evidence, this.accepted] = [null, false];
     try {
-      const value = numberOf(this.bound), text = ownText(this.kind, value, [...this.chosen], Number(this.machine), app.built);
-      const { report, note } = await run(['accept'], app.built.text + text);
+      const text = this.ownText(), { report, note } = await run(['accept'], app.built.text + text), found = certificateIn(text, app.built);
       this.accepted = /^accepted yes$/m.test(report);
-      const found = certificateIn(text, app.built);
       if (found && !note) this.evidence = { accepted: this.accepted, kind: found.kind, bound: found.bound };
-      this.judged = note ? this.say('line', note.replace('msp: ', '').trim()) : this.accepted && found
-        ? `${this.say('acceptedYes')} ${whyText(found, app)}` : this.say('acceptedNo');
+      this.judged = note ? this.noteText(note) : this.say(this.accepted ? 'acceptedYes' : 'acceptedNo');
+      if (!this.accepted || !found) return;
+      this.judged += ` ${whyText(found, app)}`;
+      this.mark(new Set(toldOf(found, app).rows));
     } catch (fault) {
-      if (!(fault instanceof CellFault)) throw fault;
-      [this.accepted, this.judged] = [false, this.say(fault.code, ...fault.values)];
+      this.judged = fault instanceof CellFault ? this.say(fault.code, ...fault.values) : this.say('failed', String(fault));
+    } finally {
+      app.render();
     }
-    app.render();
+  }
+
+  /**
+   * What a note says of the text of a certificate, whose lines follow those of the instance.
+   * @param {string} note
+   */
+  noteText(note) {
+    const said = note.replace('msp: ', '').trim(), [, number, what] = said.match(/^line (\d+): (.*)$/) || [];
+    const line = Number(number) - this.app.built.lines.length;
+    return line > 0 ? this.say('certificateLine', line, what) : this.say('line', said);
+  }
+
+  /**
+   * Takes a certificate as text, and lets the program judge it.
+   * @param {string} text
+   */
+  take(text) {
+    [this.kind, this.given] = ['text', pastedText(text)];
+    return this.judge();
   }
 
   /** The certificate of the program. */
@@ -88,7 +119,26 @@ export class WhyView {
     if (!asked || asked.text !== app.built.text) {
       return [element('p', { class: 'buttons' }, button(this.say('whyAsk'), () => this.ask(), { id: 'why-ask' }))];
     }
-    return [element('p', { id: 'why-said', class: 'fine' }, asked.found ? whyText(asked.found, app) : this.say('whyNone'))];
+    if (!asked.found) return [element('p', { id: 'why-said', tabindex: '-1' }, this.say('whyNone'))];
+    return [element('p', { id: 'why-said', class: 'fine', tabindex: '-1' }, whyText(asked.found, app)), this.asText(asked.found.text)];
+  }
+
+  /**
+   * The certificate as text, to copy and to save.
+   * @param {string} text
+   */
+  asText(text) {
+    const area = element('textarea', { id: 'why-text', rows: '9', readonly: '', spellcheck: 'false', 'aria-label': this.say('certificateText') });
+    const said = element('p', { role: 'status' }), { built } = this.app;
+    area.value = text;
+    const copy = async () => {
+      area.select();
+      said.textContent = this.say(await copied(text) ? 'textCopied' : 'noCopyHere');
+    };
+    const save = () => give('certificate.txt', new Blob([built.text + text], { type: 'text/plain' }));
+    return folded(this.say('certificateText'), element('p', { class: 'quiet' }, this.say('certificateSays')), area,
+      element('p', { class: 'buttons' }, button(this.say('copy'), copy, { id: 'why-copy' }),
+        button(this.say('certificateSave'), save, { id: 'why-save' })), said);
   }
 
   /** The jobs of which a group is made, each to be chosen. */
@@ -108,6 +158,19 @@ export class WhyView {
     return element('fieldset', {}, element('legend', {}, this.say('evidenceJobs')), ...boxes);
   }
 
+  /** What is filled in for the kind that is chosen.
+   * @returns {HTMLElement} */
+  evidenceField() {
+    if (this.kind === 'machine') {
+      return field(this.say('machineColumn'), line(`${this.prefix}-machine`, this.machine, it => { this.machine = it; }, { inputmode: 'numeric' }));
+    }
+    if (this.kind !== 'text') return this.jobs();
+    const area = element('textarea', { id: `${this.prefix}-given`, rows: '6', spellcheck: 'false', placeholder: this.say('certificateHint') });
+    area.value = this.given;
+    area.addEventListener('input', () => { this.given = area.value; });
+    return field(this.say('certificateGiven'), area);
+  }
+
   /** The form for a bound of one's own. */
   form() {
     const { kinds } = this;
@@ -119,15 +182,13 @@ export class WhyView {
       this.chosen.clear();
       this.render();
     });
-    const machine = line(`${this.prefix}-machine`, this.machine, it => { this.machine = it; });
-    const what = this.kind === 'machine' ? field(this.say('machineColumn'), machine) : this.jobs();
     const bound = line(`${this.prefix}-bound`, this.bound, it => { this.bound = it; }, { inputmode: 'decimal' });
     const head = this.ownOnly ? '' : element('h3', {}, this.say('ownBound'));
     return [head, element('div', { class: 'fields' }, field(this.say('evidenceKind'), kind),
-      field(this.say('boundField'), bound)), what,
-    element('p', { class: 'buttons' }, button(this.say('boundJudge'), () => this.judge(), { id: `${this.prefix}-judge` })),
-    element('p', { id: `${this.prefix}-accepted`, class: this.accepted ? 'fine' : 'faulty', role: 'status', hidden: this.judged ? null : '' },
-      this.judged)];
+      this.kind === 'text' ? '' : field(this.say('boundField'), bound)), this.evidenceField(),
+      element('p', { class: 'buttons' }, button(this.say('boundJudge'), () => this.judge(), { id: `${this.prefix}-judge` })),
+      element('p', { id: `${this.prefix}-accepted`, class: this.accepted ? 'fine' : 'faulty', role: 'status', hidden: this.judged ? null : '' },
+        this.judged)];
   }
 
   render() {
@@ -138,7 +199,12 @@ export class WhyView {
     if (shape === this.shape) return;
     if (text !== JSON.parse(this.shape || '[0,""]')[1]) this.judged = '';
     this.shape = shape;
+    const { activeElement } = document, focus = activeElement && this.root.contains(activeElement) ? activeElement.id : '';
+    const open = Array.from(this.root.querySelectorAll('details'), it => it.open);
     const made = part(this.prefix, this.say(this.ownOnly ? 'ownBound' : 'why'), ...this.certificate(), ...this.form());
     fill(this.root, ...Array.from(made.childNodes));
+    this.root.querySelectorAll('details').forEach((it, at) => { it.open = open[at] || false; });
+    const again = document.getElementById(focus === 'why-ask' ? 'why-said' : focus);
+    if (again) again.focus();
   }
 }
