@@ -37,10 +37,11 @@ class Failed(Exception):
 
 @dataclass(frozen=True)
 class Screen:
-    """The window of a page."""
+    """The window of a page, and what the system asks for: dark colours, no motion."""
     width: int = 1280
     height: int = 900
     dark: bool = False
+    still: bool = False
 
 
 class Browser(Protocol):
@@ -57,8 +58,14 @@ class Browser(Protocol):
     def press(self, *keys: str) -> None:
         """Presses the keys together, as `CONTROL, ENTER`, on what has the focus."""
 
+    def drag(self, start: tuple[float, float], end: tuple[float, float]) -> None:
+        """Presses the pointer at a place of what is seen, moves it to another one, and lets it go."""
+
     def picture(self, file: Path) -> None:
         """Writes what is seen, as a PNG."""
+
+    def print(self, file: Path) -> None:
+        """Writes what the page prints, as a PDF."""
 
     def slow(self, times: int) -> bool:
         """Slows the processor for all pages from now on; whether the browser can do that."""
@@ -120,7 +127,8 @@ class Chromium:
         self.driver.execute_cdp_cmd("Emulation.setDeviceMetricsOverride",
                                     {"width": screen.width, "height": screen.height, "deviceScaleFactor": 1, "mobile": False})
         self.driver.execute_cdp_cmd("Emulation.setEmulatedMedia",
-                                    {"features": [{"name": "prefers-color-scheme", "value": "dark" if screen.dark else "light"}]})
+                                    {"features": [{"name": "prefers-color-scheme", "value": "dark" if screen.dark else "light"},
+                                                  {"name": "prefers-reduced-motion", "value": "reduce" if screen.still else "no-preference"}]})
 
     @driven()
     def open(self, address: str) -> None:
@@ -144,9 +152,23 @@ class Chromium:
         chain.perform()
 
     @driven()
+    def drag(self, start: tuple[float, float], end: tuple[float, float]) -> None:
+        """Presses the pointer, moves it, and lets it go."""
+        middle = (start[0] + end[0]) / 2, (start[1] + end[1]) / 2
+        for kind, (left, top), held in (("mouseMoved", start, 0), ("mousePressed", start, 1), ("mouseMoved", middle, 1), ("mouseMoved", end, 1),
+                                        ("mouseReleased", end, 0)):
+            self.driver.execute_cdp_cmd("Input.dispatchMouseEvent", {"type": kind, "x": left, "y": top, "buttons": held, "clickCount": 1,
+                                                                     "button": "none" if kind == "mouseMoved" else "left"})
+
+    @driven()
     def picture(self, file: Path) -> None:
         """Writes what is seen."""
         file.write_bytes(self.driver.get_screenshot_as_png())
+
+    @driven()
+    def print(self, file: Path) -> None:
+        """Writes what the page prints."""
+        file.write_bytes(base64.b64decode(self.driver.execute_cdp_cmd("Page.printToPDF", {"preferCSSPageSize": True})["data"]))
 
     @driven()
     def slow(self, times: int) -> bool:
@@ -225,6 +247,7 @@ class Firefox:
             "browser.download.folderList": 2,
             "browser.download.dir": str(self.saved),
             "browser.download.always_ask_before_handling_new_types": False,
+            "ui.prefersReducedMotion": 1 if screen.still else 0,
         }.items()), encoding="utf-8")
         words = [needed("firefox-esr"), "--headless", "--no-remote", "--profile", str(profile), "--remote-debugging-port=0", "about:blank"]
         self.ending = contextlib.ExitStack()
@@ -269,9 +292,22 @@ class Firefox:
         actions = [{"type": "keyDown", "value": key} for key in keys] + [{"type": "keyUp", "value": key} for key in reversed(keys)]
         self.channel.ask("input.performActions", context=self.context, actions=[{"type": "key", "id": "keyboard", "actions": actions}])
 
+    def drag(self, start: tuple[float, float], end: tuple[float, float]) -> None:
+        """Presses the pointer, moves it, and lets it go."""
+        places = start, ((start[0] + end[0]) / 2, (start[1] + end[1]) / 2), end
+        moves = [{"type": "pointerMove", "x": round(left), "y": round(top)} for left, top in places]
+        actions = [moves[0], {"type": "pointerDown", "button": 0}, *moves[1:], {"type": "pointerUp", "button": 0}]
+        self.channel.ask("input.performActions", context=self.context, actions=[{"type": "pointer", "id": "mouse", "actions": actions}])
+
     def picture(self, file: Path) -> None:
         """Writes what is seen."""
         file.write_bytes(base64.b64decode(self.channel.ask("browsingContext.captureScreenshot", context=self.context)["data"]))
+
+    def print(self, file: Path) -> None:
+        """Writes what the page prints."""
+        page = {"width": 29.7, "height": 21.0}
+        told = self.channel.ask("browsingContext.print", context=self.context, page=page, margin={side: 1.2 for side in ("top", "bottom", "left", "right")})
+        file.write_bytes(base64.b64decode(told["data"]))
 
     def slow(self, _: int) -> bool:
         """Firefox has no word for it."""

@@ -6,6 +6,8 @@ import { AXIS, BAR, LINE, TOP } from './chart.js';
 /** @typedef {import('./chart.js').Bar} Bar */
 /** @typedef {import('./chart.js').Mark} Mark */
 
+/** Of so many lines a chart fits on a page of paper. */
+const MOST_LINES = 40;
 /** The colours of bars, each bright enough for dark letters. */
 export const FILLS = ['#a9c8f0', '#f3c98b', '#b5dcae', '#e3bce6', '#f0b6ab', '#a8dcdc', '#d8d39a', '#c9c4f2'];
 
@@ -64,8 +66,8 @@ function ground(chart) {
  * @param {string} title
  */
 export function drawn(chart, title) {
-  const { width, height } = chart;
-  return shape('svg', { viewBox: `0 0 ${width} ${height}`, width, height, class: 'chart', role: 'group', 'aria-label': title, 'font-size': 12.5,
+  const { width, height } = chart, name = chart.lines.length > MOST_LINES ? 'chart long' : 'chart';
+  return shape('svg', { viewBox: `0 0 ${width} ${height}`, width, height, class: name, role: 'group', 'aria-label': title, 'font-size': 12.5,
     'font-family': 'system-ui, "Segoe UI", "DejaVu Sans", sans-serif' }, stripes(), ...ground(chart), ...chart.bars.map(barShape),
   ...chart.marks.map(markShape));
 }

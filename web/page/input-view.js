@@ -56,6 +56,9 @@ export class InputView {
     this.draw = new DrawView(app, text => this.note(text));
     this.arcs = new ArcsView(app, say);
     this.shop = new ShopView(app, shelf);
+    /** Judges a certificate that was brought in.
+     * @type {(text: string) => void} */
+    this.judge = () => undefined;
     /** The examples that were chosen, by their problems.
      * @type {WeakMap<import('./instance.js').Problem, string>} */
     this.chosen = new WeakMap();

@@ -18,7 +18,7 @@ import { WhyView } from './why-view.js';
 /** @typedef {import('./words.js').Words} Words */
 
 /** What is told of an answer; all else stands in the verdict already. */
-const TOLD = ['solved', 'changed', 'moved', 'refused', 'kind', 'less'];
+const TOLD = ['solved', 'changed', 'dearer', 'moved', 'refused', 'kind', 'less'];
 
 /** The part of the page with the lessons. */
 export class LearnView {
@@ -43,6 +43,7 @@ export class LearnView {
     this.steps = null;
     this.shown = '';
     this.lessons = element('section', { class: 'lessons' });
+    root.addEventListener('keydown', event => this.pressed(event));
   }
 
   /** @param {string} key
@@ -57,10 +58,15 @@ export class LearnView {
    */
   first(app, lesson) { return { from: 'own', pieces: piecesIn(planText(lesson), app.built) }; }
 
-  /** The list of all lessons. */
-  list() {
-    const { german } = this.words();
-    const lines = LESSONS.map(it => element('li', {}, element('a', { class: 'text', href: `#learn/${it.id}` }, textsOf(it, german).title),
+  /**
+   * The list of all lessons.
+   * @param {string} [here] the lesson that is open
+   */
+  list(here = '') {
+    const { german } = this.words(), current = (/** @type {string} */ id) => id === here ? 'page' : null;
+    const link = (/** @type {Lesson} */ it) => element('a', { class: 'text', href: `#learn/${it.id}`, 'aria-current': current(it.id) },
+      textsOf(it, german).title);
+    const lines = LESSONS.map(it => element('li', {}, link(it),
       this.solved.has(it.id) ? ` \u2713 ${this.say('lessonDone')}` : ''));
     fill(this.lessons, element('h2', {}, this.say('learn')), element('p', { class: 'quiet' }, this.say('learnSays')), element('ol', {}, ...lines));
     return this.lessons;
@@ -71,11 +77,13 @@ export class LearnView {
    * @param {string} id
    */
   show(id) {
-    const lesson = lessonOf(id), key = `${this.words().language} ${id}`;
+    const lesson = lessonOf(id), key = `${this.words().language} ${id}`, hadFocus = this.root.contains(document.activeElement);
     if (this.shown === key) return;
     this.shown = key;
-    if (lesson) fill(this.root, this.list(), ...this.open(lesson));
+    if (lesson) fill(this.root, this.list(lesson.id), ...this.open(lesson));
     else fill(this.root, this.list());
+    const head = hadFocus && this.root.querySelector('.lesson h2');
+    if (head instanceof HTMLElement) head.focus();
   }
 
   /**
@@ -85,9 +93,9 @@ export class LearnView {
   open(lesson) {
     const state = stateOfText(instanceText(lesson));
     if (!state) throw new Error(`the lesson ${lesson.id} has no instance`);
-    const app = new App(state, this.words()), chart = new ChartView(app, this.tell);
+    const app = new App(state, this.words()), chart = new ChartView(app, this.tell), before = this.app;
     const verdict = element('div', { class: 'verdict', role: 'status', 'aria-live': 'polite' });
-    const answer = element('div', { class: 'answered', hidden: '' }), steps = new StepsView(app, 'lesson-steps', lesson.rule);
+    const answer = element('div', { class: 'answered', role: 'status', hidden: '' }), steps = new StepsView(app, 'lesson-steps', lesson.rule);
     const why = new WhyView(app, rows => {
       chart.marked = rows;
       chart.render();
@@ -101,11 +109,24 @@ export class LearnView {
       this.judge(lesson, app, why, answer);
     });
     app.asksBest = true;
-    app.store.set({ ...app.state, plan: this.first(app, lesson) });
+    // (in another language the plan stays)
+    const plan = before && before.built.text === app.built.text && before.state.plan || this.first(app, lesson);
+    app.store.set({ ...app.state, plan });
     const keys = element('p', { class: 'quiet keys' }, this.say('keys')), { hint } = textsOf(lesson, this.words().german);
-    const section = element('section', { class: 'lesson' }, ...this.asks(lesson), this.buttons(app, lesson), verdict, answer, chart.root, keys,
-      folded(this.say('lessonHint'), element('p', {}, hint)), steps.root);
-    return [section, ...(lesson.goal.kind === 'bound' ? [why.root] : [])];
+    return [element('section', { class: 'lesson' }, ...this.asks(lesson), ...(lesson.goal.kind === 'bound' ? [why.root] : []),
+      this.buttons(app, lesson), verdict, answer, chart.root, keys, folded(this.say('lessonHint'), element('p', {}, hint)), steps.root)];
+  }
+
+  /**
+   * What Ctrl and Z or Y do in a lesson.
+   * @param {KeyboardEvent} event
+   */
+  pressed(event) {
+    const key = event.key.toLowerCase();
+    if (!this.app || !(event.ctrlKey || event.metaKey) || !['z', 'y'].includes(key) || event.target instanceof HTMLTextAreaElement) return;
+    event.preventDefault();
+    if (key === 'y' || event.shiftKey) this.app.store.redo();
+    else this.app.store.undo();
   }
 
   /**
@@ -127,7 +148,8 @@ export class LearnView {
       if (app.state.plan) app.plan({ pieces: early(app.state.plan.pieces, app.built), from: 'own' });
     };
     return element('div', { class: 'buttons' }, button(this.say('early'), move, { title: this.say('earlySays'), id: 'lesson-early' }),
-      button(this.say('undo'), () => app.store.undo()), button(this.say('again'), again),
+      button(this.say('undo'), () => app.store.undo(), { id: 'lesson-undo' }),
+      button(this.say('redo'), () => app.store.redo(), { id: 'lesson-redo' }), button(this.say('again'), again, { id: 'lesson-again' }),
       button(this.say('lessonTake'), () => this.take(instanceText(lesson))));
   }
 
@@ -142,12 +164,12 @@ export class LearnView {
     const { plan } = app.state, { german } = this.words(), schedule = plan ? scheduleText(plan.pieces, app.built) : '';
     const { outcome, values } = judge(lesson, { instance: app.built.text, verdict: app.verdict, schedule, evidence: why.evidence });
     const done = outcome === 'solved', said = say(outcome, german, ...values);
-    answer.hidden = !TOLD.includes(outcome);
+    answer.hidden = !TOLD.includes(outcome) || schedule === planText(lesson) && !why.evidence;
     answer.classList.toggle('fine', done);
     fill(answer, element('p', {}, said), ...(done ? [element('p', {}, textsOf(lesson, german).shows)] : []));
     if (!done || this.solved.has(lesson.id)) return;
     this.solved.add(lesson.id);
-    this.list();
+    this.list(lesson.id);
     this.tell(said);
   }
 }

@@ -40,7 +40,8 @@ const why = new WhyView(app, rows => {
   plan.chart.marked = rows;
   plan.chart.render();
 });
-const input = new InputView(app, examples, say, text => why.take(text)), steps = new StepsView(app, 'plan-steps');
+const steps = new StepsView(app, 'plan-steps');
+input.judge = text => why.take(text);
 const learn = new LearnView(byId('part-learn', HTMLElement), () => app.words, say, text => {
   const state = stateOfText(text);
   if (state) app.store.change(state);

@@ -63,7 +63,5 @@ export function lists(app, open) {
     const { heads, rows } = jobTable(app);
     return table(heads, rows);
   });
-  const pieces = unfolded(app.words.say('list'), open[1] || false, () => table(pieceHeads(app), pieceRows(app)));
-  pieces.classList.add('printed');
-  return [jobs, pieces];
+  return [jobs, unfolded(app.words.say('list'), open[1] || false, () => table(pieceHeads(app), pieceRows(app)))];
 }

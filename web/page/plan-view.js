@@ -5,7 +5,7 @@ import { ChartView } from './chart-view.js';
 import { button, part, refill } from './controls.js';
 import { early } from './own.js';
 import { files } from './plan-files.js';
-import { lists } from './plan-lists.js';
+import { lists, pieceHeads, pieceRows, table } from './plan-lists.js';
 import { verdictNodes } from './plan-words.js';
 import { Searching } from './searching.js';
 
@@ -28,7 +28,10 @@ export class PlanView {
     this.verdict = element('div', { class: 'verdict', role: 'status', 'aria-live': 'polite' });
     this.bars = element('div', { class: 'buttons' });
     this.below = element('div', {});
+    /** What is on paper alone: the class, and the list, however it is folded. */
+    this.printed = element('div', { class: 'printed' });
     this.shown = '';
+    window.addEventListener('beforeprint', () => this.print());
   }
 
   /** @param {string} key
@@ -76,8 +79,14 @@ export class PlanView {
   build() {
     this.shown = this.app.words.language;
     const keys = element('p', { class: 'quiet keys' }, this.say('keys'));
-    const made = part('the-plan', this.say('thePlan'), this.bars, this.verdict, this.chart.root, keys, this.below);
+    const made = part('the-plan', this.say('thePlan'), this.bars, this.verdict, this.chart.root, keys, this.below, this.printed);
     fill(this.root, ...Array.from(made.childNodes));
+  }
+
+  /** Puts the list on the paper. */
+  print() {
+    const { app } = this, has = app.state.plan && app.built.text, title = `${app.name}, ${this.say('list')}`;
+    fill(this.printed, ...(has ? [element('h3', {}, title), table(pieceHeads(app), pieceRows(app))] : []));
   }
 
   /** The id of what has the focus in this part. */

@@ -183,12 +183,15 @@ export class WhyView {
       this.render();
     });
     const bound = line(`${this.prefix}-bound`, this.bound, it => { this.bound = it; }, { inputmode: 'decimal' });
-    const head = this.ownOnly ? '' : element('h3', {}, this.say('ownBound'));
-    return [head, element('div', { class: 'fields' }, field(this.say('evidenceKind'), kind),
+    const form = [element('div', { class: 'fields' }, field(this.say('evidenceKind'), kind),
       this.kind === 'text' ? '' : field(this.say('boundField'), bound)), this.evidenceField(),
       element('p', { class: 'buttons' }, button(this.say('boundJudge'), () => this.judge(), { id: `${this.prefix}-judge` })),
       element('p', { id: `${this.prefix}-accepted`, class: this.accepted ? 'fine' : 'faulty', role: 'status', hidden: this.judged ? null : '' },
         this.judged)];
+    if (this.ownOnly) return form;
+    const made = folded(this.say('ownBound'), ...form);
+    made.classList.add('own-bound');
+    return [made];
   }
 
   render() {
@@ -200,10 +203,13 @@ export class WhyView {
     if (text !== JSON.parse(this.shape || '[0,""]')[1]) this.judged = '';
     this.shape = shape;
     const { activeElement } = document, focus = activeElement && this.root.contains(activeElement) ? activeElement.id : '';
-    const open = Array.from(this.root.querySelectorAll('details'), it => it.open);
+    const open = Array.from(this.root.querySelectorAll('details[open]'), it => it.className);
     const made = part(this.prefix, this.say(this.ownOnly ? 'ownBound' : 'why'), ...this.certificate(), ...this.form());
     fill(this.root, ...Array.from(made.childNodes));
-    this.root.querySelectorAll('details').forEach((it, at) => { it.open = open[at] || false; });
+    this.root.classList.toggle('is-told', this.root.querySelector('#why-said') !== null);
+    this.root.querySelectorAll('details').forEach(it => {
+      it.open = open.includes(it.className) || it.classList.contains('own-bound') && this.judged !== '';
+    });
     const again = document.getElementById(focus === 'why-ask' ? 'why-said' : focus);
     if (again) again.focus();
   }
