@@ -41,7 +41,7 @@ const why = new WhyView(app, rows => {
   plan.chart.render();
 });
 const steps = new StepsView(app, 'plan-steps');
-input.judge = text => why.take(text);
+input.judge = (/** @type {string} */ text) => { why.take(text); };
 const learn = new LearnView(byId('part-learn', HTMLElement), () => app.words, say, text => {
   const state = stateOfText(text);
   if (state) app.store.change(state);

@@ -79,8 +79,9 @@ export class StepsView {
 
   /** Says what steps hold, in the words of the page. */
   get speaker() {
-    const { app } = this, { mark, german } = app.words;
-    return new Speaker(german, job => app.jobName(app.built.jobs[job].row.id), it => app.machineName(it), it => shown(it, mark));
+    const { app } = this, { mark, german } = app.words, { machineNames } = app.problem;
+    return new Speaker(german, job => app.jobName(app.built.jobs[job].row.id), it => (machineNames[it - 1] || '').trim() || String(it),
+      it => shown(it, mark));
   }
 
   /**
