@@ -110,7 +110,7 @@ export class InputView {
   // Files and links
 
   /**
-   * Takes what a file has: a saved state, an instance with or without a certificate behind it, a certificate, or a list.
+   * Takes what a file has: a saved state, an instance with what stands behind it, a plan or a certificate of the instance here, or a list.
    * @param {string} name
    * @param {string} text
    */
@@ -119,9 +119,21 @@ export class InputView {
     if (state && !saved) state.problem.sheet = name.replace(/\.[^.]*$/, '');
     if (state) this.app.store.change(state);
     if (state || certificate) this.note(this.say('opened', name));
+    else if (scheduleIn(text)) this.takePlan(name, scheduleIn(text));
     else if (listOf(text)) this.takeList(text);
     else this.note(this.say('notOpened', name));
     if (certificate) this.judge(certificate);
+  }
+
+  /**
+   * Takes a plan of the jobs here, as solve and propose write one.
+   * @param {string} name
+   * @param {string} schedule
+   */
+  takePlan(name, schedule) {
+    const pieces = piecesIn(schedule, this.app.built), all = schedule.match(/^piece /gm), fits = all !== null && pieces.length === all.length;
+    if (fits) this.app.plan({ pieces, from: 'own' });
+    this.note(this.say(fits ? 'opened' : 'planOther', name));
   }
 
   /** @param {File} file */

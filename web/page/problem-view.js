@@ -4,7 +4,7 @@ import { element, fill } from '../elements.js';
 import { changed, NAMES, partsOf, PARTS, rankOf, VALUES } from '../names.js';
 import { asked, near, read } from '../reading.js';
 import { fixedMachines, hasSpeeds } from './columns.js';
-import { button, choice, field, line, part } from './controls.js';
+import { button, choice, field, line, part, unfolded } from './controls.js';
 
 /** @typedef {import('./app.js').App} App */
 /** @typedef {import('../names.js').Part} Part */
@@ -68,6 +68,17 @@ export class ProblemView {
     return line;
   }
 
+  /** The classes with a solver that are other in one part alone. */
+  solvedNear() {
+    const { app } = this, { atlas } = app, { parts } = app.problem;
+    const those = PARTS.flatMap(which => VALUES[which].filter(it => it !== parts[which]).map(it => ({ which, it, rank: changed(parts, which, it) })));
+    const found = those.filter(({ rank }) => atlas && rank >= 0 && atlas.solver(rank) !== null);
+    if (!found.length) return '';
+    return unfolded(this.say('nearSolved', String(found.length)), false, () => element('ul', { class: 'near-solved' },
+      ...found.map(({ which, it, rank }) => element('li', {}, button(NAMES[rank], () => this.take(rank), { class: 'near' }), ' ',
+        `${this.say(which === 'short' ? 'shortAsks' : which)} ${this.said(which, it)}`))));
+  }
+
   /** @param {Part} which */
   picker(which) {
     const { parts } = this.app.problem, values = VALUES[which].filter(it => changed(parts, which, it) >= 0 || it === parts[which]);
@@ -117,7 +128,7 @@ export class ProblemView {
     const { app } = this, focus = document.activeElement instanceof HTMLElement ? document.activeElement.id : '';
     const input = line('class-name', this.typed || app.name, it => this.read(it), { class: 'name', 'aria-describedby': 'class-hint' });
     const hint = element('span', { id: 'class-hint', class: 'quiet' }, this.say('classHint'));
-    const made = part('problem', this.say('problem'), field(this.say('className'), input, hint), ...this.notes(), this.known(),
+    const made = part('problem', this.say('problem'), field(this.say('className'), input, hint), ...this.notes(), this.known(), this.solvedNear(),
       element('div', { class: 'fields' }, ...PARTS.map(it => this.picker(it))), this.machines());
     fill(this.root, ...Array.from(made.childNodes));
     const again = focus && this.root.querySelector(`#${CSS.escape(focus)}`);

@@ -3,6 +3,18 @@
 /** @typedef {'en' | 'de'} Language */
 /** @typedef {Object<string, [string, string]>} Table */
 
+/** Signs of scripts from right to left, and those that turn what stands behind them. */
+const TURNING = /[\u0590-\u08ff\u200e\u200f\u202a-\u202e\u2066-\u2069\ufb1d-\ufdff\ufe70-\ufefc]/, TURNS = /[\u200e\u200f\u202a-\u202e]/g;
+
+/**
+ * A value as it stands in a sentence: it turns nothing of what stands around it.
+ * @param {string | number} value
+ */
+function apart(value) {
+  const text = String(value);
+  return TURNING.test(text) ? `\u2068${text.replace(TURNS, '')}\u2069` : text;
+}
+
 /** The words of a language. */
 export class Words {
   /**
@@ -32,6 +44,6 @@ export class Words {
    */
   say(key, ...values) {
     if (!this.has(key)) throw new Error(`there are no words for ${key}`);
-    return this.table[key][this.german ? 1 : 0].replace(/\{(\d)\}/g, (_, at) => String(values[Number(at)]));
+    return this.table[key][this.german ? 1 : 0].replace(/\{(\d)\}/g, (_, at) => apart(values[Number(at)]));
   }
 }
