@@ -146,14 +146,14 @@
   const last = () => page.app.state.plan.pieces.reduce((/** @type {number} */ most, /** @type {any} */ it, /** @type {number} */ at,
     /** @type {any[]} */ all) => it.from.n * all[most].from.d > all[most].from.n * it.from.d ? at : most, 0);
   /**
-   * The middle of a bar, as the pointer finds it.
+   * A place near the end of a bar, as the pointer finds it.
    * @param {number} piece
    */
-  const middle = piece => {
+  const grip = piece => {
     const bar = /** @type {SVGElement} */ (document.querySelector(`.chart [data-at="${piece}"]`));
     bar.scrollIntoView({ block: 'center', inline: 'center' });
     const { left, top, width, height } = bar.getBoundingClientRect();
-    return [left + width / 2, top + height / 2];
+    return [left + width * 0.9, top + height / 2];
   };
   /** Draws the whole chart anew. */
   const redraw = () => {
@@ -173,7 +173,7 @@
     document.body.getBoundingClientRect();
     return performance.now() - began;
   };
-  Object.assign(window.trial, { drag, timed, last, middle, redraw, judgedAfter, link: () => page.input.word(), saved: () => page.input.saved(),
+  Object.assign(window.trial, { drag, timed, last, grip, redraw, judgedAfter, link: () => page.input.word(), saved: () => page.input.saved(),
     takeFile: (/** @type {string} */ name, /** @type {string} */ text) => page.input.take(name, text) });
 })();
 
@@ -292,7 +292,8 @@
   /** Controls that the keyboard does not reach, or not in the order of the page. */
   const unreached = () => [...each('[role=button]').filter(it => !it.hasAttribute('tabindex')),
     ...each('[tabindex]').filter(it => Number(it.getAttribute('tabindex')) > 0),
-    ...each('svg.chart[role=group]').filter(isShown).filter(it => it.querySelectorAll('[tabindex="0"]').length !== 1)].map(it => `not reached: ${it.outerHTML.slice(0, 80)}`);
+    ...each('svg.chart[role=group]').filter(isShown).filter(it => it.querySelectorAll('[tabindex="0"]').length !== 1)]
+    .map(it => `not reached: ${it.outerHTML.slice(0, 80)}`);
   /** @param {string} language */
   const roles = language => [...lost(), ...twice(), ...skipped(), ...unreached(),
     ...each('main, h1').filter(isShown).length === 2 ? [] : ['one main part with one heading'],
