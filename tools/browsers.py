@@ -37,11 +37,12 @@ class Failed(Exception):
 
 @dataclass(frozen=True)
 class Screen:
-    """The window of a page, and what the system asks for: dark colours, no motion."""
+    """The window of a page, and what the system asks for: dark colours, no motion, a language."""
     width: int = 1280
     height: int = 900
     dark: bool = False
     still: bool = False
+    language: str = "en-GB"
 
 
 class Browser(Protocol):
@@ -108,7 +109,8 @@ class Chromium:
         self.selenium, self.saved = library("selenium.webdriver"), saved_in(folder)
         options = self.selenium.ChromeOptions()
         options.binary_location = needed("chromium")
-        for word in ("--headless=new", "--no-sandbox", "--disable-dev-shm-usage", "--disable-gpu", f"--user-data-dir={folder}/profile"):
+        for word in ("--headless=new", "--no-sandbox", "--disable-dev-shm-usage", "--disable-gpu", f"--user-data-dir={folder}/profile",
+                     f"--accept-lang={screen.language}"):
             options.add_argument(word)
         service = library("selenium.webdriver.chrome.service").Service(needed("chromedriver"), env=environment(folder))
         with driven():
@@ -248,6 +250,7 @@ class Firefox:
             "browser.download.dir": str(self.saved),
             "browser.download.always_ask_before_handling_new_types": False,
             "ui.prefersReducedMotion": 1 if screen.still else 0,
+            "intl.accept_languages": screen.language,
         }.items()), encoding="utf-8")
         words = [needed("firefox-esr"), "--headless", "--no-remote", "--profile", str(profile), "--remote-debugging-port=0", "about:blank"]
         self.ending = contextlib.ExitStack()

@@ -225,6 +225,22 @@
   Object.assign(window.trial, { given, png, isXml });
 })();
 
+// Files that are dropped.
+(() => {
+  /**
+   * Drops a file on the page.
+   * @param {string} name
+   * @param {string} text
+   */
+  const drop = (name, text) => {
+    const data = new DataTransfer(), event = new DragEvent('drop', { bubbles: true, cancelable: true, dataTransfer: data });
+    data.items.add(new File([text], name));
+    if (!event.dataTransfer || !event.dataTransfer.files.length) Object.defineProperty(event, 'dataTransfer', { value: data });
+    document.body.dispatchEvent(event);
+  };
+  Object.assign(window.trial, { drop });
+})();
+
 // Controls and scripts.
 (() => {
   const nameless = () => Array.from(document.querySelectorAll('button, input, select, textarea, [role=button]'))
