@@ -93,7 +93,7 @@
    * @param {string} key
    */
   const faultAt = (row, key) => {
-    const place = row ? document.querySelector(`td[data-row="${row}"][data-key="${key}"]`) : (document.getElementById(key) || document.body).parentElement;
+    const name = row ? `td[data-row="${row}"][data-key="${key}"]` : `.field:has(#${key})`, place = document.querySelector(name);
     const field = place && place.querySelector('[aria-invalid=true]'), said = place && place.querySelector('.fault');
     return field && said ? said.textContent : '';
   };
