@@ -261,6 +261,7 @@ export class ChartView {
       bar.classList.add('dragged');
     };
     const end = (/** @type {PointerEvent} */ now) => {
+      if (now.type === 'pointerup') follow(now);
       bar.removeEventListener('pointermove', follow);
       bar.removeEventListener('pointerup', end);
       bar.removeEventListener('pointercancel', end);
