@@ -308,8 +308,8 @@ class Firefox:
 
     def print(self, file: Path) -> None:
         """Writes what the page prints."""
-        page = {"width": 29.7, "height": 21.0}
-        told = self.channel.ask("browsingContext.print", context=self.context, page=page, margin={side: 1.2 for side in ("top", "bottom", "left", "right")})
+        page, margin = {"width": 29.7, "height": 21.0}, {side: 1.2 for side in ("top", "bottom", "left", "right")}
+        told = self.channel.ask("browsingContext.print", context=self.context, page=page, margin=margin)
         file.write_bytes(base64.b64decode(told["data"]))
 
     def slow(self, _: int) -> bool:
