@@ -1,5 +1,5 @@
 // The chart in the page: bars that are dragged, or moved by the keyboard.
-import { element, fill } from '../elements.js';
+import { element, fill, shape } from '../elements.js';
 import { BAR, chartOf, LINE, noteOf, TOP } from './chart.js';
 import { barShape, drawn } from './drawing.js';
 import { compare, fraction, minus, near, plus, ZERO } from '../fractions.js';
@@ -11,7 +11,9 @@ import { momentText } from './clock.js';
 /** @typedef {import('./schedule.js').Piece} Piece */
 /** @typedef {import('./chart.js').Chart} Chart */
 
-const MOST = 4000, REACH = 8;
+/** How many pieces are drawn: 400 jobs on 32 machines of a shop. */
+const MOST = 12800;
+const REACH = 8;
 
 /** The chart of the plan. */
 export class ChartView {
@@ -41,6 +43,7 @@ export class ChartView {
     this.drawnOf = [];
     this.root.addEventListener('keydown', event => this.key(event));
     this.root.addEventListener('pointerdown', event => this.drag(event));
+    this.root.addEventListener('pointerover', event => this.hint(event));
     this.root.addEventListener('focusin', event => {
       const bar = event.target instanceof Element ? event.target.closest('[data-at]') : null;
       if (bar) this.current = Number(bar.getAttribute('data-at'));
@@ -115,9 +118,15 @@ export class ChartView {
     bar.setAttribute('aria-label', text);
     bar.setAttribute('aria-pressed', String(this.held !== null && at === this.current));
     bar.setAttribute('tabindex', at === this.current ? '0' : '-1');
-    const title = document.createElementNS('http://www.w3.org/2000/svg', 'title');
-    title.textContent = text;
-    bar.prepend(title);
+  }
+
+  /**
+   * Shows what a bar says of itself where the pointer is.
+   * @param {Event} event
+   */
+  hint({ target }) {
+    const bar = target instanceof Element ? target.closest('[data-at]') : null;
+    if (bar && !bar.querySelector('title')) bar.prepend(shape('title', {}, bar.getAttribute('aria-label') || ''));
   }
 
   /** Puts the focus on the current bar. */
