@@ -254,34 +254,36 @@ export class ChartView {
   // The pointer
 
   /**
-   * A bar follows the pointer until it is dropped.
+   * A bar follows the pointer until it is dropped. A pointer that is fast leaves the bar, so the whole page is listened to.
    * @param {PointerEvent} event
    */
   drag(event) {
     const bar = event.target instanceof Element ? event.target.closest('[data-at]') : null, { chart } = this;
     if (!(bar instanceof SVGElement) || !chart || event.button !== 0 || this.held) return;
     const at = Number(bar.getAttribute('data-at')), lines = hasChoice(this.app.built) && !this.byJob;
+    // (large letters stretch the chart)
+    const { ownerSVGElement: svg } = bar, stretch = svg && svg.getBoundingClientRect().width / chart.width || 1;
     let far = { x: 0, y: 0 };
     this.current = at;
     bar.setPointerCapture(event.pointerId);
     const follow = (/** @type {PointerEvent} */ now) => {
-      far = { x: now.clientX - event.clientX, y: lines ? now.clientY - event.clientY : 0 };
+      far = { x: (now.clientX - event.clientX) / stretch, y: lines ? (now.clientY - event.clientY) / stretch : 0 };
       bar.setAttribute('transform', `translate(${far.x} ${far.y})`);
       bar.classList.add('dragged');
     };
     const end = (/** @type {PointerEvent} */ now) => {
       if (now.type === 'pointerup') follow(now);
-      bar.removeEventListener('pointermove', follow);
-      bar.removeEventListener('pointerup', end);
-      bar.removeEventListener('pointercancel', end);
+      window.removeEventListener('pointermove', follow);
+      window.removeEventListener('pointerup', end);
+      window.removeEventListener('pointercancel', end);
       bar.classList.remove('dragged');
       bar.removeAttribute('transform');
       if (now.type === 'pointerup' && Math.abs(far.x) + Math.abs(far.y) > 3) this.dropped(chart, at, far);
       else this.focus();
     };
-    bar.addEventListener('pointermove', follow);
-    bar.addEventListener('pointerup', end);
-    bar.addEventListener('pointercancel', end);
+    window.addEventListener('pointermove', follow);
+    window.addEventListener('pointerup', end);
+    window.addEventListener('pointercancel', end);
   }
 
   /**
