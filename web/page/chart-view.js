@@ -1,7 +1,7 @@
 // The chart in the page: bars that are dragged, or moved by the keyboard.
 import { element, fill, shape } from '../elements.js';
-import { BAR, chartOf, LINE, noteOf, TOP } from './chart.js';
-import { barShape, drawn } from './drawing.js';
+import { BAR, chartOf, hasFrame, isBar, LINE, noteOf, TOP } from './chart.js';
+import { barShape, drawn, markShape } from './drawing.js';
 import { compare, fraction, minus, near, plus, ZERO } from '../fractions.js';
 import { hasChoice, moved, snapped, split } from './own.js';
 import { brokenPieces } from './verdicts.js';
@@ -38,9 +38,11 @@ export class ChartView {
     this.marked = new Set();
     /** @type {Chart | null} */
     this.chart = null;
-    /** What the chart was drawn of: where it is the same again, only bars that break a condition are drawn anew.
+    /** What the chart was drawn of: where it is the same again, only bars and marks that are others are drawn anew.
      * @type {unknown[]} */
     this.drawnOf = [];
+    /** The place of the current bar, as it was drawn. */
+    this.drawnAt = 0;
     this.root.addEventListener('keydown', event => this.key(event));
     this.root.addEventListener('pointerdown', event => this.drag(event));
     this.root.addEventListener('pointerover', event => this.hint(event));
@@ -73,34 +75,37 @@ export class ChartView {
       fill(this.root, element('p', { class: 'quiet' }, this.app.words.say(pieces.length ? 'tooLong' : 'noPlan')));
       return;
     }
-    const wanted = this.wanted(), hadFocus = this.root.contains(document.activeElement), before = this.chart;
-    const drawnOf = [pieces, wanted.built, wanted.clock, this.app.problem, this.app.words, wanted.width, this.byJob, this.held, ...wanted.marked];
-    const isSame = before !== null && drawnOf.length === this.drawnOf.length && drawnOf.every((it, at) => it === this.drawnOf[at]);
-    this.chart = chartOf(wanted);
-    this.drawnOf = drawnOf;
+    const wanted = this.wanted(), hadFocus = this.root.contains(document.activeElement), before = this.chart, now = chartOf(wanted);
+    const drawnOf = [wanted.built, wanted.clock, this.app.problem, this.app.words, wanted.width, this.byJob];
+    const isSame = drawnOf.every((it, at) => it === this.drawnOf[at]);
     this.current = Math.min(this.current, pieces.length - 1);
-    if (before && isSame) this.again(before, this.chart, wanted);
+    if (before && isSame && hasFrame(before, now)) this.again(before, now, wanted);
     else {
-      const svg = drawn(this.chart, this.title);
+      const svg = drawn(now, this.title);
       svg.querySelectorAll('.bar').forEach(bar => this.name(bar, wanted));
       fill(this.root, svg);
     }
+    [this.chart, this.drawnOf, this.drawnAt] = [now, drawnOf, this.current];
     if (hadFocus) this.focus();
   }
 
   /**
-   * Draws the bars anew that came to break a condition, or break none any more.
+   * Draws what is another than before: bars and marks.
    * @param {Chart} before
    * @param {Chart} now
    * @param {import('./chart.js').Wanted} wanted
    */
   again(before, now, wanted) {
-    const broken = new Map(before.bars.map(it => [it.at, it.broken]));
-    for (const bar of now.bars.filter(it => broken.get(it.at) !== it.broken)) {
+    now.bars.forEach((bar, place) => {
+      if (bar.at !== this.current && bar.at !== this.drawnAt && isBar(before.bars[place], bar)) return;
       const old = this.root.querySelector(`[data-at="${bar.at}"]`), made = barShape(bar);
       this.name(made, wanted);
       if (old) old.replaceWith(made);
-    }
+    });
+    const svg = this.root.querySelector('svg');
+    if (!svg || JSON.stringify(before.marks) === JSON.stringify(now.marks)) return;
+    svg.querySelectorAll('path.due, path.release').forEach(it => it.remove());
+    svg.append(...now.marks.map(markShape));
   }
 
   /**

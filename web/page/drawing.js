@@ -29,7 +29,7 @@ export function barShape(bar) {
  * The mark of a due date, or of a release date.
  * @param {Mark} mark
  */
-function markShape({ kind, x, y, late, short }) {
+export function markShape({ kind, x, y, late, short }) {
   const colour = late ? '#a11d27' : '#2c5b34', top = y + 2, foot = y + LINE - 2;
   if (kind === 'release') {
     const d = `M${x} ${top}V${foot}M${x} ${y + LINE / 2}l6 0`;
