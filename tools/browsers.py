@@ -65,6 +65,9 @@ class Browser(Protocol):
     def picture(self, file: Path) -> None:
         """Writes what is seen, as a PNG."""
 
+    def print(self, file: Path) -> None:
+        """Writes what the page prints, as a PDF."""
+
     def slow(self, times: int) -> bool:
         """Slows the processor for all pages from now on; whether the browser can do that."""
 
@@ -166,6 +169,11 @@ class Chromium:
     def picture(self, file: Path) -> None:
         """Writes what is seen."""
         file.write_bytes(self.driver.get_screenshot_as_png())
+
+    @driven()
+    def print(self, file: Path) -> None:
+        """Writes what the page prints."""
+        file.write_bytes(base64.b64decode(self.driver.execute_cdp_cmd("Page.printToPDF", {"preferCSSPageSize": True})["data"]))
 
     @driven()
     def slow(self, times: int) -> bool:
@@ -305,6 +313,12 @@ class Firefox:
     def picture(self, file: Path) -> None:
         """Writes what is seen."""
         file.write_bytes(base64.b64decode(self.channel.ask("browsingContext.captureScreenshot", context=self.context)["data"]))
+
+    def print(self, file: Path) -> None:
+        """Writes what the page prints."""
+        page, margin = {"width": 29.7, "height": 21.0}, {side: 1.2 for side in ("top", "bottom", "left", "right")}
+        told = self.channel.ask("browsingContext.print", context=self.context, page=page, margin=margin)
+        file.write_bytes(base64.b64decode(told["data"]))
 
     def slow(self, _: int) -> bool:
         """Firefox has no word for it."""

@@ -38,6 +38,9 @@ export class App {
     this.atlas = null;
     this.clock = clockOf(state.problem);
     this.built = built(state.problem, this.clock);
+    /** The text of a plan, which is long.
+     * @type {{plan: State['plan'], of: Built | null, text: string}} */
+    this.written = { plan: null, of: null, text: '' };
     /** The names of the jobs of a problem, by their rows.
      * @type {{of: Problem | null, names: Map<number, string>}} */
     this.called = { of: null, names: new Map() };
@@ -136,8 +139,10 @@ export class App {
 
   /** The text of the instance with the plan behind it; empty where there is none, or the instance has faults. */
   planText() {
-    const { plan } = this.state;
-    return plan && this.built.text ? this.built.text + scheduleText(plan.pieces, this.built) : '';
+    const { state: { plan }, built: of, written } = this;
+    if (!plan || !of.text) return '';
+    if (written.plan !== plan || written.of !== of) this.written = { plan, of, text: of.text + scheduleText(plan.pieces, of) };
+    return this.written.text;
   }
 
   /** Asks the program what is wrong with the instance, and whether the plan goes; in the background for the best cost beside it. */

@@ -1,7 +1,7 @@
 // The chart in the page: bars that are dragged, or moved by the keyboard.
-import { element, fill } from '../elements.js';
-import { BAR, chartOf, LINE, noteOf, TOP } from './chart.js';
-import { barShape, drawn } from './drawing.js';
+import { element, fill, shape } from '../elements.js';
+import { BAR, chartOf, hasFrame, isBar, LINE, noteOf, TOP } from './chart.js';
+import { barShape, drawn, markShape } from './drawing.js';
 import { compare, fraction, minus, near, plus, ZERO } from '../fractions.js';
 import { hasChoice, moved, snapped, split } from './own.js';
 import { brokenPieces } from './verdicts.js';
@@ -11,7 +11,9 @@ import { momentText } from './clock.js';
 /** @typedef {import('./schedule.js').Piece} Piece */
 /** @typedef {import('./chart.js').Chart} Chart */
 
-const MOST = 4000, REACH = 8;
+/** How many pieces are drawn: 400 jobs on 32 machines of a shop. */
+const MOST = 12800;
+const REACH = 8;
 
 /** The chart of the plan. */
 export class ChartView {
@@ -36,11 +38,14 @@ export class ChartView {
     this.marked = new Set();
     /** @type {Chart | null} */
     this.chart = null;
-    /** What the chart was drawn of: where it is the same again, only bars that break a condition are drawn anew.
+    /** What the chart was drawn of: where it is the same again, only bars and marks that are others are drawn anew.
      * @type {unknown[]} */
     this.drawnOf = [];
+    /** The place of the current bar, as it was drawn. */
+    this.drawnAt = 0;
     this.root.addEventListener('keydown', event => this.key(event));
     this.root.addEventListener('pointerdown', event => this.drag(event));
+    this.root.addEventListener('pointerover', event => this.hint(event));
     this.root.addEventListener('focusin', event => {
       const bar = event.target instanceof Element ? event.target.closest('[data-at]') : null;
       if (bar) this.current = Number(bar.getAttribute('data-at'));
@@ -70,34 +75,37 @@ export class ChartView {
       fill(this.root, element('p', { class: 'quiet' }, this.app.words.say(pieces.length ? 'tooLong' : 'noPlan')));
       return;
     }
-    const wanted = this.wanted(), hadFocus = this.root.contains(document.activeElement), before = this.chart;
-    const drawnOf = [pieces, wanted.built, wanted.clock, this.app.problem, this.app.words, wanted.width, this.byJob, this.held, ...wanted.marked];
-    const isSame = before !== null && drawnOf.length === this.drawnOf.length && drawnOf.every((it, at) => it === this.drawnOf[at]);
-    this.chart = chartOf(wanted);
-    this.drawnOf = drawnOf;
+    const wanted = this.wanted(), hadFocus = this.root.contains(document.activeElement), before = this.chart, now = chartOf(wanted);
+    const drawnOf = [wanted.built, wanted.clock, this.app.problem, this.app.words, wanted.width, this.byJob];
+    const isSame = drawnOf.every((it, at) => it === this.drawnOf[at]);
     this.current = Math.min(this.current, pieces.length - 1);
-    if (before && isSame) this.again(before, this.chart, wanted);
+    if (before && isSame && hasFrame(before, now)) this.again(before, now, wanted);
     else {
-      const svg = drawn(this.chart, this.title);
+      const svg = drawn(now, this.title);
       svg.querySelectorAll('.bar').forEach(bar => this.name(bar, wanted));
       fill(this.root, svg);
     }
+    [this.chart, this.drawnOf, this.drawnAt] = [now, drawnOf, this.current];
     if (hadFocus) this.focus();
   }
 
   /**
-   * Draws the bars anew that came to break a condition, or break none any more.
+   * Draws what is another than before: bars and marks.
    * @param {Chart} before
    * @param {Chart} now
    * @param {import('./chart.js').Wanted} wanted
    */
   again(before, now, wanted) {
-    const broken = new Map(before.bars.map(it => [it.at, it.broken]));
-    for (const bar of now.bars.filter(it => broken.get(it.at) !== it.broken)) {
+    now.bars.forEach((bar, place) => {
+      if (bar.at !== this.current && bar.at !== this.drawnAt && isBar(before.bars[place], bar)) return;
       const old = this.root.querySelector(`[data-at="${bar.at}"]`), made = barShape(bar);
       this.name(made, wanted);
       if (old) old.replaceWith(made);
-    }
+    });
+    const svg = this.root.querySelector('svg');
+    if (!svg || JSON.stringify(before.marks) === JSON.stringify(now.marks)) return;
+    svg.querySelectorAll('path.due, path.release').forEach(it => it.remove());
+    svg.append(...now.marks.map(markShape));
   }
 
   /**
@@ -115,9 +123,15 @@ export class ChartView {
     bar.setAttribute('aria-label', text);
     bar.setAttribute('aria-pressed', String(this.held !== null && at === this.current));
     bar.setAttribute('tabindex', at === this.current ? '0' : '-1');
-    const title = document.createElementNS('http://www.w3.org/2000/svg', 'title');
-    title.textContent = text;
-    bar.prepend(title);
+  }
+
+  /**
+   * Shows what a bar says of itself where the pointer is.
+   * @param {Event} event
+   */
+  hint({ target }) {
+    const bar = target instanceof Element ? target.closest('[data-at]') : null;
+    if (bar && !bar.querySelector('title')) bar.prepend(shape('title', {}, bar.getAttribute('aria-label') || ''));
   }
 
   /** Puts the focus on the current bar. */
@@ -245,33 +259,36 @@ export class ChartView {
   // The pointer
 
   /**
-   * A bar follows the pointer until it is dropped.
+   * A bar follows the pointer until it is dropped. A pointer that is fast leaves the bar, so the whole page is listened to.
    * @param {PointerEvent} event
    */
   drag(event) {
     const bar = event.target instanceof Element ? event.target.closest('[data-at]') : null, { chart } = this;
     if (!(bar instanceof SVGElement) || !chart || event.button !== 0 || this.held) return;
     const at = Number(bar.getAttribute('data-at')), lines = hasChoice(this.app.built) && !this.byJob;
+    // (large letters stretch the chart)
+    const { ownerSVGElement: svg } = bar, stretch = svg && svg.getBoundingClientRect().width / chart.width || 1;
     let far = { x: 0, y: 0 };
     this.current = at;
     bar.setPointerCapture(event.pointerId);
     const follow = (/** @type {PointerEvent} */ now) => {
-      far = { x: now.clientX - event.clientX, y: lines ? now.clientY - event.clientY : 0 };
+      far = { x: (now.clientX - event.clientX) / stretch, y: lines ? (now.clientY - event.clientY) / stretch : 0 };
       bar.setAttribute('transform', `translate(${far.x} ${far.y})`);
       bar.classList.add('dragged');
     };
     const end = (/** @type {PointerEvent} */ now) => {
-      bar.removeEventListener('pointermove', follow);
-      bar.removeEventListener('pointerup', end);
-      bar.removeEventListener('pointercancel', end);
+      if (now.type === 'pointerup') follow(now);
+      window.removeEventListener('pointermove', follow);
+      window.removeEventListener('pointerup', end);
+      window.removeEventListener('pointercancel', end);
       bar.classList.remove('dragged');
       bar.removeAttribute('transform');
       if (now.type === 'pointerup' && Math.abs(far.x) + Math.abs(far.y) > 3) this.dropped(chart, at, far);
       else this.focus();
     };
-    bar.addEventListener('pointermove', follow);
-    bar.addEventListener('pointerup', end);
-    bar.addEventListener('pointercancel', end);
+    window.addEventListener('pointermove', follow);
+    window.addEventListener('pointerup', end);
+    window.addEventListener('pointercancel', end);
   }
 
   /**

@@ -197,6 +197,26 @@ export function chartOf(wanted) {
 }
 
 /**
+ * Whether charts have the same lines, the same axis, and bars of the same pieces.
+ * @param {Chart} one
+ * @param {Chart} other
+ */
+export function hasFrame(one, other) {
+  const frame = (/** @type {Chart} */ { width, height, left, scale, lines, ticks }) => JSON.stringify([width, height, left, scale, lines, ticks]);
+  return one.bars.length === other.bars.length && one.bars.every((it, at) => it.at === other.bars[at].at) && frame(one) === frame(other);
+}
+
+/**
+ * Whether two bars are drawn alike.
+ * @param {Bar} one
+ * @param {Bar} other
+ */
+export function isBar(one, other) {
+  return one.x === other.x && one.y === other.y && one.width === other.width && one.label === other.label && one.colour === other.colour
+    && one.late === other.late && one.broken === other.broken && one.marked === other.marked;
+}
+
+/**
  * What a piece says of itself, for a pointer and for readers of screens.
  * @param {Piece} piece
  * @param {Wanted} wanted

@@ -21,15 +21,15 @@ export function barShape(bar) {
   const edge = broken || bar.late ? '#a11d27' : bar.marked ? '#1c232e' : '#5b6675';
   const rect = shape('rect', { x, y, width, height: BAR, rx: 3, fill: broken ? 'url(#broken-stripes)' : FILLS[bar.colour], stroke: edge,
     'stroke-width': broken || bar.marked ? 3 : bar.late ? 2 : 1 });
-  const text = shape('text', { x: x + width / 2, y: y + BAR / 2 + 4.5, 'text-anchor': 'middle', fill: '#1c232e', class: 'label' }, bar.label);
-  return shape('g', { class: classes, 'data-at': bar.at }, rect, text);
+  const how = { x: x + width / 2, y: y + BAR / 2 + 4.5, 'text-anchor': 'middle', fill: '#1c232e', class: 'label' };
+  return shape('g', { class: classes, 'data-at': bar.at }, rect, ...(bar.label ? [shape('text', how, bar.label)] : []));
 }
 
 /**
  * The mark of a due date, or of a release date.
  * @param {Mark} mark
  */
-function markShape({ kind, x, y, late, short }) {
+export function markShape({ kind, x, y, late, short }) {
   const colour = late ? '#a11d27' : '#2c5b34', top = y + 2, foot = y + LINE - 2;
   if (kind === 'release') {
     const d = `M${x} ${top}V${foot}M${x} ${y + LINE / 2}l6 0`;

@@ -46,7 +46,7 @@ export class InputView {
     this.examples = examples;
     this.tell = say;
     this.table = new TableView(app, text => this.takeList(text));
-    this.tools = element('section', { id: 'source', 'aria-labelledby': 'source-head' });
+    this.tools = element('section', { id: 'source' });
     this.root = element('section', { id: 'jobs', 'aria-labelledby': 'jobs-head' });
     this.notes = element('div', { class: 'notes', role: 'status' });
     this.history = new History(app, text => {
@@ -247,6 +247,7 @@ export class InputView {
       element('p', { class: 'buttons' }, add, fresh), this.arcs.root,
       folded(this.say('clock'), element('p', { class: 'quiet' }, this.say('clockSays')), this.clock), this.shop.root);
     fill(this.root, ...Array.from(made.childNodes));
+    this.tools.setAttribute('aria-label', this.say('source'));
     fill(this.tools, field(this.say('example'), this.choices()), this.buttons());
   }
 

@@ -202,7 +202,8 @@ async function begin() {
   if (shop) input.note(app.words.say('shopBegins', input.shop.said(shop)));
   await route();
   prepare().catch(fault => {
-    app.said = app.words.say('failed', fault instanceof Error ? fault.message : String(fault));
+    const isOld = typeof DecompressionStream === 'undefined';
+    app.said = isOld ? app.words.say('tooOld') : app.words.say('failed', fault instanceof Error ? fault.message : String(fault));
     app.render();
   });
   if (!app.state.plan && !app.running) app.solve(true);
