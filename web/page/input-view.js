@@ -1,7 +1,7 @@
 // What brings a problem into the page, and what takes it out: examples, lists, files, links, dates.
 import { element, fill } from '../elements.js';
 import { ArcsView } from './arcs-view.js';
-import { button, choice, copied, field, folded, give, line, part } from './controls.js';
+import { button, choice, copied, field, folded, give, line, part, putValues } from './controls.js';
 import { DrawView } from './draw-view.js';
 import { pastedText } from './evidence.js';
 import { History } from './history.js';
@@ -212,7 +212,9 @@ export class InputView {
 
   renderClock() {
     const { problem } = this.app, set = (/** @type {string} */ key) => (/** @type {string} */ value) => this.app.change({ [key]: value });
-    const shape = JSON.stringify([this.app.words.language, { ...problem, rows: [] }, this.app.faults.filter(it => it.row === 0)]);
+    const { unit, start, shifts, holidays } = problem, faults = this.app.faults.filter(it => it.row === 0);
+    const shape = JSON.stringify([this.app.words.language, faults]);
+    putValues(this.clock, { unit, start, shifts, holidays });
     if (shape === this.shape) return;
     this.shape = shape;
     const focus = document.activeElement instanceof HTMLElement ? document.activeElement.id : '';
