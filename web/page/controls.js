@@ -130,6 +130,22 @@ export function putValues(root, values) {
 }
 
 /**
+ * Marks fields with a fault, and says it behind them; what was marked before is not any more.
+ * @param {HTMLElement} root
+ * @param {{id: string, text: string}[]} faults by the ids of the fields
+ */
+export function markFaults(root, faults) {
+  root.querySelectorAll('.fault').forEach(it => it.remove());
+  root.querySelectorAll('[aria-invalid]').forEach(it => it.removeAttribute('aria-invalid'));
+  for (const { id, text } of faults) {
+    const control = root.querySelector(`#${CSS.escape(id)}`);
+    if (!control) continue;
+    control.setAttribute('aria-invalid', 'true');
+    control.after(element('span', { class: 'fault' }, text));
+  }
+}
+
+/**
  * Gives a file to the person.
  * @param {string} name
  * @param {Blob} content
