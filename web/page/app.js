@@ -53,6 +53,9 @@ export class App {
     this.judging = null;
     /** What was said last of a call that gave no plan. */
     this.said = '';
+    /** What is searched of instances in which something runs already, by their texts.
+     * @type {Map<string, import('./searching.js').Searched>} */
+    this.pinned = new Map();
     /** Whether the best cost is asked for, where it is not known that there is a solver. */
     this.asksBest = false;
     /** @type {(() => void)[]} */

@@ -300,7 +300,8 @@ class Builder {
   leftover() {
     const { given, taker, origin } = this, places = given.jobs.map((_, at) => at).filter(it => this.open(it).length);
     if (!places.length) return null;
-    const jobs = places.map(it => this.job(it)), to = new Map(places.map((it, at) => [it, at])), place = (/** @type {number} */ it) => to.get(it) || 0;
+    const jobs = places.map(it => this.job(it)), to = new Map(places.map((it, at) => [it, at]));
+    const place = (/** @type {number} */ it) => to.get(it) || 0;
     const arcs = given.arcs.filter(it => it.every(job => to.has(job))).map(([one, other]) =>
       /** @type {[number, number]} */ ([place(one), place(other)]));
     const parts = this.parts(jobs), machines = this.machines(), speeds = given.speeds.filter((_, at) => machines.has(at));
@@ -322,11 +323,11 @@ class Builder {
   order(machines, to) {
     const { taker, running } = this, isNext = (/** @type {number} */ job, /** @type {number} */ number) => to.has(job)
       && this.open(job).includes(number) && !running.some(it => it.job === job && it.number === number);
-    const next = (/** @type {number} */ job, /** @type {number} */ number, /** @type {number | undefined} */ machine) => ({ job: to.get(job) || 0,
-      number: kindOf(this.given.parts) === 'J' ? this.open(job).indexOf(number) + 1 : number, machine: machine === undefined ? null : machine });
+    const routed = kindOf(this.given.parts) === 'J', next = (/** @type {number} */ job, /** @type {number} */ number, machine = -1) => ({
+      job: to.get(job) || 0, number: routed ? this.open(job).indexOf(number) + 1 : number, machine: machine < 0 ? null : machine });
     const planned = taker.firsts.filter(it => isNext(it.job, it.number)).map(it => next(it.job, it.number, machines.get(it.machine)));
-    const others = [...to.keys()].flatMap(job => this.open(job).filter(it => !taker.pieces.has(keyOf(job, it))).map(it => next(job, it, undefined)));
-    return [...planned, ...others];
+    const isNew = (/** @type {number} */ job) => (/** @type {number} */ number) => !taker.pieces.has(keyOf(job, number));
+    return [...planned, ...[...to.keys()].flatMap(job => this.open(job).filter(isNew(job)).map(it => next(job, it)))];
   }
 }
 

@@ -54,7 +54,8 @@ export function restOf({ plain, origin, running, order }) {
   const begins = Array.from({ length: machines }, (_, at) => ends[running.findIndex(it => it.machine === at)] || base);
   const of = (/** @type {number} */ job) => running.findIndex(it => it.job === job);
   const jobs = plain.jobs.map((it, at) => of(at) < 0 ? general(it, plain) : without(general(it, plain), running[of(at)], routed));
-  const ended = (/** @type {number} */ job) => of(job) >= 0 && (!'OFJ'.includes(kind) || ![...jobs[job].p, ...jobs[job].route.map(it => it[1])].some(Boolean));
+  const isOver = (/** @type {PlainJob} */ it) => !'OFJ'.includes(kind) || ![...it.p, ...it.route.map(step => step[1])].some(Boolean);
+  const ended = (/** @type {number} */ job) => of(job) >= 0 && isOver(jobs[job]);
   const places = jobs.map((_, at) => at).filter(at => !ended(at)), to = new Map(places.map((it, at) => [it, at]));
   const place = (/** @type {number} */ it) => to.get(it) || 0;
   /** @type {Map<number, Fraction>} */
@@ -68,7 +69,8 @@ export function restOf({ plain, origin, running, order }) {
     else for (const [one, other] of plain.arcs) if (one === job) wait(other, ends[at]);
   });
   const arcs = plain.arcs.filter(it => it.every(job => to.has(job))).map(it => /** @type {[number, number]} */ (it.map(place)));
-  const shorter = places.map(it => Number(routed && of(it) >= 0)), rest = { ...plain, parts: { ...parts, times: '' }, jobs: places.map(it => jobs[it]), arcs };
+  const shorter = places.map(it => Number(routed && of(it) >= 0));
+  const rest = { ...plain, parts: { ...parts, times: '' }, jobs: places.map(it => jobs[it]), arcs };
   return { timed: timedOf(rest, { begins, later }), places, shorter,
     running: running.map((it, at) => ({ job: it.job, number: 'OF'.includes(kind) ? it.number : 1, machine: it.machine, start: base, end: ends[at] })),
     order: order.map(it => ({ ...it, job: place(it.job), number: it.number - shorter[place(it.job)] })) };

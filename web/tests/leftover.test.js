@@ -54,7 +54,8 @@ function told(left, given) {
   if (!rest.timed) throw new Error('too great');
   const words = left.told.map(({ code, job, machine, values }) => [code, ...(job < 0 ? [] : [given.jobs[job].name]),
     ...(machine < 0 ? [] : [String(machine + 1)]), ...values.map(it => typeof it === 'string' ? it : print(it))]);
-  return { text: plainText(plain), origin: Number(left.origin), running: left.running.map(it => [name(it.job), it.number, it.machine + 1, it.left].join(' ')).sort(),
+  const running = left.running.map(it => [name(it.job), it.number, it.machine + 1, it.left].join(' ')).sort();
+  return { text: plainText(plain), origin: Number(left.origin), running,
     order: left.order.map(it => [name(it.job), it.number, it.machine === null ? null : it.machine + 1]), told: words,
     goingOn: lines(whole(rest, carriedOn(rest.timed, rest.order)), plain) };
 }
@@ -71,12 +72,14 @@ function drawnPlan(name, draw) {
   if (!timed) throw new Error(text);
   const pieces = serial(timed, plain.jobs.map((_, at) => at)).map(({ start, end, ...it }) =>
     ({ ...it, start: fraction(start, timed.parts), end: fraction(end, timed.parts) })).flatMap(it => cutInTwo(it, plain, draw));
-  const unit = pieces.reduce((all, it) => all * it.end.d * it.start.d, 1n), at = (/** @type {import('../fractions.js').Fraction} */ it) => it.n * unit / it.d;
+  const unit = pieces.reduce((all, it) => all * it.end.d * it.start.d, 1n);
+  const at = (/** @type {import('../fractions.js').Fraction} */ it) => it.n * unit / it.d;
   const schedule = ['schedule', 'cost 0', `unit ${unit}`, ...pieces.map(it =>
     `piece ${plain.jobs[it.job].name} ${it.number} ${it.machine + 1} ${at(it.start)} ${at(it.end)}`), 'end', ''].join('\n');
   const now = draw.from(0, 25), fails = 'PQR'.includes(name[0]) && plain.machines > 1 && draw.from(0, 2) === 0;
   const failed = fails ? [draw.from(0, plain.machines - 1)] : [];
-  return { asked: [text, schedule, now, failed.map(it => it + 1)], told: told(leftOf(plain, pieces, { now: BigInt(now), failed, pins: false }), plain) };
+  const left = leftOf(plain, pieces, { now: BigInt(now), failed, pins: false });
+  return { asked: [text, schedule, now, failed.map(it => it + 1)], told: told(left, plain) };
 }
 
 test('what is left of a plan is what the companions say', { skip: noPython }, () => {
