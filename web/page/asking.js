@@ -39,7 +39,7 @@ import { carriedOn } from './timing.js';
  * @property {Span[]} spans the same pieces, in numbers of the search
  * @property {Rest} rest
  * @property {bigint} unit numbers of the search to a unit of the list
- * @property {{problem: Problem, pieces: Piece[]}} before
+ * @property {{problem: Problem, pieces: Piece[], rest: Rest | null}} before its own search, where time has gone by
  * @property {Told[]} told
  * @property {Built} asked the instance of the question, whose jobs `told` counts
  */
@@ -157,7 +157,7 @@ function spansOf(pieces, made, unit) {
  * @param {bigint} unit
  * @returns {Piece[]}
  */
-function piecesOf(spans, made, unit) {
+export function piecesOf(spans, made, unit) {
   const inUnits = (/** @type {Fraction} */ it) => over(it, fraction(unit));
   return spans.map(({ job, number, machine, start, end }) => ({ row: made.jobs[job].row.id, op: number, machine: machine + 1, from: inUnits(start),
     to: inUnits(end) }));
@@ -251,5 +251,5 @@ export function answered(question, problem, pieces, machineName, german) {
   const went = moves ? list(1) : changed, made = soundly(went), begin = goingOn(after, spans[1], rest, !failed.length);
   const was = moment > 0n ? list(0) : problem, beforePieces = moment > 0n ? piecesOf(clipped(before, spans[0]), soundly(was), unit) : pieces;
   return { problem: went, pieces: piecesOf(begin.spans, made, unit), spans: begin.spans, given: begin.given, rest,
-    unit, before: { problem: was, pieces: beforePieces }, told: after.told, asked };
+    unit, before: { problem: was, pieces: beforePieces, rest: moment > 0n ? restOf(before) : null }, told: after.told, asked };
 }

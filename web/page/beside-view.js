@@ -1,27 +1,28 @@
 // A plan that is kept beside the one of the page: its chart, its cost, what differs, and both swapped.
 import { element, fill } from '../elements.js';
 import { App } from './app.js';
-import { chartOf } from './chart.js';
+import { chartOf, spanOf } from './chart.js';
 import { button, part } from './controls.js';
+import { countAlike } from './difference.js';
 import { differenceSaid } from './difference-words.js';
 import { drawn } from './drawing.js';
-import { near } from '../fractions.js';
 import { verdictNodes } from './plan-words.js';
 
 /** @typedef {import('./state.js').State} State */
 /** @typedef {NonNullable<State['kept']>} Kept */
 /** @typedef {import('./searching.js').Bound} Bound */
+/** @typedef {import('./chart.js').Wanted} Wanted */
 /** @typedef {{asked: string[], told: string[]}} Notes what was asked, and what is to be known of the answer, as sentences */
 
 /** The part of the page with the plan beside. */
 export class BesideView {
   /**
    * @param {App} app
-   * @param {import('./searching.js').Searching} searching
+   * @param {import('./plan-view.js').PlanView} plan
    */
-  constructor(app, searching) {
+  constructor(app, plan) {
     this.app = app;
-    this.searching = searching;
+    this.plan = plan;
     this.root = element('section', { id: 'beside', 'aria-labelledby': 'beside-head' });
     /** The plan beside, with what the program says of it.
      * @type {{kept: Kept, app: App} | null} */
@@ -75,16 +76,36 @@ export class BesideView {
   }
 
   /**
+   * How the plan beside is drawn: as that of the page, with its own names.
+   * @param {App} other
+   * @returns {Wanted}
+   */
+  wanted(other) {
+    const { byJob, zoom, root } = this.plan.chart, none = new Set(/** @type {number[]} */ ([])), { plan } = other.state;
+    return { pieces: plan ? plan.pieces : [], built: other.built, clock: other.clock, byJob, german: this.app.words.german,
+      width: Math.max(300, root.clientWidth - 4) * zoom, machineName: it => other.machineName(it), jobName: it => other.jobName(it), broken: none,
+      marked: none };
+  }
+
+  /** Up to which moment both axes go, where both plans count time alike; else 0. */
+  span() {
+    const { app, other } = this, { plan } = app.state;
+    if (!other || !app.state.kept || !plan || !countAlike(app.problem, other.app.problem)) return 0;
+    const beside = this.wanted(other.app), here = { ...beside, pieces: plan.pieces, built: app.built };
+    let span = 0;
+    for (let last = -1; last < span;) {
+      last = span;
+      span = Math.max(spanOf({ ...beside, span }), spanOf({ ...here, span }));
+    }
+    return span;
+  }
+
+  /**
    * The chart of the plan beside, on the axis of both.
    * @param {App} other
    */
   chart(other) {
-    const { app } = this, pieces = other.state.plan ? other.state.plan.pieces : [], width = Math.max(300, this.root.clientWidth - 34);
-    const span = Math.max(0, ...(app.state.plan ? app.state.plan.pieces : []).map(it => near(it.to)));
-    const none = new Set(/** @type {number[]} */ ([])), names = { machineName: (/** @type {number} */ it) => other.machineName(it),
-      jobName: (/** @type {number} */ it) => other.jobName(it) };
-    const svg = drawn(chartOf({ pieces, built: other.built, clock: other.clock, byJob: false, german: app.words.german, width, span, ...names,
-      broken: none, marked: none }), `${other.name}, ${this.title(other)}`);
+    const svg = drawn(chartOf({ ...this.wanted(other), span: this.span() }), `${other.name}, ${this.title(other)}`);
     svg.setAttribute('role', 'img');
     return element('div', { class: 'scroll chart-room', tabindex: '0', role: 'group', 'aria-label': this.title(other) }, svg);
   }
@@ -112,7 +133,7 @@ export class BesideView {
 
   /** Remembers the bound of the plan of the page. */
   remember() {
-    const { bound } = this.searching;
+    const { bound } = this.plan.searching;
     if (bound) this.bounds.set(bound.text, bound);
   }
 

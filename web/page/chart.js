@@ -73,7 +73,7 @@ export function cut(name, fits) {
  * The greatest moment of a chart: its last end, and dates that are not far behind it.
  * @param {Wanted} wanted
  */
-function spanOf(wanted) {
+export function spanOf(wanted) {
   const last = Math.max(wanted.span || 0, ...wanted.pieces.map(it => near(it.to))) || 1;
   const dates = wanted.built.jobs.flatMap(it => it.d ? [near(it.d)] : []).filter(it => it <= 1.25 * last);
   return Math.max(last, ...dates);

@@ -42,10 +42,11 @@ const why = new WhyView(app, rows => {
   plan.chart.marked = rows;
   plan.chart.render();
 });
-const steps = new StepsView(app, 'plan-steps'), beside = new BesideView(app, plan.searching);
-const whatIf = new WhatIfView(app, plan.searching, beside, key => input.table.title(key));
+const steps = new StepsView(app, 'plan-steps'), beside = new BesideView(app, plan);
+const whatIf = new WhatIfView(app, plan.searching, beside, key => input.table.title(key), say);
 plan.keep = () => beside.keep();
 input.judge = (/** @type {string} */ text) => { why.take(text); };
+plan.chart.span = () => beside.span();
 const learn = new LearnView(byId('part-learn', HTMLElement), () => app.words, say, text => {
   const state = stateOfText(text);
   if (state) app.store.change(state);
@@ -203,7 +204,7 @@ function listen() {
 async function begin() {
   fill(byId('part-plan', HTMLElement), element('div', { class: 'given' }, input.tools, problem.root, input.root),
     element('div', { class: 'found' }, plan.root, beside.root, whatIf.root, why.root, steps.root));
-  for (const view of [problem, input, plan, beside, whatIf, why, steps]) app.show(() => view.render());
+  for (const view of [problem, input, beside, plan, whatIf, why, steps]) app.show(() => view.render());
   listen();
   app.render();
   if (shop) input.note(app.words.say('shopBegins', input.shop.said(shop)));

@@ -2,12 +2,12 @@
 import { run } from '../engine.js';
 import { element, fill } from '../elements.js';
 import { notesOf } from './asked-words.js';
-import { answered, impossible, Refused } from './asking.js';
+import { answered, impossible, piecesOf, Refused } from './asking.js';
 import { CellFault, momentOf } from './cells.js';
 import { clockOf } from './clock.js';
 import { columnsOf, hasSpeeds, kindOf } from './columns.js';
 import { button, choice, field, line, part } from './controls.js';
-import { fraction, near, over, ZERO } from '../fractions.js';
+import { near, ZERO } from '../fractions.js';
 import { built } from './instance.js';
 import { whole } from './pinned.js';
 import { costOf } from './timing.js';
@@ -35,12 +35,14 @@ export class WhatIfView {
    * @param {import('./searching.js').Searching} searching
    * @param {import('./beside-view.js').BesideView} beside
    * @param {(key: string) => string} title how a column is called
+   * @param {(text: string) => void} tell says something to readers of screens
    */
-  constructor(app, searching, beside, title) {
+  constructor(app, searching, beside, title, tell) {
     this.app = app;
     this.searching = searching;
     this.beside = beside;
     this.title = title;
+    this.tell = tell;
     this.root = element('section', { id: 'what-if', 'aria-labelledby': 'what-if-head' });
     this.fields = element('div', { class: 'fields' });
     this.said = element('p', { id: 'what-said', class: 'faulty', role: 'alert', hidden: '' });
@@ -239,22 +241,33 @@ export class WhatIfView {
   }
 
   /**
+   * Remembers what runs in an instance, for searches.
+   * @param {import('./pinned.js').Rest} rest
+   * @param {bigint} unit
+   * @param {Built} made
+   */
+  pin(rest, unit, made) {
+    if (!rest.running.length) return;
+    this.app.pinned.set(made.text, { timed: rest.timed, piecesOf: placed => piecesOf(whole(rest, placed), made, unit) });
+  }
+
+  /**
    * Takes the changed list with a plan to begin with, the plan before beside it, and looks for a better one.
    * @param {Question} question
    * @param {Answer} answer
    * @param {Built} made
    */
   take(question, answer, made) {
-    const { app, searching } = this, { rest, unit, before } = answer, kept = { problem: before.problem,
-      plan: { pieces: before.pieces, from: /** @type {'own'} */ ('own') } };
+    const { app, searching } = this, { rest, before } = answer, { plan } = app.state;
+    const kept = { problem: before.problem, plan: { pieces: before.pieces, from: plan && !before.rest ? plan.from : /** @type {'own'} */ ('own') } };
     this.beside.notes.set(kept, notesOf(question, answer, app));
-    if (rest.running.length) {
-      const pieceOf = (/** @type {import('./leftover.js').Span} */ { job, number, machine, start, end }) => ({ row: made.jobs[job].row.id, op: number,
-        machine: machine + 1, from: over(start, fraction(unit)), to: over(end, fraction(unit)) });
-      app.pinned.set(made.text, { timed: rest.timed, piecesOf: placed => whole(rest, placed).map(pieceOf) });
-    }
+    this.pin(rest, answer.unit, made);
+    if (before.rest) this.pin(before.rest, answer.unit, built(before.problem, clockOf(before.problem)));
+    Object.assign(this.typed, { due: '', now: '', rush: {} });
+    this.shape = '';
     app.store.change({ problem: answer.problem, plan: { pieces: answer.pieces, from: 'rules' }, kept });
-    this.root.scrollIntoView({ block: 'nearest' });
+    this.tell(this.say('ifAnswered'));
+    this.beside.plan.root.scrollIntoView({ block: 'start' });
     if (!rest.places.length) return;
     if (app.pinned.has(made.text) || app.hasSolver === false) searching.start(this.begin(answer));
     else app.solve(true);

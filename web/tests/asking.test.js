@@ -157,8 +157,9 @@ test('the words of all that is told and refused', () => {
   /** @type {Object<string, string[]>} */
   const table = JSON.parse(readFileSync(new URL('../page/words.json', import.meta.url), 'utf8'));
   const folder = new URL('../page/', import.meta.url);
-  const code = ['asking.js', 'leftover.js', 'what-if-view.js', 'order.js', 'difference-words.js'].map(it
-    => readFileSync(new URL(it, folder), 'utf8')).join('\n');
+  const names = ['asking.js', 'leftover.js', 'what-if-view.js', 'order.js', 'difference-words.js'];
+  const code = names.map(it => readFileSync(new URL(it, folder), 'utf8')).join('\n');
   for (const [, key] of code.matchAll(/'((?:if|left|order|diff)[A-Z]\w*)'/g)) assert.ok(key in table || key === 'leftCounted', key);
-  for (const kind of ['more', 'less', 'gone', 'rush', 'cut', 'nocut', 'due', 'time']) assert.ok(`if ${kind}` in table && `asked ${kind}` in table, kind);
+  const kinds = ['more', 'less', 'gone', 'rush', 'cut', 'nocut', 'due', 'time'];
+  for (const kind of kinds) assert.ok(`if ${kind}` in table && `asked ${kind}` in table, kind);
 });
