@@ -69,7 +69,11 @@ export function orderIn(text, names) {
  * @param {number[]} order
  * @returns {[number, number] | undefined} both jobs
  */
-function early({ arcs }, order) { return arcs.find(([before, after]) => order.indexOf(before) > order.indexOf(after)); }
+function early({ arcs }, order) {
+  const places = new Map(order.map((job, at) => [job, at])), place = (/** @type {number} */ job) => places.get(job) || 0;
+  const wrong = arcs.filter(([before, after]) => place(before) > place(after));
+  return wrong.sort((one, other) => place(one[1]) - place(other[1]))[0];
+}
 
 /**
  * The pieces of an order of all jobs, or why it has none.
