@@ -152,9 +152,10 @@ export class BesideView {
     const sentences = differenceSaid(other, app).map((it, at) => element('li', { id: at ? null : 'difference-cost' }, it));
     const list = (/** @type {string[]} */ those, /** @type {string} */ id) => those.length
       ? [element('ul', { id }, ...those.map(it => element('li', {}, it)))] : [];
+    const said = element('div', { role: 'status' }, element('ul', { id: 'difference' }, ...sentences));
     const made = part('beside', this.title(other), ...(notes ? [...list(notes.asked, 'what-asked'), ...list(notes.told, 'what-told')] : []),
       this.buttons(other), element('div', { class: 'verdict', id: 'beside-cost' }, ...verdictNodes(other, known, true)), this.chart(other),
-      ...(sentences.length ? [element('h3', {}, this.say('differences')), element('ul', { id: 'difference', role: 'status' }, ...sentences)] : []));
+      ...(sentences.length ? [element('h3', {}, this.say('differences')), said] : []));
     fill(root, ...Array.from(made.childNodes));
     const again = hadFocus ? document.getElementById(focus) : null;
     if (again) again.focus();

@@ -177,9 +177,11 @@ export class WhatIfView {
 
   /** Asks the program for what the page cannot see, and answers the question. */
   async ask() {
-    const { app } = this, { plan } = app.state;
+    const { app, searching } = this;
     if (this.asking) return;
     this.asking = true;
+    if (searching.running) searching.stop();
+    const { plan } = app.state;
     this.refuse('');
     try {
       if (!plan) throw new Refused('ifNoPlan');
@@ -191,8 +193,9 @@ export class WhatIfView {
       if (app.state.plan === plan) this.take(question, answer, made);
     } catch (fault) {
       this.failed(fault);
+    } finally {
+      this.asking = false;
     }
-    this.asking = false;
   }
 
   /**
@@ -221,7 +224,10 @@ export class WhatIfView {
       this.refuse(this.say('ifInCell', this.say('ifNow'), this.say(fault.code, ...fault.values)), 'what-now');
       return;
     }
-    if (!(fault instanceof Refused)) throw fault;
+    if (!(fault instanceof Refused)) {
+      this.refuse(this.say('failed', String(fault)));
+      return;
+    }
     const text = this.say(fault.code, ...fault.values), { key = '' } = fault.fault || {};
     const field = typed.kind === 'rush' ? `what-rush-${key}` : typed.kind === 'due' ? 'what-due' : '';
     const column = key && this.app.words.has(key) ? this.title(key) : '', ofMoment = /ifNoMoment|ifBefore|ifTooFine|ifNothingLeft/.test(fault.code);
