@@ -2,7 +2,7 @@
 // another list, a plan to begin with, and where time has gone by what is left of both. What a class cannot say is told.
 import { hasDue, hasSpeeds, isShop, kindOf, MOST } from './columns.js';
 import { clockOf } from './clock.js';
-import { compare, fraction, lcm, minus, over, times, ZERO } from '../fractions.js';
+import { compare, fraction, greatest, lcm, minus, over, times, ZERO } from '../fractions.js';
 import { built } from './instance.js';
 import { calledAt } from './jobs.js';
 import { leftOf, onMachines } from './leftover.js';
@@ -204,11 +204,13 @@ function unitOf(instances, pieces, now) {
  * @param {bigint} now
  * @param {number[]} failed
  * @param {bigint} unit
+ * @param {Piece[]} known pieces of what runs already
  * @returns {Leftover[]}
  */
-function leftOfBoth(instances, lists, spans, now, failed, unit) {
-  const plains = instances.map((it, at) => plainOf({ ...it, scale: unit }, lists[at].parts));
-  const lefts = (/** @type {boolean} */ pins) => plains.map((plain, at) => leftOf(plain, spans[at], { now, failed: at ? failed : [], pins }));
+function leftOfBoth(instances, lists, spans, now, failed, unit, known) {
+  const plains = instances.map((it, at) => plainOf({ ...it, scale: unit }, lists[at].parts)), runs = instances.map(it => spansOf(known, it, unit));
+  const lefts = (/** @type {boolean} */ pins) => plains.map((plain, at) =>
+    leftOf(plain, spans[at], { now, failed: at ? failed : [], pins, runs: runs[at] }));
   const found = lefts(false), [before, after] = found.some(it => it && found[0] && it.origin !== found[0].origin) ? lefts(true) : found;
   if (!before || !after) throw new Refused('ifNothingLeft');
   return [before, after];
@@ -237,19 +239,20 @@ function goingOn(left, spans, rest, stands) {
  * @param {Piece[]} pieces
  * @param {(machine: number) => string} machineName
  * @param {boolean} german
+ * @param {Piece[]} [runs] pieces of what runs already
  * @returns {Answer}
  */
-export function answered(question, problem, pieces, machineName, german) {
-  const old = soundly(problem), why = impossible(question.kind, problem, old.machines), { now } = question;
+export function answered(question, problem, pieces, machineName, german, runs = []) {
+  const old = soundly(problem), why = impossible(question.kind, problem, old.machines), now = greatest(question.now, ...runs.map(it => it.from));
   if (why) throw new Refused(why);
-  if (now.n < 0n) throw new Refused('ifBefore');
+  if (question.now.n < 0n) throw new Refused('ifBefore');
   const changed = changedBy(question, problem, old), asked = soundly(changed), failed = question.kind === 'less' ? [question.machine - 1] : [];
   const unit = unitOf([old, asked], pieces, now), moment = times(now, fraction(unit)).n, lists = [problem, changed];
-  const spans = [old, asked].map(it => spansOf(pieces, it, unit)), lefts = leftOfBoth([old, asked], lists, spans, moment, failed, unit);
-  const [before, after] = lefts, moves = moment > 0n || failed.length > 0, rest = restOf(after);
+  const spans = [old, asked].map(it => spansOf(pieces, it, unit)), lefts = leftOfBoth([old, asked], lists, spans, moment, failed, unit, runs);
+  const [before, after] = lefts, goes = moment > 0n || runs.length > 0, moves = goes || failed.length > 0, rest = restOf(after);
   const list = (/** @type {number} */ at) => relisted(lefts[at], unit, lists[at], [old, asked][at], machineName, german);
   const went = moves ? list(1) : changed, made = soundly(went), begin = goingOn(after, spans[1], rest, !failed.length);
-  const was = moment > 0n ? list(0) : problem, beforePieces = moment > 0n ? piecesOf(clipped(before, spans[0]), soundly(was), unit) : pieces;
+  const was = goes ? list(0) : problem, beforePieces = goes ? piecesOf(clipped(before, spans[0]), soundly(was), unit) : pieces;
   return { problem: went, pieces: piecesOf(begin.spans, made, unit), spans: begin.spans, given: begin.given, rest,
-    unit, before: { problem: was, pieces: beforePieces, rest: moment > 0n ? restOf(before) : null }, told: after.told, asked };
+    unit, before: { problem: was, pieces: beforePieces, rest: goes ? restOf(before) : null }, told: after.told, asked };
 }

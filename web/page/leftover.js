@@ -14,8 +14,8 @@ import { ENVIRONMENTS, nameOf } from '../names.js';
 /** @typedef {{job: number, number: number, machine: number, start: Fraction, end: Fraction}} Span a piece of the plan, by the place of its job */
 /**
  * What happened: the moment, the machines that are out of order, and whether what runs on one machine is kept there as elsewhere; else all
- * that is left begins when it ends.
- * @typedef {{now: bigint, failed: number[], pins: boolean}} Happened
+ * that is left begins when it ends. Operations that begin now may be known to run already.
+ * @typedef {{now: bigint, failed: number[], pins: boolean, runs?: {job: number, number: number}[]}} Happened
  */
 /** @typedef {{job: number, number: number, machine: number, left: bigint}} Running an operation that has begun, and what is left of its time */
 /**
@@ -126,8 +126,19 @@ class Taker {
     const { job, number, machine, start } = first, pieces = this.pieces.get(keyOf(job, number)) || [], now = fraction(this.happened.now);
     if (this.waits(job, number)) return;
     if (pieces.every(it => compare(it.end, now) <= 0)) this.done.add(keyOf(job, number));
-    else if (compare(start, now) < 0 && this.given.parts.cut) this.cut(first, pieces);
-    else if (compare(start, now) < 0 && !this.running.some(it => it.machine === machine)) this.begun(first, pieces);
+    else if (!this.hasBegun(job, number, start)) return;
+    else if (this.given.parts.cut) this.cut(first, pieces);
+    else if (!this.running.some(it => it.machine === machine)) this.begun(first, pieces);
+  }
+
+  /**
+   * @param {number} job
+   * @param {number} number
+   * @param {Fraction} start
+   */
+  hasBegun(job, number, start) {
+    const { now, runs = [] } = this.happened, far = compare(start, fraction(now));
+    return far < 0 || far === 0 && runs.some(it => it.job === job && it.number === number);
   }
 
   /**

@@ -13,7 +13,10 @@ import { listCost } from './schedule.js';
 /** @typedef {import('./plain.js').Timed} Timed */
 /** @typedef {{text: string, value: Fraction, name: string, steps: string[]}} Bound a bound in units of the list, its class,
  * and the names of its steps */
-/** @typedef {{timed: Timed | null, piecesOf: (placed: Placed[]) => Piece[]}} Searched what is searched, and the whole plan of what is found */
+/**
+ * What is searched, and the whole plan of what is found; where something runs, its pieces.
+ * @typedef {{timed: Timed | null, piecesOf: (placed: Placed[]) => Piece[], runs?: Piece[]}} Searched
+ */
 /**
  * How a search begins: whether its plans belong to the last change; a plan to begin with; and a cost, in parts, below which plans are taken.
  * @typedef {{again?: boolean, given?: Placed[] | null, below?: number}} Begin

@@ -187,7 +187,8 @@ export class WhatIfView {
       if (!plan) throw new Refused('ifNoPlan');
       await this.judge(app.planText(), 'ifBroken');
       const question = this.question();
-      const answer = answered(question, app.problem, plan.pieces, it => app.machineName(it), app.words.german);
+      const searched = app.pinned.get(app.built.text);
+      const answer = answered(question, app.problem, plan.pieces, it => app.machineName(it), app.words.german, searched && searched.runs);
       const made = built(answer.problem, clockOf(answer.problem));
       await this.judge(made.text + scheduleText(answer.pieces, made), '', made);
       if (app.state.plan === plan) this.take(question, answer, made);
@@ -254,7 +255,8 @@ export class WhatIfView {
    */
   pin(rest, unit, made) {
     if (!rest.running.length) return;
-    this.app.pinned.set(made.text, { timed: rest.timed, piecesOf: placed => piecesOf(whole(rest, placed), made, unit) });
+    this.app.pinned.set(made.text, { timed: rest.timed, piecesOf: placed => piecesOf(whole(rest, placed), made, unit),
+      runs: piecesOf(rest.running, made, unit) });
   }
 
   /**

@@ -107,6 +107,15 @@ test('the plan until now kept: what runs stays, and what the class cannot say is
   assert.deepEqual(codes(failed), ['leftAgain', 'leftPinned', 'leftPinned', 'leftFrom']);
   assert.equal((await judged(failed)).feasible, true);
   assert.deepEqual(failed.problem.machineNames, ['machine 1', 'machine 2']);
+  const runs = found.pieces.filter(it => it.from.n === 0n);
+  const again = answered(question({ kind: 'gone', row: 5 }), found.problem, found.pieces, machine, false, runs);
+  assert.deepEqual([codes(again), again.rest.running.length], [['leftPinned', 'leftPinned', 'leftPinned'], 3]);
+  assert.ok((await judged(again)).feasible && (await judged(again.before)).feasible);
+  const dated = planned('msp 1\nclass P2|r|sumC\njob a p=5 r=0\njob b p=4 r=1\njob c p=2 r=2\nend\n');
+  const later = answered(question({ now: fraction(3) }), dated.list, dated.pieces, machine, false), those = later.rest.running.length;
+  const further = answered(question({ kind: 'due', row: 3, due: '9' }), { ...later.problem, parts: { ...later.problem.parts, criterion: 'Lmax' },
+    rows: later.problem.rows.map(it => ({ ...it, cells: { ...it.cells, d: '7' } })) }, later.pieces, machine, false, later.pieces.slice(0, those));
+  assert.deepEqual([those, further.rest.running, further.problem.rows[2].cells.r], [2, later.rest.running, '3']);
   const one = planned('msp 1\nclass 1||sumC\njob a p=4\njob b p=2\njob c p=3\nend\n');
   const ended = answered(question({ now: fraction(1) }), one.list, one.pieces, machine, false);
   assert.deepEqual([codes(ended), ended.problem.rows.map(it => it.name), ended.rest.running.length], [['leftUntil', 'leftFromCosts'], ['b', 'c'], 0]);
