@@ -212,7 +212,7 @@ export class App {
    * @param {boolean} [follows] whether the plan belongs to the change before it, and is taken back with that
    */
   async solve(follows = false) {
-    const { text } = this.built, control = new AbortController();
+    const { text } = this.built, { plan } = this.state, control = new AbortController();
     if (!text || this.running) return;
     if (this.judging) this.judging.abort();
     this.running = control;
@@ -222,7 +222,7 @@ export class App {
       const { solved, note, status } = await this.ask(text, control.signal);
       this.running = null;
       this.said = solved ? '' : this.why(status, note);
-      if (solved) this.takeBest(solved.pieces, follows);
+      if (solved) this.takeBest(solved.pieces, follows && this.state.plan === plan);
     } catch (fault) {
       if (this.running !== control) return;
       this.said = control.signal.aborted ? this.words.say('stopped') : this.words.say('failed', String(fault));
@@ -236,7 +236,7 @@ export class App {
    * @param {boolean} follows
    */
   takeBest(pieces, follows) {
-    if (follows && !this.state.plan) this.store.set({ ...this.state, plan: { pieces, from: 'best' } });
+    if (follows) this.store.set({ ...this.state, plan: { pieces, from: 'best' } });
     else this.plan({ pieces, from: 'best' });
   }
 
