@@ -85,6 +85,7 @@ class Finder:
 
     def __init__(self, given: Instance, solved: Callable[[ClassName], bool], tell: Tell) -> None:
         self.given, self.solved, self.tell = given, solved, tell
+        self.taken = True  # (whether the solver took the last instance of the chain that was found last)
 
     def further(self, chain: Chain, *steps: Loosening) -> Chain | None:
         """The chain with steps more, or None where one cannot be made. That numbers leave the limits of texts is told."""
@@ -115,7 +116,7 @@ class Finder:
                 yield found
 
     def left_out(self, chain: Chain) -> Iterator[Chain]:
-        """The chains to classes with a solver that leave out least."""
+        """The chains to classes with a solver that leave out least; more where the instance is beyond a limit of that solver."""
         found: list[tuple[int, ...]] = []
         several = LEFT_OUT if chain.last.kind.general else LEFT_OUT_OF_EQUAL
         for places in sorted(itertools.product(*(range(len(it)) for it in several)), key=lambda it: (sum(it), it)):
@@ -124,8 +125,10 @@ class Finder:
             if kind and not any(looser(places, it, kind) for it in found) and self.solved(kind):
                 further = self.by_names(chain, names)
                 if further:
-                    found.append(places)
+                    self.taken = True
                     yield further
+                    if self.taken:
+                        found.append(places)
 
     def by_lateness(self, chain: Chain) -> Iterator[Chain]:
         """The chains to sums of completion times for tardiness, but in shops."""
@@ -234,8 +237,10 @@ class Asked:
 def by_steps(asked: Asked, given: Instance, tell: Tell) -> Iterator[Bound]:
     """The bounds by steps; of an instance that its own solver takes the optimum."""
     beyond_it = asked.solved(given.kind) and asked.report(given.text()) is None
-    for chain in Finder(given, lambda kind: asked.solved(kind) and not (beyond_it and kind == given.kind), tell).all():
+    finder = Finder(given, lambda kind: asked.solved(kind) and not (beyond_it and kind == given.kind), tell)
+    for chain in finder.all():
         report = asked.report(chain.last.text())
+        finder.taken = report is not None
         if report is not None:
             cost = read_schedule(report).cost
             if chain.steps and is_whole(given.kind) and chain.value(cost).denominator > 1:

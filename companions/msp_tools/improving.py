@@ -24,8 +24,8 @@ LEAST_EFFORT = 6_000_000
 EFFORT_IN_SHOPS = 100_000
 EFFORT = 13_000
 # (tries: at least, at most, of many jobs for each of them, of few operations for each of them)
-LEAST_TRIES, MOST_TRIES, TRIES_FOR_A_JOB, TRIES_FOR_AN_OPERATION = 2_000, 70_000, 1_200, 2_000
-TRIES_BEFORE_TABU = 400  # (of sums in shops, for each operation)
+LEAST_TRIES, MOST_TRIES, TRIES_FOR_A_JOB, TRIES_FOR_AN_OPERATION = 2_000, 70_000, 1_200, 3_000
+TRIES_BEFORE_TABU = 100  # (of sums in shops, for each operation)
 FINE = 2**40  # (into so many parts a cost is divided where it is no whole number)
 
 
@@ -33,7 +33,7 @@ def standard_tries(problem: Problem) -> int:
     """How many neighbours are looked at where it is not said: fewer of large ones, so that it takes seconds."""
     looked_at = problem.operations()
     if not problem.shop and not problem.bound and not problem.cut:
-        looked_at = 2 * problem.count // problem.machines
+        looked_at = (1 if summed_alone(problem) else 2) * problem.count // problem.machines
     slow = slowness(problem)
     effort = problem.count * (EFFORT_IN_SHOPS if problem.shop else EFFORT * isqrt(problem.count))
     tries = max(LEAST_EFFORT, effort) // ((looked_at + 10) * slow)
@@ -41,13 +41,20 @@ def standard_tries(problem: Problem) -> int:
     return min(max(tries, LEAST_TRIES // slow), most, TRIES_FOR_AN_OPERATION * problem.operations())
 
 
+def summed_alone(problem: Problem) -> bool:
+    """Whether there is one machine, and costs are added: then ends and costs are worked out only where jobs move."""
+    return problem.machines == 1 and not problem.shop and not problem.greatest and problem.criterion[-1] != "U"
+
+
 def slowness(problem: Problem) -> int:
-    """What it takes to look at a neighbour, for each operation: in permutations 1."""
+    """How much longer it takes to look at a neighbour than in sequences, for each operation."""
     if problem.cut:
         return 20
     if problem.instance.kind.kind in "OJ":
         return 4 if problem.greatest else 2
-    return 4 if problem.bound and not problem.alike else 1
+    if problem.bound and not summed_alone(problem):
+        return 2 if problem.alike else 4
+    return 1
 
 
 def starts_of(found: Sequence[Tried], state: Callable[[Tried], S], most: int = MOST_STARTS) -> List[S]:
@@ -62,7 +69,7 @@ def starts_of(found: Sequence[Tried], state: Callable[[Tried], S], most: int = M
 
 
 def in_lanes(problem: Problem, found: Sequence[Tried], effort: Effort, draw: Draw) -> List[Placed]:
-    """Sequences of machines, where no job comes after another."""
+    """Sequences of machines."""
     space = Lanes(problem, draw)
     told = effort.heard
     effort.heard = lambda value: told(value // space.base)
@@ -144,7 +151,7 @@ def uncut(problem: Problem, found: Sequence[Tried], effort: Effort, draw: Draw) 
         if closed:
             return BRANCHING, one.placed
         those.append(one)
-    way = in_shop if problem.shop else in_order if problem.bound else in_lanes
+    way = in_shop if problem.shop else in_lanes if not problem.bound or summed_alone(problem) else in_order
     return SEARCH, way(problem, those, effort, draw)
 
 

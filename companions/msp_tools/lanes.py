@@ -1,11 +1,12 @@
-"""Schedules as the sequences of the machines: where each job has one operation, and none comes after another.
+"""Schedules as the sequences of the machines: where each job has one operation, and none comes after another; on one machine also where they do,
+as long as costs are added.
 
-A neighbour moves a job to another place, or exchanges two. Only the sequences that change are costed anew.
+A neighbour moves a job to another place, or exchanges two. Only the sequences that change are costed anew, and sums only where they change.
 """
 from __future__ import annotations
 
 from itertools import accumulate
-from typing import List, Sequence
+from typing import List, NamedTuple, Sequence
 
 from .problems import Placed, Problem
 from .search import Draw
@@ -38,9 +39,25 @@ def ranked(problem: Problem) -> list[list[int]] | None:
     return found
 
 
+def within_arcs(problem: Problem, lane: List[int], job: int, place: int) -> int:
+    """The place of a job's that is next to another one, behind all jobs of its machine that it comes after, and before those that come after it."""
+    least = max((lane.index(it) for it in problem.before[job]), default=-1) + 1
+    most = min((lane.index(it) for it in problem.after[job]), default=len(lane)) - 1
+    return min(max(place, least), most)
+
+
 def ratio(time: int, weight: int) -> float:
     """Time for weight."""
     return time / weight if weight else float("inf")
+
+
+class Stretch(NamedTuple):
+    """Jobs that follow each other on a machine, from a place on: when they end, and what they cost."""
+    at: int
+    first: int
+    jobs: List[int]
+    ends: List[int]
+    costs: List[int]
 
 
 class Lanes:
@@ -48,9 +65,9 @@ class Lanes:
 
     def __init__(self, problem: Problem, draw: Draw) -> None:
         self.problem, self.draw = problem, draw
-        self.count, self.machines = problem.count, problem.machines
+        self.machines = problem.machines
         self.times = [[it[at] for it in problem.times] for at in range(problem.machines)]
-        self.ranks = ranked(problem)
+        self.ranks = None if problem.bound else ranked(problem)
         # (the machines of a job, the fastest first, where they are not alike)
         self.prefers = [] if problem.alike else [sorted(range(self.machines), key=it.__getitem__) for it in problem.times]
         self.counted = problem.criterion[-1] == "U"
@@ -59,9 +76,13 @@ class Lanes:
         self.base = span * span * self.machines if problem.criterion == "Cmax" else span * self.machines if self.counted else 1
         self.lanes: Sequences = [[] for _ in range(self.machines)]
         self.values: list[int] = []
-        self.where: list[int] = [0] * self.count
+        self.where: list[int] = [0] * problem.count
         self.value = 0
         self.moves: list[tuple[int, list[int], int]] = []
+        # (a sum of costs is looked at from the first job that moves on, until no job ends elsewhere than before)
+        self.summed = not problem.greatest and not self.counted
+        self.known: list[tuple[list[int], list[int]] | None] = [None] * self.machines
+        self.stretch: Stretch | None = None
         self.next_value = 0
         self.looks_at_costly = problem.greatest and self.ranks is None
         self.costly: tuple[int, int, int] | None = None
@@ -70,10 +91,14 @@ class Lanes:
 
     def ends(self, at: int, sequence: Sequence[int]) -> list[int]:
         """When the jobs of a sequence end on a machine."""
+        return self.ends_from(at, sequence, self.problem.begins[at])
+
+    def ends_from(self, at: int, sequence: Sequence[int], now: int) -> list[int]:
+        """When the jobs of a sequence end on a machine that is free from some moment on."""
         times = self.times[at]
         if not self.dated:
-            return list(accumulate(map(times.__getitem__, sequence), initial=self.problem.begins[at]))[1:]
-        release, now, found = self.problem.release, self.problem.begins[at], []
+            return list(accumulate(map(times.__getitem__, sequence), initial=now))[1:]
+        release, found = self.problem.release, []
         for job in sequence:
             if release[job] > now:
                 now = release[job]
@@ -134,22 +159,33 @@ class Lanes:
                 self.where[job] = at
         self.values = [self.lane_value(at, lane) for at, lane in enumerate(self.lanes)]
         self.value, self.costly = self.whole(self.values), None
+        self.known = [None] * self.machines
 
     def take(self) -> None:
         """Holds the neighbour."""
-        for at, lane, value in self.moves:
-            self.lanes[at], self.values[at] = lane, value
-            for job in lane:
-                self.where[job] = at
+        it = self.stretch
+        known = self.known[it.at] if it else None
+        if it and known:
+            for those, new in zip((self.lanes[it.at], *known), it[2:]):
+                those[it.first: it.first + len(it.jobs)] = new
+            self.values[it.at] += self.next_value - self.value
+        else:
+            for at, lane, value in self.moves:
+                self.lanes[at], self.values[at], self.known[at] = lane, value, None
+                for job in lane:
+                    self.where[job] = at
         self.value, self.costly = self.next_value, None
 
     def neighbour(self) -> int | None:
         """A job moves, or two are exchanged."""
-        job = self.draw.below(self.count)
+        job = self.draw.below(self.problem.count)
+        self.stretch = None
         if self.looks_at_costly and self.draw.one() < 0.5:
             changed = self.around_costly()
         elif self.ranks or self.machines > 1 and self.draw.one() < 0.6:
             changed = self.across(self.costly_job() if self.problem.greatest and self.draw.one() < 0.5 else job)
+        elif self.summed:
+            return self.within_sum(self.where[job], job)
         else:
             changed = self.within(self.where[job], job)
         if not changed:
@@ -192,21 +228,57 @@ class Lanes:
             lane.insert(place, lane.pop(chosen))
         return [(at, lane)]
 
-    def within(self, at: int, job: int) -> list[tuple[int, list[int]]]:
-        """A job at another place of its sequence, or exchanged with another."""
-        lane = list(self.lanes[at])
+    def moved(self, at: int, job: int) -> tuple[int, list[int]] | None:
+        """A job at another place of its sequence, or exchanged with another: from which place on, and the jobs from there as far as they move."""
+        lane = self.lanes[at]
         if len(lane) < 2:
-            return []
+            return None
         place = lane.index(job)
         step = self.draw.near(len(lane))
         other = place + step if self.draw.one() < 0.5 else place - step
-        if not 0 <= other < len(lane):
-            return []
-        if self.draw.one() < 0.4:
-            lane[place], lane[other] = lane[other], lane[place]
+        if self.problem.bound:
+            other = within_arcs(self.problem, lane, job, other)
+        if not 0 <= other < len(lane) or other == place:
+            return None
+        those = lane[min(place, other): max(place, other) + 1]
+        if not self.problem.bound and self.draw.one() < 0.4:
+            those[0], those[-1] = those[-1], those[0]
+        elif other > place:
+            those.append(those.pop(0))
         else:
-            lane.insert(other, lane.pop(place))
+            those.insert(0, those.pop())
+        return min(place, other), those
+
+    def within(self, at: int, job: int) -> list[tuple[int, list[int]]]:
+        """A job at another place of its sequence, or exchanged with another."""
+        found = self.moved(at, job)
+        if found is None:
+            return []
+        first, those = found
+        lane = list(self.lanes[at])
+        lane[first: first + len(those)] = those
         return [(at, lane)]
+
+    def within_sum(self, at: int, job: int) -> int | None:
+        """The same, where the costs are added: those of the other jobs stay."""
+        found, known = self.moved(at, job), self.known[at]
+        if found is None:
+            return None
+        if known is None:
+            ends = self.ends(at, self.lanes[at])
+            known = self.known[at] = ends, self.problem.costs(self.lanes[at], ends)
+        first, jobs = found
+        ends = self.ends_from(at, jobs, known[0][first - 1] if first else self.problem.begins[at])
+        behind = first + len(jobs)
+        while self.dated and behind < len(known[0]) and ends[-1] != known[0][behind - 1]:
+            more = self.lanes[at][behind: behind + len(jobs)]
+            jobs += more
+            ends += self.ends_from(at, more, ends[-1])
+            behind += len(more)
+        costs = self.problem.costs(jobs, ends)
+        self.stretch = Stretch(at, first, jobs, ends, costs)
+        self.next_value = self.value + sum(costs) - sum(known[1][first: behind])
+        return self.next_value
 
     def across(self, job: int) -> list[tuple[int, list[int]]]:
         """A job on another machine, or exchanged with one of another."""

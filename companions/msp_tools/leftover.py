@@ -139,8 +139,8 @@ class Taker:
         machine = pieces[0].machine
         speed = self.given.speeds[machine - 1] if self.given.speeds else 1
         if self.cut:
-            spent = sum(((min(piece.end, Fraction(now)) - piece.start) * (self.given.speeds[piece.machine - 1] if self.given.speeds else 1)
-                         for piece in pieces if piece.start < now), Fraction(0))
+            spent = sum(((min(piece.end, Fraction(now)) - piece.start) * self.rate(it, piece.machine) for piece in pieces if piece.start < now),
+                        Fraction(0))
             self.rest[it] = self.whole(it, self.work(it) - spent) if left is None else left
             return
         if machine in self.happened.failed:
@@ -150,6 +150,12 @@ class Taker:
         rest = self.whole(it, (pieces[-1].end - now) * speed) if left is None else left
         self.rest[it] = max(rest, 1)
         self.running.append(Running(it[0], it[1], machine, max(rest, 1)))
+
+    def rate(self, it: Operation, machine: int) -> Fraction:
+        """How much of an operation a machine does in a unit of time, counted in its time on the machine where it begins."""
+        if self.given.kind.kind == "R":
+            return Fraction(self.work(it), self.given.time_on(self.given.by_name[it[0]], it[1], machine))
+        return Fraction(self.given.speeds[machine - 1] if self.given.speeds else 1)
 
     def whole(self, it: Operation, value: Fraction) -> int:
         """What is left, as a whole number of at least 1."""
@@ -226,11 +232,11 @@ class Builder:
             return replace(job, times=spent)
         left = self.rest(job, 1)
         if kind == "R":
-            at = next((it.machine for it in self.running if it.job == job.name), None)
+            pieces = self.taker.pieces.get((job.name, 1))
             times = [given.time_on(job, 1, machine) for machine in range(1, given.machines + 1)]
             if left is not None:
                 # (on other machines the same share of its time)
-                share = Fraction(left, times[(at or 1) - 1])
+                share = Fraction(left, times[pieces[0].machine - 1 if pieces else 0])
                 times = [max(1, math.ceil(share * time)) for time in times]
             return replace(job, times=[time for machine, time in enumerate(times, 1) if machine not in self.happened.failed])
         return replace(job, time=given.time_on(job, 1, 1) if left is None else left)

@@ -91,17 +91,18 @@ def pieces_of(schedule: Schedule, instance: Instance | None, units: Units, for_f
     return Rows(["machine", "job", *["operation"] * shop, "start", "end", *["pauses"] * bool(units.calendar)], rows)
 
 
-def jobs_of(schedule: Schedule, instance: Instance | None, units: Units) -> Rows:
-    """The table of jobs in the order of the instance, with due dates and lateness where it has some; without an instance by their ends."""
+def jobs_of(schedule: Schedule, instance: Instance | None, units: Units, for_file: bool = True) -> Rows:
+    """The table of jobs in the order of the instance, with due dates and lateness where it has some; without an instance by their ends. The
+    lateness is a number, but in words where moments are dates and no file is written."""
     ends = schedule.ends()
     if instance is None:
         return Rows(["job", "end"], [[units.job(it), units.moment(ends[it], True)] for it in sorted(ends, key=lambda it: (ends[it], it))])
-    dated = any(it.due is not None for it in instance.jobs)
+    dated, length = any(it.due is not None for it in instance.jobs), units.length if for_file or units.start is None else Spoken(units).length
     rows = []
     for job in instance.jobs:
         end = ends.get(job.name)
         row = [units.job(job.name), "" if end is None else units.moment(end, True)]
-        rows.append(row + ([units.moment(job.due_date, True), "" if end is None else units.length(end - job.due_date)] if dated else []))
+        rows.append(row + ([units.moment(job.due_date, True), "" if end is None else length(end - job.due_date)] if dated else []))
     return Rows(["job", "end", *["due", "lateness"] * dated], rows)
 
 
@@ -112,9 +113,10 @@ def summary(schedule: Schedule, instance: Instance | None, units: Units, with_co
     found = f"{len(ends)} job{'s' * (len(ends) != 1)} on {machines} machine{'s' * (machines != 1)}"
     found += f", done at {units.moment(max(ends.values()), True)}" if ends else ""
     criterion = str(instance.kind).rpartition("|")[2] if instance else (schedule.first or "").rpartition("|")[2]
-    if criterion and (with_cost or criterion not in ("Cmax", "Lmax", "sumU")):
-        found += f"; {units.cost_in_words(schedule.cost, criterion)}"
     late = [ends[it.name] - it.due for it in (instance.jobs if instance else []) if it.due is not None and it.name in ends]
+    # (when all is done, how many are late and how late is said already)
+    if criterion and criterion not in ["Cmax"] * (not with_cost) + ["Lmax", "sumU"] * bool(late):
+        found += f"; {units.cost_in_words(schedule.cost, criterion)}"
     if late:
         found += f"; {sum(it > 0 for it in late)} late, greatest lateness {units.length_in_words(max(late))}"
     return found

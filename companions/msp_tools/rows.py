@@ -185,7 +185,8 @@ class RowReader:
         try:
             value = self.number(text, place)
         except Fault as fault:
-            hint = "; write YYYY-MM-DD HH:MM, or a number" if re.search(r"[0-9][./:-][0-9]+[./:-]?", text) else ""
+            dated = self.units.start is not None or re.search(r"[0-9][./:-][0-9]+[./:-]?", text)
+            hint = "; write YYYY-MM-DD HH:MM, or a number" if dated else ""
             raise Fault(f"{fault}{hint}") from None
         if self.units.start is not None and SERIALS[0] <= value <= SERIALS[1]:
             self.told.remark(place, f"{text} is taken for a number, and may be the date {day_number(value)} as spreadsheets count days: format the "

@@ -223,6 +223,13 @@ class Bounds(unittest.TestCase):
         found = bounds_of(Instance.from_text(HALL.replace("P||Cmax", "P||sumC")), PROGRAM)
         self.assertEqual([(it.value, it.word, it.solved, it.steps) for it in found], [(13, "proved", "P||sumC", ())])
 
+    def test_beyond(self) -> None:
+        """Beyond the limit of a solver a looser class bounds: 20,200 of work on 26 machines whose speeds are 63 together."""
+        jobs = "".join(f"job j{at} p={at % 100 + 1}\n" for at in range(400))
+        speeds = " ".join(str(at % 4 + 1) for at in range(26))
+        found = bounds_of(Instance.from_text(f"msp 1\nclass Q||Cmax\nmachines 26\nspeeds {speeds}\n{jobs}end\n"), PROGRAM)
+        self.assertEqual((found[0].value, found[0].solved), (Fraction(20200, 63), "1|pmtn|Cmax"))
+
     def test_limits(self) -> None:
         """A step that leaves the limits of texts is told, and not made."""
         told: list[str] = []

@@ -115,6 +115,11 @@ class Wheels(unittest.TestCase):
         version = (COMPANIONS.parent / "VERSION").read_text(encoding="utf-8").strip()
         self.assertEqual(run([f"{self.programs}/msp-cite", "--version"], self.folder), f"cite (msp) {version}\n")
         self.assertEqual(sorted(it.name for it in Path(self.programs).glob("msp-*")), sorted(f"msp-{it}" for it in NAMES))
+        said = run([f"{self.programs}/msp-what-if", "examples/known-strengths.csv", "1||Lmax", "easy"], self.folder)
+        self.assertEqual(said, "labels 0\nend\n")
+        said = run([f"{self.programs}/msp-propose", "--help"], self.folder)
+        self.assertTrue(said.startswith("usage: msp-propose [FILE] "))
+        self.assertIn("\n  msp-propose orders.txt > orders.plan\n  msp-propose orders.txt | msp-plan --instance orders.txt\n", said)
 
     @unittest.skipUnless((RELEASED / "msp.mjs").is_file() and shutil.which("node"), "there is no released/msp.mjs, or no Node")
     def test_port_inside(self) -> None:

@@ -11,6 +11,7 @@ from msp_reference.classes import (CLASS_COUNT, CMAX, Class, FMAX, JOB_SHOPS, ON
 from msp_reference.command import answer
 from msp_reference.dispatch import find_target, solve_any
 from msp_reference.instance import Instance
+from msp_search.grid import grid_size
 
 from .calls import Call, part_from
 from .comparisons import Judge, draw_of, told
@@ -19,6 +20,7 @@ from .judging import difference, word_after
 from .program import Program
 
 _SIZES = Sizes(jobs=4, time=3)
+_MOST_VECTORS = 100_000         # of work that is left, on a grid: more take minutes
 _KINDS = (b"group", b"machine", b"line", b"levels", b"segments", b"block", b"prices")
 
 
@@ -44,8 +46,11 @@ def optimum(inst: Instance, text: bytes) -> Optional[Fraction]:
     """The least cost of an instance, or with preemption and no solver one that is not below it; None where neither is found."""
     if find_target(inst.cls):
         return solve_any(inst).solution.cost
+    problem, _ = msp_search.read(text.decode())
+    if problem.cut and grid_size(problem, 1) > _MOST_VECTORS:
+        return None
     try:
-        return msp_search.least(msp_search.read(text.decode())[0]).cost
+        return msp_search.least(problem).cost
     except msp_search.TooLarge:
         return None
 

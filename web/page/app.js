@@ -56,6 +56,9 @@ export class App {
     this.judging = null;
     /** What was said last of a call that gave no plan. */
     this.said = '';
+    /** What is searched of instances in which something runs already, by their texts.
+     * @type {Map<string, import('./searching.js').Searched>} */
+    this.pinned = new Map();
     /** Whether the best cost is asked for, where it is not known that there is a solver. */
     this.asksBest = false;
     /** @type {(() => void)[]} */
@@ -214,7 +217,7 @@ export class App {
    * @param {boolean} [follows] whether the plan belongs to the change before it, and is taken back with that
    */
   async solve(follows = false) {
-    const { text } = this.built, control = new AbortController();
+    const { text } = this.built, { plan } = this.state, control = new AbortController();
     if (!text || this.running) return;
     if (this.judging) this.judging.abort();
     this.running = control;
@@ -224,7 +227,7 @@ export class App {
       const { solved, note, status } = await this.ask(text, control.signal);
       this.running = null;
       this.said = solved ? '' : this.why(status, note);
-      if (solved) this.takeBest(solved.pieces, follows);
+      if (solved) this.takeBest(solved.pieces, follows && this.state.plan === plan);
     } catch (fault) {
       if (this.running !== control) return;
       this.said = control.signal.aborted ? this.words.say('stopped') : this.words.say('failed', String(fault));
@@ -238,7 +241,7 @@ export class App {
    * @param {boolean} follows
    */
   takeBest(pieces, follows) {
-    if (follows && !this.state.plan) this.store.set({ ...this.state, plan: { pieces, from: 'best' } });
+    if (follows) this.store.set({ ...this.state, plan: { pieces, from: 'best' } });
     else this.plan({ pieces, from: 'best' });
   }
 

@@ -26,6 +26,8 @@ export class ChartView {
     this.tell = say;
     this.root = element('div', { class: 'scroll chart-room', tabindex: '-1' });
     this.byJob = false;
+    /** Up to which moment the axis goes at least. */
+    this.span = () => 0;
     this.zoom = 1;
     this.current = 0;
     /** The pieces while one of them is taken by the keyboard; null else.
@@ -58,7 +60,8 @@ export class ChartView {
   /** What is drawn, and how. */
   wanted(width = Math.max(300, this.root.clientWidth - 4)) {
     const { app } = this, { verdict } = app;
-    return { pieces: this.pieces, built: app.built, clock: app.clock, byJob: this.byJob, german: app.words.german, width: width * this.zoom,
+    return { pieces: this.pieces, built: app.built, clock: app.clock, byJob: this.byJob, german: app.words.german,
+      width: width * this.zoom, span: this.span(),
       machineName: (/** @type {number} */ it) => app.machineName(it), jobName: (/** @type {number} */ it) => app.jobName(it),
       broken: new Set(verdict && !this.held ? brokenPieces(verdict) : []),
       marked: this.held ? new Set([this.pieces[this.current].row]) : this.marked };

@@ -73,7 +73,7 @@ export function cut(name, fits) {
  * The greatest moment of a chart: its last end, and dates that are not far behind it.
  * @param {Wanted} wanted
  */
-function spanOf(wanted) {
+export function spanOf(wanted) {
   const last = Math.max(wanted.span || 0, ...wanted.pieces.map(it => near(it.to))) || 1;
   const dates = wanted.built.jobs.flatMap(it => it.d ? [near(it.d)] : []).filter(it => it <= 1.25 * last);
   return Math.max(last, ...dates);
@@ -183,10 +183,9 @@ export function chartOf(wanted) {
   const title = Math.max(...lines.titles.map(it => Array.from(it).length), 0) * LETTER + 14;
   const left = Math.round(Math.min(MOST_TITLE, Math.max(LEAST_TITLE, title))), span = spanOf(wanted);
   const scale = Math.max(40, wanted.width - left - 24) / span, place = (/** @type {Fraction} */ it) => left + near(it) * scale;
-  const colours = new Map(built.jobs.map((it, at) => [it.row.id, at % COLOURS]));
   const bars = pieces.map((piece, at) => {
     const x = place(piece.from), width = Math.max(1, place(piece.to) - x), missed = late.has(piece.row);
-    return { at, row: piece.row, x, y: TOP + lines.of(piece) * LINE + (LINE - BAR) / 2, width, colour: Number(colours.get(piece.row) || 0),
+    return { at, row: piece.row, x, y: TOP + lines.of(piece) * LINE + (LINE - BAR) / 2, width, colour: (piece.row - 1) % COLOURS,
       label: labelOf(piece, width, missed, wanted), late: missed, broken: wanted.broken.has(at), marked: wanted.marked.has(piece.row) };
   }).filter(it => Number.isFinite(it.y));
   const fits = Math.floor((left - 14) / LETTER);

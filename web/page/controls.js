@@ -45,7 +45,7 @@ export function choice(id, options, value, chosen) {
  */
 export function line(id, value, typed, more = {}) {
   const made = element('input', { id, spellcheck: 'false', autocomplete: 'off', autocapitalize: 'off', ...more });
-  made.value = value;
+  put(made, value);
   made.addEventListener('change', () => typed(made.value));
   return made;
 }
@@ -102,6 +102,46 @@ export async function copied(text) {
     return true;
   } catch (fault) {
     return false;
+  }
+}
+
+/**
+ * Puts a value into a field, where it is another one than was put there last: what is just being typed stays.
+ * @param {HTMLInputElement} field
+ * @param {string} value
+ */
+export function put(field, value) {
+  if (field.defaultValue === value) return;
+  field.defaultValue = value;
+  field.value = value;
+}
+
+/**
+ * Puts values into fields that stay: one to which a click or the tabulator goes is not built anew under it.
+ * @param {HTMLElement} root
+ * @param {Object<string, string>} values by the ids of the fields
+ */
+export function putValues(root, values) {
+  for (const [id, value] of Object.entries(values)) {
+    const found = root.querySelector(`#${CSS.escape(id)}`);
+    if (found instanceof HTMLInputElement) put(found, value);
+    else if (found instanceof HTMLSelectElement) found.value = value;
+  }
+}
+
+/**
+ * Marks fields with a fault, and says it behind them; what was marked before is not any more.
+ * @param {HTMLElement} root
+ * @param {{id: string, text: string}[]} faults by the ids of the fields
+ */
+export function markFaults(root, faults) {
+  root.querySelectorAll('.fault').forEach(it => it.remove());
+  root.querySelectorAll('[aria-invalid]').forEach(it => it.removeAttribute('aria-invalid'));
+  for (const { id, text } of faults) {
+    const control = root.querySelector(`#${CSS.escape(id)}`);
+    if (!control) continue;
+    control.setAttribute('aria-invalid', 'true');
+    control.after(element('span', { class: 'fault' }, text));
   }
 }
 

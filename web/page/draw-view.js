@@ -80,7 +80,8 @@ export class DrawView {
     for (const key of /** @type {Field[]} */ (['jobs', 'seed'])) {
       const { least, most } = DRAWN[key], input = byId(`draw-${key}`, HTMLInputElement), valid = numberIn(key, this.typed[key]) !== null;
       if (input.value !== this.typed[key]) input.value = this.typed[key];
-      input.setAttribute('aria-invalid', String(!valid));
+      if (valid) input.removeAttribute('aria-invalid');
+      else input.setAttribute('aria-invalid', 'true');
       byId(`draw-${key}-fault`, HTMLElement).textContent = valid ? '' : this.say('wholeFrom', least, most.toLocaleString(this.app.words.language));
     }
   }

@@ -1,7 +1,7 @@
 // What brings a problem into the page, and what takes it out: examples, lists, files, links, dates.
 import { element, fill } from '../elements.js';
 import { ArcsView } from './arcs-view.js';
-import { button, choice, copied, field, folded, give, line, part } from './controls.js';
+import { button, choice, copied, field, folded, give, line, markFaults, part, putValues } from './controls.js';
 import { DrawView } from './draw-view.js';
 import { pastedText } from './evidence.js';
 import { History } from './history.js';
@@ -211,24 +211,21 @@ export class InputView {
   // Dates and hours
 
   renderClock() {
-    const { problem } = this.app, set = (/** @type {string} */ key) => (/** @type {string} */ value) => this.app.change({ [key]: value });
-    const shape = JSON.stringify([this.app.words.language, { ...problem, rows: [] }, this.app.faults.filter(it => it.row === 0)]);
-    if (shape === this.shape) return;
+    const { unit, start, shifts, holidays } = this.app.problem, shape = this.app.words.language;
+    if (shape !== this.shape) this.buildClock();
     this.shape = shape;
-    const focus = document.activeElement instanceof HTMLElement ? document.activeElement.id : '';
+    putValues(this.clock, { unit, start, shifts, holidays });
+    markFaults(this.clock, this.app.faults.filter(it => it.row === 0).map(it => ({ id: it.key, text: this.say(it.code, ...it.values) })));
+  }
+
+  /** Builds the fields of dates and hours, in the words of the page. */
+  buildClock() {
+    const { problem } = this.app, set = (/** @type {string} */ key) => (/** @type {string} */ value) => this.app.change({ [key]: value });
     const units = UNITS.map(it => /** @type {[string, string]} */ ([it, this.say(`unit ${it || 'none'}`)]));
     fill(this.clock, field(this.say('unit'), choice('unit', units, problem.unit, set('unit'))),
       field(this.say('start'), line('start', problem.start, set('start'), { placeholder: '2026-03-02 06:00' })),
       field(this.say('shifts'), line('shifts', problem.shifts, set('shifts'), { placeholder: 'Mo-Fr 06:00-14:00,14:30-22:00' })),
       field(this.say('holidays'), line('holidays', problem.holidays, set('holidays'), { placeholder: '2026-12-24..2027-01-01' })));
-    for (const { row, key, code, values } of this.app.faults) {
-      const control = row === 0 && this.clock.querySelector(`#${CSS.escape(key)}`);
-      if (!control) continue;
-      control.setAttribute('aria-invalid', 'true');
-      control.after(element('span', { class: 'fault' }, this.say(code, ...values)));
-    }
-    const again = focus && this.clock.querySelector(`#${CSS.escape(focus)}`);
-    if (again instanceof HTMLElement) again.focus();
   }
 
   // The whole

@@ -11,11 +11,13 @@ import { button, choice } from './controls.js';
 import { fixedMachines } from './columns.js';
 import { InputView, stateOfText } from './input-view.js';
 import { LearnView } from './learn-view.js';
+import { BesideView } from './beside-view.js';
 import { PlanView } from './plan-view.js';
 import { ProblemView } from './problem-view.js';
 import { Shelf } from './shop-words.js';
 import { stateIn, unpacked } from './state.js';
 import { StepsView } from './steps-view.js';
+import { WhatIfView } from './what-if-view.js';
 import { WhyView } from './why-view.js';
 import { Words } from './words.js';
 
@@ -40,8 +42,11 @@ const why = new WhyView(app, rows => {
   plan.chart.marked = rows;
   plan.chart.render();
 });
-const steps = new StepsView(app, 'plan-steps');
+const steps = new StepsView(app, 'plan-steps'), beside = new BesideView(app, plan);
+const whatIf = new WhatIfView(app, plan.searching, beside, key => input.table.title(key), say);
+plan.keep = () => beside.keep();
 input.judge = (/** @type {string} */ text) => { why.take(text); };
+plan.chart.span = () => beside.span();
 const learn = new LearnView(byId('part-learn', HTMLElement), () => app.words, say, text => {
   const state = stateOfText(text);
   if (state) app.store.change(state);
@@ -175,7 +180,10 @@ function isOwn(target) {
 /** What is done by hand over the whole page. */
 function listen() {
   window.addEventListener('hashchange', route);
-  window.addEventListener('resize', () => plan.chart.render());
+  window.addEventListener('resize', () => {
+    plan.chart.render();
+    beside.render();
+  });
   document.addEventListener('keydown', event => {
     if (!(event.ctrlKey || event.metaKey) || partHere() !== 'plan') return;
     const key = event.key.toLowerCase();
@@ -195,8 +203,8 @@ function listen() {
 /** Puts the parts in their places, and takes what the link brings. */
 async function begin() {
   fill(byId('part-plan', HTMLElement), element('div', { class: 'given' }, input.tools, problem.root, input.root),
-    element('div', { class: 'found' }, plan.root, why.root, steps.root));
-  for (const view of [problem, input, plan, why, steps]) app.show(() => view.render());
+    element('div', { class: 'found' }, plan.root, beside.root, whatIf.root, why.root, steps.root));
+  for (const view of [problem, input, beside, plan, whatIf, why, steps]) app.show(() => view.render());
   listen();
   app.render();
   if (shop) input.note(app.words.say('shopBegins', input.shop.said(shop)));

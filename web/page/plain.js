@@ -1,6 +1,6 @@
 // An instance in whole numbers, as rules, search and bounds see it, and its text. Jobs, machines and places count from 0.
 import { fixedMachines, hasDue, hasSpeeds, hasWeight, kindOf } from './columns.js';
-import { fraction, gcd, times } from '../fractions.js';
+import { fraction, gcd, greatest, lcm, times } from '../fractions.js';
 import { nameOf } from '../names.js';
 
 /** @typedef {import('../names.js').Parts} Parts */
@@ -76,6 +76,7 @@ export function plainText({ parts, machines, speeds, shared, jobs, arcs }) {
  * @property {string} criterion
  * @property {number[][]} times of each job on each machine, but in shops
  * @property {Step[][]} steps
+ * @property {number[]} begins when each machine is free first
  * @property {number[]} release
  * @property {number[]} due
  * @property {number[]} weight
@@ -95,15 +96,16 @@ function partsOf({ parts, speeds, jobs, shared }) {
 }
 
 /**
- * The operations of a job of a shop that have work.
+ * The operations of a job of a shop that have work, with their times in parts.
  * @param {PlainJob} job
  * @param {Plain} plain
+ * @param {bigint} factor
  * @returns {Step[]}
  */
-function stepsOf(job, { parts, machines, shared }) {
+function stepsOf(job, { parts, machines, shared }, factor) {
   const route = kindOf(parts) === 'J' ? job.route.map(([machine, time]) => /** @type {[number, bigint]} */ ([machine, parts.times ? shared : time]))
     : Array.from({ length: machines }, (_, at) => /** @type {[number, bigint]} */ ([at, parts.times ? shared : job.p[at]]));
-  return route.map(([machine, time], at) => ({ number: at + 1, machine, time: Number(time) })).filter(it => it.time > 0);
+  return route.map(([machine, time], at) => ({ number: at + 1, machine, time: Number(time * factor) })).filter(it => it.time > 0);
 }
 
 /**
@@ -119,16 +121,26 @@ function timeOn(job, machine, { parts, speeds, shared }, factor) {
 }
 
 /**
+ * When machines are free first, where some are not from the beginning, and when jobs may begin that may not at their release dates.
+ * @typedef {{begins: Fraction[], later: Map<number, Fraction>}} Held
+ */
+
+/**
  * An instance for timing; null where its numbers are so great that they are not exact here.
  * @param {Plain} plain
+ * @param {Held} held
  * @returns {Timed | null}
  */
-export function timedOf(plain) {
-  const { parts, jobs, machines, arcs } = plain, kind = kindOf(parts), shop = 'OFJ'.includes(kind), factor = partsOf(plain);
+export function timedOf(plain, held = { begins: [], later: new Map() }) {
+  const { parts, jobs, machines, arcs } = plain, kind = kindOf(parts), shop = 'OFJ'.includes(kind);
+  const factor = [...held.begins, ...held.later.values()].reduce((all, it) => lcm(all, it.d), partsOf(plain));
+  const inParts = (/** @type {Fraction} */ it) => Number(times(it, fraction(factor)).n), none = fraction(0);
+  const releaseOf = (/** @type {PlainJob} */ job, /** @type {number} */ at) => inParts(greatest(fraction(job.r), held.later.get(at) || none));
   const timesOf = (/** @type {PlainJob} */ job) => Array.from({ length: machines }, (_, at) => timeOn(job, at, plain, factor));
   /** @type {Timed} */
   const timed = { parts: Number(factor), machines, shop, open: kind === 'O', alike: '1P'.includes(kind), criterion: parts.criterion,
-    times: shop ? [] : jobs.map(timesOf), steps: shop ? jobs.map(it => stepsOf(it, plain)) : [], release: jobs.map(it => Number(it.r * factor)),
+    times: shop ? [] : jobs.map(timesOf), steps: shop ? jobs.map(it => stepsOf(it, plain, factor)) : [],
+    begins: Array.from({ length: machines }, (_, at) => inParts(held.begins[at] || none)), release: jobs.map(releaseOf),
     due: jobs.map(it => Number(it.d * factor)), weight: jobs.map(it => Number(it.w)), curve: jobs.map(it => it.curve.map(Number)),
     before: jobs.map(() => []), after: jobs.map(() => []) };
   for (const [one, other] of arcs) {
@@ -136,5 +148,5 @@ export function timedOf(plain) {
     timed.after[one].push(other);
   }
   const total = timed.times.flat().reduce((sum, it) => sum + it, 0) + timed.steps.flat().reduce((sum, it) => sum + it.time, 0);
-  return total + Math.max(0, ...timed.release) < Number.MAX_SAFE_INTEGER ? timed : null;
+  return total + Math.max(0, ...timed.release, ...timed.begins) < Number.MAX_SAFE_INTEGER ? timed : null;
 }

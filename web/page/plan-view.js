@@ -4,6 +4,7 @@ import { AnswerView } from './answer.js';
 import { ChartView } from './chart-view.js';
 import { button, part, refill } from './controls.js';
 import { early } from './own.js';
+import { OrderView } from './order-view.js';
 import { files } from './plan-files.js';
 import { lists, pieceHeads, pieceRows, table } from './plan-lists.js';
 import { verdictNodes } from './plan-words.js';
@@ -24,6 +25,9 @@ export class PlanView {
     this.chart = new ChartView(app, say);
     this.searching = new Searching(app);
     this.answer = new AnswerView(app);
+    this.order = new OrderView(app, say);
+    /** Keeps the plan beside. */
+    this.keep = () => {};
     this.root = element('section', { id: 'the-plan', 'aria-labelledby': 'the-plan-head' });
     this.verdict = element('div', { class: 'verdict', role: 'status', 'aria-live': 'polite' });
     this.bars = element('div', { class: 'buttons' });
@@ -44,7 +48,7 @@ export class PlanView {
   mainButton() {
     const { app, searching } = this;
     if (searching.running) return button(this.say('stop'), () => searching.stop(), { id: 'stop', class: 'main' });
-    if (app.hasSolver === false) {
+    if (app.hasSolver === false || app.pinned.has(app.built.text)) {
       return button(this.say('search'), () => searching.start(), { id: 'best', class: 'main', title: this.say('searchSays'),
         disabled: app.built.text ? null : '' });
     }
@@ -65,6 +69,7 @@ export class PlanView {
       redraw(() => { chart.byJob = byJob; }), { id, 'aria-pressed': String(chart.byJob === byJob), disabled: off });
     return [this.mainButton(),
       button(this.say('early'), () => this.early(), { id: 'early', title: this.say('earlySays'), disabled: off }),
+      button(this.say('keepBeside'), () => this.keep(), { id: 'keep-beside', title: this.say('keepSays'), disabled: off }),
       element('span', { class: 'group', role: 'group' }, lines('by-machine', this.say('byMachine'), false), lines('by-job', this.say('byJob'), true)),
       element('span', { class: 'group', role: 'group' },
         button('\u2212', redraw(() => { chart.zoom = Math.max(1, chart.zoom / ZOOM); }),
@@ -79,7 +84,7 @@ export class PlanView {
   build() {
     this.shown = this.app.words.language;
     const keys = element('p', { class: 'quiet keys' }, this.say('keys'));
-    const made = part('the-plan', this.say('thePlan'), this.bars, this.verdict, this.chart.root, keys, this.below, this.printed);
+    const made = part('the-plan', this.say('thePlan'), this.bars, this.verdict, this.chart.root, keys, this.order.root, this.below, this.printed);
     fill(this.root, ...Array.from(made.childNodes));
   }
 
@@ -101,6 +106,7 @@ export class PlanView {
     refill(this.bars, ...this.buttons());
     fill(this.verdict, ...verdictNodes(app, this.searching, true));
     this.chart.render();
+    this.order.render();
     const open = Array.from(this.below.querySelectorAll('details'), it => it.open);
     this.answer.render();
     fill(this.below, ...(app.state.plan && app.built.text ? [...lists(app, open), files(app, this.chart), this.answer.root] : []));

@@ -6,7 +6,10 @@ import { brokenText } from './sentences.js';
 
 /** @typedef {import('./app.js').App} App */
 /** @typedef {import('../fractions.js').Fraction} Fraction */
-/** @typedef {import('./searching.js').Searching} Searching */
+/**
+ * A search beside a plan: whether it runs, how far it is, its bound, and whether what is said has names in the page.
+ * @typedef {{running: boolean, said: string, bound: import('./searching.js').Bound | null, isNamed: boolean}} Searching
+ */
 
 const MOST_FAULTS = 8;
 
@@ -63,7 +66,8 @@ function boundLines(app, cost, searching) {
   const { words } = app, bound = searching && searching.bound;
   if (!bound || app.hasSolver) return [];
   const gap = minus(cost, bound.value), steps = bound.steps.map(it => stepWords(it, app)).join('; ');
-  return [element('p', { id: 'bound' }, words.say('boundWords', costOf(app, bound.value), bound.name, steps), ' ',
+  const said = words.say('boundWords', costOf(app, bound.value), bound.name, steps);
+  return [element('p', { id: searching && searching.isNamed ? 'bound' : null }, said, ' ',
     compare(cost, bound.value) <= 0 ? words.say('closed') : words.say('gap', costOf(app, gap)))];
 }
 
@@ -78,7 +82,8 @@ function costLine(app, searching, shows) {
   if (!cost) return [];
   const word = wordOf(app, cost, searching), fine = word === 'proved' || word === 'argued';
   const said = word ? [element('span', { class: `word is-${word}`, title: words.say(`${word}Says`) }, words.say(word)), ' '] : [];
-  return [element('p', { class: `cost${fine ? ' fine' : ''}`, id: searching ? 'cost' : null }, ...said, beside(app, cost, shows)),
+  const id = searching && searching.isNamed ? 'cost' : null;
+  return [element('p', { class: `cost${fine ? ' fine' : ''}`, id }, ...said, beside(app, cost, shows)),
     ...boundLines(app, cost, searching)];
 }
 
@@ -114,12 +119,12 @@ function faultList(app) {
  * @returns {Node[]}
  */
 export function verdictNodes(app, searching, shows) {
-  const { verdict, faults, words } = app, lines = [];
+  const { verdict, faults, words } = app, lines = [], named = (/** @type {string} */ id) => searching && searching.isNamed ? id : null;
   if (faults.length) lines.push(faultList(app));
-  if (app.said) lines.push(element('p', { id: searching ? 'told' : null }, app.said));
+  if (app.said) lines.push(element('p', { id: named('told') }, app.said));
   if (searching && searching.running) lines.push(element('p', { id: 'tried' }, searching.said));
   if (verdict && !verdict.feasible) {
-    lines.push(element('p', { class: 'faulty', id: searching ? 'broken' : null }, words.say('broken', brokenText(verdict, app))));
+    lines.push(element('p', { class: 'faulty', id: named('broken') }, words.say('broken', brokenText(verdict, app))));
   }
   return [...lines, ...costLine(app, searching, shows), ...noteLine(app)];
 }

@@ -4,7 +4,7 @@ import { element, fill } from '../elements.js';
 import { changed, NAMES, partsOf, PARTS, rankOf, VALUES } from '../names.js';
 import { asked, near, read } from '../reading.js';
 import { fixedMachines, hasSpeeds } from './columns.js';
-import { button, choice, field, line, part, unfolded } from './controls.js';
+import { button, choice, field, line, markFaults, part, putValues, unfolded } from './controls.js';
 
 /** @typedef {import('./app.js').App} App */
 /** @typedef {import('../names.js').Part} Part */
@@ -98,6 +98,9 @@ export class ProblemView {
     return which === 'environment' || which === 'criterion' ? `${said} (${word})` : said;
   }
 
+  /** The names of the machines, as they stand in their field. */
+  get machineNames() { return this.app.problem.machineNames.join(', '); }
+
   /** The fields of the machines, and the time that all steps share. */
   machines() {
     const { problem } = this.app, fields = [];
@@ -109,7 +112,7 @@ export class ProblemView {
     if (problem.parts.times === 'p=p') fields.push(field(this.say('time'), line('time', problem.time, set('time'))));
     if (problem.parts.environment !== '1') {
       const names = (/** @type {string} */ value) => this.app.change({ machineNames: value.split(/[,;]/).map(it => it.trim()) });
-      fields.push(field(this.say('machineNames'), line('machineNames', problem.machineNames.join(', '), names,
+      fields.push(field(this.say('machineNames'), line('machineNames', this.machineNames, names,
         { placeholder: this.say('machineNamesHint') })));
     }
     return element('div', { class: 'fields' }, ...fields);
@@ -117,11 +120,13 @@ export class ProblemView {
 
   render() {
     if (this.typedOver !== this.app.problem.parts) this.typed = '';
-    const { app } = this, faults = app.faults.filter(it => it.row === 0);
-    const shape = JSON.stringify([app.words.language, { ...app.problem, rows: [] }, app.label, this.typed, faults]);
-    if (shape === this.shape) return;
+    const { app } = this, { parts, machines, speeds, time } = app.problem;
+    const shape = JSON.stringify([app.words.language, parts, app.label, this.typed]);
+    if (shape !== this.shape) this.build();
     this.shape = shape;
-    this.build();
+    putValues(this.root, { machines, speeds, time, machineNames: this.machineNames, 'class-name': this.typed || app.name });
+    const faults = app.faults.filter(it => it.row === 0);
+    markFaults(this.root, faults.map(it => ({ id: it.key === 'class' ? 'class-name' : it.key, text: this.say(it.code, ...it.values) })));
   }
 
   build() {
@@ -133,16 +138,5 @@ export class ProblemView {
     fill(this.root, ...Array.from(made.childNodes));
     const again = focus && this.root.querySelector(`#${CSS.escape(focus)}`);
     if (again instanceof HTMLElement) again.focus();
-    this.mark();
-  }
-
-  /** Marks the fields with a fault. */
-  mark() {
-    for (const { row, key, code, values } of this.app.faults) {
-      const control = row === 0 && this.root.querySelector(`#${CSS.escape(key === 'class' ? 'class-name' : key)}`);
-      if (!(control instanceof HTMLElement)) continue;
-      control.setAttribute('aria-invalid', 'true');
-      control.after(element('span', { class: 'fault' }, this.say(code, ...values)));
-    }
   }
 }

@@ -3,8 +3,9 @@ import { Search } from './search.js';
 
 const SLICE = 60;
 
-self.addEventListener('message', ({ data: { timed, seed } }) => {
-  const search = new Search(timed, seed), tell = () => self.postMessage({ tried: search.tried, best: search.best });
+self.addEventListener('message', ({ data: { timed, seed, given, below } }) => {
+  const search = new Search(timed, seed, given);
+  const tell = () => self.postMessage({ tried: search.tried, best: search.best.cost < below ? search.best : null });
   tell();
   const go = () => {
     const until = performance.now() + SLICE;

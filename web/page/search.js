@@ -64,12 +64,14 @@ export class Search {
   /**
    * @param {Timed} timed
    * @param {number} seed
+   * @param {Placed[] | null} given a plan to begin with, where no rule has a better one
    */
-  constructor(timed, seed) {
+  constructor(timed, seed, given = null) {
     this.timed = timed;
     this.random = numbers(seed);
     this.tried = 0;
-    const [first] = byRules(timed);
+    const old = given ? [{ rule: 'going on', cost: costOf(timed, given), placed: given }] : [];
+    const [first] = [...old, ...byRules(timed)].sort((one, other) => one.cost - other.cost);
     this.best = first;
     this.order = this.tokens(first.placed);
     this.cost = this.costOf(this.order);

@@ -9,8 +9,18 @@ import { listCost } from './schedule.js';
 /** @typedef {import('./app.js').App} App */
 /** @typedef {import('../fractions.js').Fraction} Fraction */
 /** @typedef {import('./timing.js').Placed} Placed */
+/** @typedef {import('./schedule.js').Piece} Piece */
+/** @typedef {import('./plain.js').Timed} Timed */
 /** @typedef {{text: string, value: Fraction, name: string, steps: string[]}} Bound a bound in units of the list, its class,
  * and the names of its steps */
+/**
+ * What is searched, and the whole plan of what is found; where something runs, its pieces.
+ * @typedef {{timed: Timed | null, piecesOf: (placed: Placed[]) => Piece[], runs?: Piece[]}} Searched
+ */
+/**
+ * How a search begins: whether its plans belong to the last change; a plan to begin with; and a cost, in parts, below which plans are taken.
+ * @typedef {{again?: boolean, given?: Placed[] | null, below?: number}} Begin
+ */
 
 const SEED = 1;
 
@@ -35,6 +45,9 @@ export class Searching {
 
   get running() { return this.worker !== null; }
 
+  /** Whether what is said of the plan has names in the page. */
+  get isNamed() { return true; }
+
   /** The greatest bound of the instance; null where none was found. */
   get bound() { return this.found && this.found.text === this.app.built.text ? this.found : null; }
 
@@ -47,9 +60,23 @@ export class Searching {
     if (line) line.textContent = this.said;
   }
 
-  /** Begins a search; the plan of the page is the best so far. */
-  start() {
-    const { app } = this, source = document.getElementById('search-worker'), timed = app.built.text && timedOf(plainOf(app.built, app.problem.parts));
+  /**
+   * What is searched: the instance, or where something runs all but that.
+   * @returns {Searched}
+   */
+  searched() {
+    const { app } = this, { built } = app, timed = built.text ? timedOf(plainOf(built, app.problem.parts)) : null;
+    const unit = timed ? built.scale * BigInt(timed.parts) : 1n;
+    return app.pinned.get(built.text) || { timed, piecesOf: placed => placed.map(it => ({ row: built.jobs[it.job].row.id, op: it.number,
+      machine: it.machine + 1, from: fraction(it.start, unit), to: fraction(it.end, unit) })) };
+  }
+
+  /**
+   * Begins a search; the plan of the page is the best so far.
+   * @param {Begin} begin
+   */
+  start({ again = false, given = null, below = Infinity } = {}) {
+    const { app } = this, source = document.getElementById('search-worker'), { timed, piecesOf } = this.searched();
     this.stop();
     if (!timed || !source) {
       app.said = app.words.say('tooGreat');
@@ -58,31 +85,27 @@ export class Searching {
     }
     this.text = app.built.text;
     this.worker = new Worker(URL.createObjectURL(new Blob([source.textContent || ''], { type: 'text/javascript' })));
-    this.plan = null;
+    this.plan = again ? app.state.plan : null;
     this.worker.addEventListener('message', ({ data }) => {
       if (app.built.text !== this.text) {
         this.stop();
         return;
       }
       this.tried = data.tried;
-      if (data.best) this.take(data.best.placed, timed.parts);
+      if (data.best) this.take(piecesOf(data.best.placed));
       else this.tell();
     });
     this.worker.addEventListener('error', () => this.stop());
-    this.worker.postMessage({ timed, seed: SEED });
+    this.worker.postMessage({ timed, seed: SEED, given, below });
     this.bounds();
   }
 
   /**
    * Takes a plan in the place of the one before it; what stood there when the search began, and what was changed by hand since, can be taken back.
-   * @param {Placed[]} placed
-   * @param {number} parts
+   * @param {Piece[]} pieces
    */
-  take(placed, parts) {
-    const { app } = this, unit = app.built.scale * BigInt(parts);
-    const pieces = placed.map(it => ({ row: app.built.jobs[it.job].row.id, op: it.number, machine: it.machine + 1, from: fraction(it.start, unit),
-      to: fraction(it.end, unit) }));
-    const goesOn = this.plan !== null && app.state.plan === this.plan;
+  take(pieces) {
+    const { app } = this, goesOn = this.plan !== null && app.state.plan === this.plan;
     this.plan = { pieces, from: 'rules' };
     if (goesOn) app.store.set({ ...app.state, plan: this.plan });
     else app.plan(this.plan);

@@ -1,7 +1,7 @@
 // The table of jobs: its cells are typed in or pasted, and each fault stands in its cell.
 import { element, fill } from '../elements.js';
 import { columnsOf } from './columns.js';
-import { button } from './controls.js';
+import { button, put } from './controls.js';
 import { machinesOf } from './instance.js';
 import { listOf } from './spreadsheet.js';
 
@@ -139,7 +139,7 @@ export class TableView {
     const cells = this.columns.map(key => {
       const input = element('input', { 'aria-label': `${this.title(key)}, ${name}`, spellcheck: 'false', autocomplete: 'off', autocapitalize: 'off',
         placeholder: key === 'job' ? `j${at + 1}` : key === 'r' ? '0' : null, inputmode: /^(p\d*|w)$/.test(key) ? 'decimal' : null, dir: 'auto' });
-      input.value = key === 'job' ? row.name : row.cells[key] || '';
+      put(input, key === 'job' ? row.name : row.cells[key] || '');
       return element('td', { 'data-row': String(row.id), 'data-key': key, class: `cell-${key.replace(/\d+/, '')}` }, input);
     });
     const drop = button('\u00d7', () => this.drop(row.id), { class: 'drop', 'aria-label': this.app.words.say('dropRow', name) });
@@ -169,8 +169,7 @@ export class TableView {
     this.root.querySelectorAll('td[data-key] input').forEach(input => {
       const place = this.placeOf(input), row = place && rows.get(place.id);
       if (!row || !place || !(input instanceof HTMLInputElement)) return;
-      const text = place.key === 'job' ? row.name : row.cells[place.key] || '';
-      if (input.value !== text) input.value = text;
+      put(input, place.key === 'job' ? row.name : row.cells[place.key] || '');
     });
   }
 

@@ -87,7 +87,7 @@ export function serial(timed, order) {
  * @param {number[]} order
  */
 function serialJobs(timed, order) {
-  const free = new Array(timed.machines).fill(0), ends = new Array(timed.times.length).fill(0);
+  const free = timed.begins.slice(), ends = new Array(timed.times.length).fill(0);
   /** @type {Placed[]} */
   const found = [];
   for (const job of order) {
@@ -107,7 +107,7 @@ function serialJobs(timed, order) {
  * @returns {Placed[]}
  */
 export function serialShop(timed, tokens) {
-  const free = new Array(timed.machines).fill(0), ends = new Array(timed.steps.length).fill(0), now = timed.release.slice();
+  const free = timed.begins.slice(), ends = new Array(timed.steps.length).fill(0), now = timed.release.slice();
   const rest = timed.steps.map(it => it.slice()), late = /** @type {number[]} */ ([]), waits = timed.before.map(it => it.length);
   /** @type {Placed[]} */
   const found = [];
@@ -153,7 +153,7 @@ function rivals(those, delays) {
  * @returns {Placed[]}
  */
 function dispatched(timed, order, delays) {
-  const free = new Array(timed.machines).fill(0), now = timed.release.slice(), rest = timed.steps.map(it => it.slice());
+  const free = timed.begins.slice(), now = timed.release.slice(), rest = timed.steps.map(it => it.slice());
   const waits = timed.before.map(it => it.length), places = new Array(order.length);
   order.forEach((job, at) => { places[job] = at; });
   let there = order.filter(job => !waits[job]);
@@ -215,7 +215,7 @@ function freeFor(timed, job, now, free) {
  */
 export function listed(timed, order) {
   if (timed.shop) return dispatched(timed, order, false);
-  const free = new Array(timed.machines).fill(0), now = timed.release.slice(), waits = timed.before.map(it => it.length);
+  const free = timed.begins.slice(), now = timed.release.slice(), waits = timed.before.map(it => it.length);
   let rest = order.slice();
   /** @type {Placed[]} */
   const found = [];
@@ -231,6 +231,29 @@ export function listed(timed, order) {
     }
   }
   return found;
+}
+
+/**
+ * The operations of a plan that goes on, in their order: each with the machine on which it stands, or null where it may go to any.
+ * @typedef {{job: number, number: number, machine: number | null}} Next
+ */
+
+/**
+ * The schedule of operations one after another, each as early as it can be on its machine; where none is named, on that where it ends first.
+ * @param {Timed} timed
+ * @param {Next[]} order
+ * @returns {Placed[]}
+ */
+export function carriedOn(timed, order) {
+  const free = timed.begins.slice(), ends = timed.release.map(() => 0);
+  return order.map(({ job, number, machine }) => {
+    const now = Math.max(timed.release[job], ends[job], ...timed.before[job].map(it => ends[it]));
+    const step = timed.shop ? timed.steps[job].find(it => it.number === number) : undefined, on = step ? [] : timed.times[job];
+    const soonestOf = () => on.reduce((best, it, at) => Math.max(free[at], now) + it < Math.max(free[best], now) + on[best] ? at : best, 0);
+    const at = step ? step.machine : machine === null ? soonestOf() : machine, start = Math.max(free[at], now);
+    free[at] = ends[job] = start + (step ? step.time : on[at]);
+    return { job, number, machine: at, start, end: ends[job] };
+  });
 }
 
 /** The ways by their names.

@@ -38,6 +38,15 @@
     at(id).value = text;
     turn(at(id));
   };
+  /**
+   * Writes into a box, as keys do.
+   * @param {string} id
+   * @param {string} text
+   */
+  const write = (id, text) => {
+    at(id).value = text;
+    at(id).dispatchEvent(new Event('input', { bubbles: true }));
+  };
   /** @param {string} text */
   const pasteIn = text => {
     const data = new DataTransfer();
@@ -49,7 +58,7 @@
   };
   /** @param {string} id */
   const open = id => document.querySelectorAll(`#${id} > details`).forEach(it => it.setAttribute('open', ''));
-  Object.assign(window.trial, { language, takeList, cell, typeIn, typeInto, pasteIn, open });
+  Object.assign(window.trial, { language, takeList, cell, typeIn, typeInto, write, pasteIn, open });
 })();
 
 // Jobs and their order.

@@ -9,6 +9,7 @@ import argparse
 import dataclasses
 import json
 import os
+import re
 import sys
 from dataclasses import dataclass
 from fractions import Fraction
@@ -18,6 +19,7 @@ from ..about import VERSION
 from ..classes import ClassName
 from ..faults import Refusal
 from ..naming import near
+from . import NAMES
 
 Tell = Callable[[str], None]
 W = TypeVar("W")
@@ -88,10 +90,12 @@ class Command(Generic[W, A]):
     status: Callable[[A], int] = lambda _: 0
 
     def parser(self) -> Parser:
-        """The parser of the words."""
-        examples = "\n".join(f"  {it}" for it in self.example.strip().split("\n"))
-        parser = Parser(prog=self.name, usage=f"%(prog)s {self.usage}", description=self.says.strip(), epilog=f"example:\n{examples}",
-                        allow_abbrev=False, formatter_class=Form)
+        """The parser of the words; its help calls an installed command msp-NAME, as people do."""
+        installed = os.path.basename(sys.argv[0]).partition(".")[0] == f"msp-{self.name}"
+        example = re.sub(rf"(?<![\w./-])({'|'.join(NAMES)})(?=\s|$)", r"msp-\1", self.example) if installed else self.example
+        examples = "\n".join(f"  {it}" for it in example.strip().split("\n"))
+        parser = Parser(prog=f"msp-{self.name}" if installed else self.name, usage=f"%(prog)s {self.usage}", description=self.says.strip(),
+                        epilog=f"example:\n{examples}", allow_abbrev=False, formatter_class=Form)
         self.words(parser)
         parser.add_argument("--json", action="store_true", help="prints the answer as JSON; exact numbers are texts, as 10/3")
         parser.add_argument("--version", action="version", version=f"{self.name} (msp) {VERSION}", help="prints the version")

@@ -9,7 +9,7 @@ from fractions import Fraction
 from ..faults import Misfit
 from ..plans import Rows, jobs_of, judged, moved_early, need_jobs, pieces_of, read_texts, rounded, summary, text_table
 from ..program import need_program
-from ..schedules import Schedule
+from ..schedules import Schedule, cost_of, ends_of
 from ..texts import Instance
 from ..units import Units, UnitWords, unit_of
 from ..workbooks import Sheets, write_workbook
@@ -48,23 +48,25 @@ class Wanted(UnitWords):
 
 @dataclass
 class Answer:
-    """A plan: its cost, its pieces and jobs as tables, what a calendar means, a line on the whole, and what `check` says of it once rounded."""
+    """A plan: its cost, its pieces and jobs as tables, what a calendar means, a line on the whole, and what `check` says of it once rounded. The
+    table of jobs that people see has the lateness in words."""
     cost: Fraction
     pieces: Rows
     jobs: Rows
     notes: list[str]
     summary: str
     broken: str | None
+    shown: Rows = field(repr=False)
     wanted: Wanted = field(repr=False)
 
 
 def rounded_plan(schedule: Schedule, instance: Instance | None, units: Units, wanted: Wanted) -> tuple[Schedule, str | None]:
-    """The schedule with rounded moments and the cost that `check` says; and what it says where it is not feasible."""
+    """The schedule with rounded moments and the cost that `check` says; and what it says where it is not feasible, with the cost of these ends."""
     if instance is None:
         raise Misfit("--round needs --instance FILE: `msp check` judges the rounded plan")
     pieces = rounded(schedule, unit_of(wanted.round or ""), units)
     verdict = judged(pieces, instance, units, need_program(wanted.program))
-    cost = schedule.cost if verdict.cost is None else verdict.cost
+    cost = cost_of(instance, ends_of(pieces)) if verdict.cost is None else verdict.cost
     return Schedule(cost, schedule.unit, pieces, schedule.first), None if verdict.feasible else verdict.broken
 
 
@@ -83,7 +85,8 @@ def answer(wanted: Wanted, tell: Tell) -> Answer:
         schedule, broken = rounded_plan(schedule, instance, units, wanted)
     for_file = wanted.csv or wanted.semicolons
     found = Answer(schedule.cost, pieces_of(schedule, instance, units, for_file), jobs_of(schedule, instance, units), units.notes(),
-                   summary(schedule, instance, units, wanted.early or wanted.round is not None), broken, wanted)
+                   summary(schedule, instance, units, wanted.early or wanted.round is not None), broken,
+                   jobs_of(schedule, instance, units, for_file=False), wanted)
     if broken is not None:
         tell(f"the plan rounded to {wanted.round} is not feasible: {broken}")
     for line in found.notes if for_file else []:
@@ -106,7 +109,7 @@ def show(found: Answer) -> None:
     if wanted.xlsx:
         print(f"{wanted.xlsx}: {found.summary}")
         return
-    tables = [text_table(found.jobs), found.notes]
+    tables = [text_table(found.shown), found.notes]
     tables = tables if wanted.jobs else [text_table(found.pieces), *tables, [found.summary]]
     print("\n\n".join("\n".join(it) for it in tables if it))
 

@@ -21,9 +21,9 @@ SAYS = """
 Proposes a plan for an instance of any class, also where there is no solver, and says how far from the best it can be.
 
 FILE (or standard input) is an instance text; all classes that `msp check` judges will do (all but R and R2 where work may be cut). The
-schedule is the best that rules of the field and a local search find. Its cost is what `msp check` says. The bound is the greatest that a
-loosening of the instance gives to a class with a solver, or a certificate that `msp accept` takes on the instance; docs/bounds.md has the
-steps. One of three words says what is known:
+schedule is the best that rules of the field and a local search find, and for the greatest lateness on one machine branching. Its cost is what
+`msp check` says. The bound is the greatest that a loosening of the instance gives to a class with a solver, or a certificate that `msp accept`
+takes on the instance; docs/bounds.md has the steps. One of three words says what is known:
 
     proved   nothing costs less: by a solver of the class, or a certificate on this very instance
     argued   nothing costs less: by the least cost of a loosened instance, and the steps that lead there

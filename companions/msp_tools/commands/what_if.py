@@ -3,11 +3,12 @@ from __future__ import annotations
 
 import csv
 import io
+import os
 from concurrent.futures import ThreadPoolExecutor
 from dataclasses import dataclass, field
 
 from ..faults import Misfit
-from ..files import read_text
+from ..files import find_file, read_text
 from ..literature import labels_in
 from ..naming import Meaning, beyond_names, known_of_a_fixed_number, meaning_of
 from ..program import Program, need_program
@@ -146,7 +147,7 @@ def answer(wanted: Wanted, _: Tell) -> Answer:
     if wanted.each_open == (wanted.name is not None) or (wanted.name is not None and wanted.verdict is None):
         raise Misfit("the words are FILE NAME VERDICT or FILE --each-open; --help shows more")
     program = need_program(wanted.program)
-    text = read_text(wanted.file)
+    text = read_text(wanted.file if os.path.exists(wanted.file) else find_file(wanted.file) or wanted.file)
     head = text.removeprefix("\ufeff").split("\n", 1)[0].strip().split(",")
     known = VERDICTS.get(head[1] if len(head) > 1 else "", ())
     hard = "strong" if "strong" in known else "hard"
@@ -179,7 +180,7 @@ def found_status(found: Answer) -> int:
 
 def words(parser: Parser) -> None:
     """Adds the words."""
-    parser.add_argument("file", metavar="FILE", help="a file of known results")
+    parser.add_argument("file", metavar="FILE", help="a file of known results; those of examples/ come with the package")
     parser.add_argument("name", metavar="NAME", nargs="?", help="the class of the further result")
     parser.add_argument("verdict", metavar="VERDICT", nargs="?", help="what it says of the class")
     parser.add_argument("--each-open", action="store_true",
