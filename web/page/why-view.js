@@ -32,8 +32,9 @@ export class WhyView {
     /** What the program says of one's own bound. */
     this.judged = '';
     this.accepted = false;
-    /** @type {Kind} */
-    this.kind = 'group';
+    /** The kind that was chosen last; another one is shown where it can show nothing in the class.
+     * @type {Kind} */
+    this.wanted = 'group';
     this.bound = '';
     this.machine = '1';
     /** The certificate that was pasted or opened. */
@@ -55,6 +56,13 @@ export class WhyView {
     const simple = criterion !== 'Cmax' || environment[0] === 'R' ? [] : shop ? ['machine', 'line'] : ['group'];
     return this.ownOnly ? simple : [...simple, 'text'];
   }
+
+  /** The kind of evidence that is filled in.
+   * @returns {Kind} */
+  get kind() { return this.kinds.includes(this.wanted) ? this.wanted : this.kinds[0] || 'group'; }
+
+  /** @param {Kind} kind */
+  set kind(kind) { this.wanted = kind; }
 
   /** Asks the program for a certificate. */
   async ask() {
@@ -175,7 +183,6 @@ export class WhyView {
   form() {
     const { kinds } = this;
     if (!kinds.length) return [];
-    if (!kinds.includes(this.kind)) [this.kind] = kinds;
     const options = kinds.map(it => /** @type {[string, string]} */ ([it, this.say(`evidence ${it}`)]));
     const kind = choice(`${this.prefix}-kind`, options, this.kind, it => {
       this.kind = /** @type {Kind} */ (it);

@@ -355,7 +355,12 @@
     const marks = Array.from(room.querySelectorAll('path.due, path.release'), it => getComputedStyle(it).stroke);
     return [...texts, ...marks.filter(it => contrast(it, paper) < 3).map(it => `a mark: ${it} on ${paper}`)];
   });
-  Object.assign(window.trial, { pale });
+  /** Fields whose hint can hardly be read. */
+  const faint = () => Array.from(document.querySelectorAll('[placeholder]')).filter(it => it.getClientRects().length).filter(it => {
+    const { color, opacity } = getComputedStyle(it, '::placeholder');
+    return Number(opacity) < 1 || contrast(color, getComputedStyle(it).backgroundColor) < 4.5;
+  }).map(it => `the hint of ${it.id}`);
+  Object.assign(window.trial, { pale, faint });
 })();
 
 // Lessons.
