@@ -237,12 +237,11 @@ function goingOn(left, spans, rest, stands) {
  * @param {Question} question
  * @param {Problem} problem
  * @param {Piece[]} pieces
- * @param {(machine: number) => string} machineName
  * @param {boolean} german
  * @param {Piece[]} [runs] pieces of what runs already
  * @returns {Answer}
  */
-export function answered(question, problem, pieces, machineName, german, runs = []) {
+export function answered(question, problem, pieces, german, runs = []) {
   const old = soundly(problem), why = impossible(question.kind, problem, old.machines), now = greatest(question.now, ...runs.map(it => it.from));
   if (why) throw new Refused(why);
   if (question.now.n < 0n) throw new Refused('ifBefore');
@@ -250,7 +249,7 @@ export function answered(question, problem, pieces, machineName, german, runs = 
   const unit = unitOf([old, asked], pieces, now), moment = times(now, fraction(unit)).n, lists = [problem, changed];
   const spans = [old, asked].map(it => spansOf(pieces, it, unit)), lefts = leftOfBoth([old, asked], lists, spans, moment, failed, unit, runs);
   const [before, after] = lefts, goes = moment > 0n || runs.length > 0, moves = goes || failed.length > 0, rest = restOf(after);
-  const list = (/** @type {number} */ at) => relisted(lefts[at], unit, lists[at], [old, asked][at], machineName, german);
+  const list = (/** @type {number} */ at) => relisted(lefts[at], unit, lists[at], [old, asked][at], german);
   const went = moves ? list(1) : changed, made = soundly(went), begin = goingOn(after, spans[1], rest, !failed.length);
   const was = goes ? list(0) : problem, beforePieces = goes ? piecesOf(clipped(before, spans[0]), soundly(was), unit) : pieces;
   return { problem: went, pieces: piecesOf(begin.spans, made, unit), spans: begin.spans, given: begin.given, rest,

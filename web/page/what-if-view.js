@@ -188,7 +188,7 @@ export class WhatIfView {
       await this.judge(app.planText(), 'ifBroken');
       const question = this.question();
       const searched = app.pinned.get(app.built.text);
-      const answer = answered(question, app.problem, plan.pieces, it => app.machineName(it), app.words.german, searched && searched.runs);
+      const answer = answered(question, app.problem, plan.pieces, app.words.german, searched && searched.runs);
       const made = built(answer.problem, clockOf(answer.problem));
       await this.judge(made.text + scheduleText(answer.pieces, made), '', made);
       if (app.state.plan === plan) this.take(question, answer, made);
