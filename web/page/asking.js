@@ -34,6 +34,7 @@ import { carriedOn } from './timing.js';
  * searched, the plan before in the same terms, and what is to be known.
  * @typedef {object} Answer
  * @property {Problem} problem
+ * @property {Built} made its instance
  * @property {Piece[]} pieces
  * @property {Placed[] | null} given the pieces for the search, where they were placed anew
  * @property {Span[]} spans the same pieces, in numbers of the search
@@ -252,6 +253,6 @@ export function answered(question, problem, pieces, german, runs = []) {
   const list = (/** @type {number} */ at) => relisted(lefts[at], unit, lists[at], [old, asked][at], german);
   const went = moves ? list(1) : changed, made = soundly(went), begin = goingOn(after, spans[1], rest, !failed.length);
   const was = goes ? list(0) : problem, beforePieces = goes ? piecesOf(clipped(before, spans[0]), soundly(was), unit) : pieces;
-  return { problem: went, pieces: piecesOf(begin.spans, made, unit), spans: begin.spans, given: begin.given, rest,
+  return { problem: went, made, pieces: piecesOf(begin.spans, made, unit), spans: begin.spans, given: begin.given, rest,
     unit, before: { problem: was, pieces: beforePieces, rest: goes ? restOf(before) : null }, told: after.told, asked };
 }
