@@ -61,7 +61,7 @@ class Branching:
             while self.nodes and self.nodes[0].bound < self.value and effort.tries > 0 and not effort.met(self.value):
                 effort.tries -= TRIES_FOR_A_NODE
                 self.branch(heappop(self.nodes), effort)
-        return not self.nodes or self.nodes[0].bound >= self.value or effort.met(self.value)
+        return not effort.interrupted and (not self.nodes or self.nodes[0].bound >= self.value or effort.met(self.value))
 
     def open(self, heads: List[int], tails: List[int]) -> None:
         """Opens a node, where it can be better."""
