@@ -213,8 +213,8 @@ class Channel:
                 raise Failed(f"firefox ended the connection: {event}")
             text += event.data
             if event.message_finished:
-                break
-        return json.loads(text)
+                return json.loads(text)
+        raise Failed("firefox ended the connection")
 
     def ask(self, method: str, **how: Any) -> Any:
         """The answer to a command; events are left alone."""

@@ -10,7 +10,7 @@ from __future__ import annotations
 
 from dataclasses import dataclass, field, fields
 from fractions import Fraction
-from typing import Dict, Iterable, List, Mapping, Protocol, Sequence
+from typing import Any, Dict, Iterable, List, Mapping, Protocol, Sequence
 
 from . import judging, lists, schedules, texts
 from .charts import Chart, Options
@@ -39,6 +39,11 @@ Row = Mapping[str, object]
 
 # Instances
 
+def values_of(instance: texts.Instance) -> dict[str, Any]:
+    """The values of an instance text that was read, by the names of its fields."""
+    return {it.name: getattr(instance, it.name) for it in fields(texts.Instance)}
+
+
 class Frame(Protocol):
     """A table as pandas has it."""
 
@@ -55,24 +60,18 @@ class Instance(texts.Instance):
     remarks: list[str] = field(default_factory=list, compare=False, repr=False)
 
     @classmethod
-    def from_read(cls, given: texts.Instance) -> Instance:
-        """An instance text that was read, as an instance of the library."""
-        return cls(**{it.name: getattr(given, it.name) for it in fields(texts.Instance)})
-
-    @classmethod
     def from_text(cls, text: str) -> Instance:
         """Reads an instance text (docs/formats.md). A Fault names the line; conditions of the class are the program's to refuse."""
-        return cls.from_read(texts.read_instance(text))
+        return cls(**values_of(texts.read_instance(text)))
 
     @classmethod
     def from_file(cls, path: str) -> Instance:
         """Reads the instance text of a file. A Fault has its path and the line, a Misfit says that it cannot be read."""
-        return cls.from_read(texts.read_instance_at(path))
+        return cls(**values_of(texts.read_instance_at(path)))
 
     @classmethod
-    def from_table(cls, kind: str, table: Table, words: ListWords | None = None) -> Instance:
-        """The instance of a list, by the name of its class and the words of from-csv: times and dates count in the words' `time_unit`, times their
-        `scale`. A Fault tells all faults of the list, each at its line; a Misfit says which words do not fit the class."""
+    def _from_table(cls, kind: str, table: Table, words: ListWords | None = None) -> Instance:
+        """The instance of a list, with its units and remarks."""
         told = Told()
         made = lists.instance_of(table, kind, words or ListWords(), told)
         found = cls.from_text(made.text)
@@ -83,22 +82,24 @@ class Instance(texts.Instance):
 
     @classmethod
     def from_spreadsheet(cls, kind: str, path: str, words: ListWords | None = None, encoding: str = "utf-8", sheet: str | None = None) -> Instance:
-        """Reads a list as spreadsheets save it: CSV in an encoding, or a workbook .xlsx (by openpyxl), its first sheet or a named one."""
-        return cls.from_table(kind, table_of(read_bytes(path), encoding, sheet), words)
+        """Reads a list as spreadsheets save it: CSV in an encoding, or a workbook .xlsx (by openpyxl), its first sheet or a named one. `kind` is the
+        name of its class; `words` say what its columns mean and in what they count. A Fault tells all faults of the list, each at its line; a
+        Misfit says which words do not fit the class, or that the file cannot be read."""
+        return cls._from_table(kind, table_of(read_bytes(path), encoding, sheet), words)
 
     @classmethod
     def from_rows(cls, kind: str, rows: Iterable[Row], words: ListWords | None = None) -> Instance:
         """Makes the instance of rows, each a mapping from names of columns (job, p, r, d, w, after ..) to values: texts, numbers, dates, lengths of
-        time (timedelta), and lists, as those of a route or of the jobs in `after`. A Fault counts rows from 1."""
+        time (timedelta), and lists, as those of a route or of the jobs in `after`. A Fault tells all faults, rows counted from 1."""
         those = list(rows)
         columns = list(dict.fromkeys(str(name) for row in those for name in row))
         table = table_of_rows([columns, *([row.get(name) for name in columns] for row in those)])
         counted = [Record(it.line - 1, it.fields) for it in table.records]
-        return cls.from_table(kind, Table(counted, line=table.line), words)
+        return cls._from_table(kind, Table(counted, line=table.line), words)
 
     @classmethod
     def from_frame(cls, kind: str, frame: Frame, words: ListWords | None = None) -> Instance:
-        """Makes the instance of a frame of pandas, whose columns are those of a list."""
+        """Makes the instance of a frame of pandas, whose columns are those of a list, in the same way."""
         return cls.from_rows(kind, frame.to_dict("records"), words)
 
     def __str__(self) -> str:
@@ -108,7 +109,7 @@ class Instance(texts.Instance):
 
 def as_ours(instance: texts.Instance) -> Instance:
     """An instance as the library has it."""
-    return instance if isinstance(instance, Instance) else Instance.from_read(instance)
+    return instance if isinstance(instance, Instance) else Instance(**values_of(instance))
 
 
 # Schedules

@@ -27,6 +27,7 @@ from .texts import Instance
 from .timing import early, listed, serial
 
 Heard = Callable[[str], None]
+MOST_RELATED = 12  # (schedules of relaxations)
 
 
 @dataclass
@@ -113,16 +114,17 @@ class Planner:
         return judge(self.program, self.instance.text(), text_of(pieces, 0), pieces, self.words)
 
     def related(self, bounds: Sequence[Bound]) -> Iterator[Tried]:
-        """The schedules of relaxations, as orders of the jobs by their ends."""
+        """The schedules of the relaxations of the greatest bounds, as orders of the jobs by their ends; each order once."""
         names, problem = set(self.problem.names), self.problem
+        orders: dict[Tuple[int, ...], str] = {}
         for bound in bounds:
-            if not bound.evidence.startswith("start "):
-                continue
-            ends = read_schedule(bound.evidence).ends()
-            if not names.issubset(ends):
-                continue
-            order = by_names(problem, ends)
-            rule = f"schedule of {bound.solved}"
+            if len(orders) == MOST_RELATED:
+                break
+            ends = read_schedule(bound.evidence).ends() if bound.evidence.startswith("start ") else {}
+            if names.issubset(ends):
+                orders.setdefault(tuple(by_names(problem, ends)), f"schedule of {bound.solved}")
+        for those, rule in orders.items():
+            order = list(those)
             if problem.cut:
                 yield Tried(rule, "cut", float(cut_cost(problem, order)), [], order)
                 continue

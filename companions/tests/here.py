@@ -20,4 +20,5 @@ MEASURED = ("1|r|Lmax", "1|r|sumC", "1||sumT", "1||sumwT", "1|r|sumwU", "P||Cmax
 def reader_of(doc: str | None) -> argparse.ArgumentParser:
     """A reader of words, by the text of a script, whose third line is its usage."""
     text = doc or ""
-    return argparse.ArgumentParser(usage=text.split("\n")[2].strip(), description=text, formatter_class=argparse.RawDescriptionHelpFormatter)
+    return argparse.ArgumentParser(usage=text.split("\n")[2].strip(), description=text, allow_abbrev=False,
+                                   formatter_class=argparse.RawDescriptionHelpFormatter)

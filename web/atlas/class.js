@@ -89,6 +89,20 @@ function neighbourList(view, title, steps) {
 }
 
 /**
+ * What stands around a class: a picture of the reductions, and its neighbours.
+ * @param {View} view
+ * @param {number} at
+ * @returns {Node[]}
+ */
+export function aroundView(view, at) {
+  const { atlas } = view, chains = told(view).chainsOf(at);
+  const neighbours = element('section', { class: 'neighbours' }, neighbourList(view, 'Rows lead to', atlas.above(at)), neighbourList(view,
+    'Rows lead here from', atlas.below(at)));
+  const picture = drawn(view, around(atlas, chains.map(([, it]) => it), at), at, `The reductions around ${NAMES[at]}`);
+  return [element('section', {}, element('h3', {}, 'The reductions around it'), picture), neighbours];
+}
+
+/**
  * All that is said of a class.
  * @param {View} view
  * @param {number} at
@@ -104,10 +118,7 @@ export function classView(view, at) {
       `This page was built with the chains of ${atlas.data.asked} classes alone; msp why '${NAMES[at]}' prints them.`));
   }
   box.append(...solverPart(view, at), keeper(view, at));
-  const neighbours = element('section', { class: 'neighbours' }, neighbourList(view, 'Rows lead to', atlas.above(at)), neighbourList(view,
-    'Rows lead here from', atlas.below(at)));
-  const picture = drawn(view, around(atlas, chains.map(([, it]) => it), at), at, `The reductions around ${NAMES[at]}`);
-  return [...clashes(view), box, element('section', {}, element('h3', {}, 'The reductions around it'), picture), neighbours];
+  return [...clashes(view), box];
 }
 
 /**

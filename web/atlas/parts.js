@@ -152,7 +152,8 @@ export function reference(view, key, decides) {
  * @returns {Node[]}
  */
 function factLines(view, record) {
-  const [time, from, said] = (view.atlas.data.facts || {})[record] || ['', '', ''], source = said.endsWith('.md') ? 'our own proof' : said, lines = [];
+  const [time, from, said] = (view.atlas.data.facts || {})[record] || ['', '', ''], lines = [];
+  const source = said.endsWith('.md') ? 'our own proof' : said;
   if (time) {lines.push(element('p', { class: 'reference' }, `Time of the rule there: ${time}`, source ? ` (${source})` : '',
     '. It is the literature\u2019s, not that of msp solve.'));}
   if (from) lines.push(element('p', { class: 'reference' }, `Reduced from ${from}`, source ? ` (${source})` : '', '.'));

@@ -3,7 +3,7 @@ import { element } from '../elements.js';
 import { NAMES, rankOf } from '../names.js';
 import { aboutView, proofView } from './about.js';
 import { askedView } from './asked.js';
-import { classView } from './class.js';
+import { aroundView, classView } from './class.js';
 import { frontierView, labelView, selectionView } from './lists.js';
 import { address, dot, linkTo, selected, told } from './parts.js';
 import { placeOf, searchBox } from './search.js';
@@ -69,16 +69,23 @@ export class Shown {
   }
 
   /**
-   * A view of one class, with the tables beside it.
+   * A view of one class, with the tables beside it. Where all but the answer is below the screen, the first view is drawn without, so that
+   * the answer is there at once, and the rest comes behind it.
    * @param {number} at
    * @returns {string} its title
    */
   showClass(at) {
-    const { view, frame: { main } } = this;
+    const { view, frame: { main } } = this, answer = element('div', { class: 'answer' }, ...classView(view, at)), tables = element('div', { class:
+      'tables' });
+    const rest = () => {
+      answer.append(...aroundView(view, at));
+      tables.append(picker(view, at), maps(view, at));
+    };
     view.current = at;
     main.className = 'pair';
-    main.replaceChildren(element('div', { class: 'answer' }, ...classView(view, at)), element('div', { class: 'tables' }, picker(view, at),
-      maps(view, at)));
+    main.replaceChildren(answer, tables);
+    if (this.title || !window.matchMedia('(max-width: 960px)').matches) rest();
+    else requestAnimationFrame(() => setTimeout(rest));
     return `${NAMES[at]} is ${told(view).labels[at]}`;
   }
 

@@ -6,7 +6,7 @@ import { compare } from '../fractions.js';
 import { built } from './instance.js';
 import { listCost, scheduleText, solvedOf } from './schedule.js';
 import { Store } from './store.js';
-import { calledAt } from './jobs.js';
+import { calledAt, machineAt } from './jobs.js';
 import { usedRows } from './instance.js';
 import { faultOf, verdictOf } from './verdicts.js';
 
@@ -103,9 +103,7 @@ export class App {
   }
 
   /** @param {number} machine */
-  machineName(machine) {
-    return (this.problem.machineNames[machine - 1] || '').trim() || this.words.say('machine', machine);
-  }
+  machineName(machine) { return machineAt(this.problem.machineNames, machine, this.words); }
 
   /**
    * A change of the problem, which can be taken back.

@@ -1,6 +1,6 @@
 // What was asked, and what is to be known of the answer, as sentences in the language of the page.
 import { clockOf, momentText } from './clock.js';
-import { calledAt } from './jobs.js';
+import { calledAt, machineAt } from './jobs.js';
 import { fraction, over, shown } from '../fractions.js';
 import { nameOf, rankOf } from '../names.js';
 
@@ -34,7 +34,7 @@ class Asked {
   }
 
   /** @param {number} at from 0 */
-  machine(at) { return (this.machines[at] || '').trim() || this.app.words.say('machine', at + 1); }
+  machine(at) { return machineAt(this.machines, at + 1, this.app.words); }
 
   /**
    * A moment of the plan before.

@@ -34,6 +34,7 @@ import { carriedOn } from './timing.js';
  * searched, the plan before in the same terms, and what is to be known.
  * @typedef {object} Answer
  * @property {Problem} problem
+ * @property {Built} made its instance
  * @property {Piece[]} pieces
  * @property {Placed[] | null} given the pieces for the search, where they were placed anew
  * @property {Span[]} spans the same pieces, in numbers of the search
@@ -237,12 +238,11 @@ function goingOn(left, spans, rest, stands) {
  * @param {Question} question
  * @param {Problem} problem
  * @param {Piece[]} pieces
- * @param {(machine: number) => string} machineName
  * @param {boolean} german
  * @param {Piece[]} [runs] pieces of what runs already
  * @returns {Answer}
  */
-export function answered(question, problem, pieces, machineName, german, runs = []) {
+export function answered(question, problem, pieces, german, runs = []) {
   const old = soundly(problem), why = impossible(question.kind, problem, old.machines), now = greatest(question.now, ...runs.map(it => it.from));
   if (why) throw new Refused(why);
   if (question.now.n < 0n) throw new Refused('ifBefore');
@@ -250,9 +250,9 @@ export function answered(question, problem, pieces, machineName, german, runs = 
   const unit = unitOf([old, asked], pieces, now), moment = times(now, fraction(unit)).n, lists = [problem, changed];
   const spans = [old, asked].map(it => spansOf(pieces, it, unit)), lefts = leftOfBoth([old, asked], lists, spans, moment, failed, unit, runs);
   const [before, after] = lefts, goes = moment > 0n || runs.length > 0, moves = goes || failed.length > 0, rest = restOf(after);
-  const list = (/** @type {number} */ at) => relisted(lefts[at], unit, lists[at], [old, asked][at], machineName, german);
+  const list = (/** @type {number} */ at) => relisted(lefts[at], unit, lists[at], [old, asked][at], german);
   const went = moves ? list(1) : changed, made = soundly(went), begin = goingOn(after, spans[1], rest, !failed.length);
   const was = goes ? list(0) : problem, beforePieces = goes ? piecesOf(clipped(before, spans[0]), soundly(was), unit) : pieces;
-  return { problem: went, pieces: piecesOf(begin.spans, made, unit), spans: begin.spans, given: begin.given, rest,
+  return { problem: went, made, pieces: piecesOf(begin.spans, made, unit), spans: begin.spans, given: begin.given, rest,
     unit, before: { problem: was, pieces: beforePieces, rest: goes ? restOf(before) : null }, told: after.told, asked };
 }

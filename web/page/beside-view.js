@@ -23,7 +23,7 @@ export class BesideView {
   constructor(app, plan) {
     this.app = app;
     this.plan = plan;
-    this.root = element('section', { id: 'beside', 'aria-labelledby': 'beside-head' });
+    this.root = element('section', { id: 'beside' });
     /** The plan beside, with what the program says of it.
      * @type {{kept: Kept, app: App} | null} */
     this.other = null;
@@ -107,6 +107,7 @@ export class BesideView {
   chart(other) {
     const svg = drawn(chartOf({ ...this.wanted(other), span: this.span() }), `${other.name}, ${this.title(other)}`);
     svg.setAttribute('role', 'img');
+    svg.querySelectorAll('defs').forEach(it => it.remove());
     return element('div', { class: 'scroll chart-room', tabindex: '0', role: 'group', 'aria-label': this.title(other) }, svg);
   }
 
@@ -144,9 +145,11 @@ export class BesideView {
     root.hidden = !kept;
     if (!kept) {
       this.other = null;
+      root.removeAttribute('aria-labelledby');
       fill(root);
       return;
     }
+    root.setAttribute('aria-labelledby', 'beside-head');
     const other = this.judged(kept), notes = this.asked(other), known = { running: false, said: '', isNamed: false,
       bound: this.bounds.get(other.built.text) || null };
     const sentences = differenceSaid(other, app).map((it, at) => element('li', { id: at ? null : 'difference-cost' }, it));

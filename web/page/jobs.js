@@ -20,6 +20,17 @@ export function plain(name) {
 export function calledAt(row, at) { return row.name.trim() || `j${at + 1}`; }
 
 /**
+ * How a machine is called: by its name, or by its number. A name that is a number stands for the machine of that number, in each language.
+ * @param {string[]} names
+ * @param {number} machine from 1
+ * @param {import('./words.js').Words} words
+ */
+export function machineAt(names, machine, words) {
+  const name = (names[machine - 1] || '').trim();
+  return /^\d{1,3}$/.test(name) ? words.say('machine', name) : name || words.say('machine', machine);
+}
+
+/**
  * A name for each row as the instance has it, all distinct.
  * @param {Row[]} rows
  * @param {Told} told

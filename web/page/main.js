@@ -72,6 +72,7 @@ function toggle(name, on) {
   else dataset[name] = on;
   frame();
   plan.render();
+  beside.render();
 }
 
 /** The switches at the top. */

@@ -153,15 +153,15 @@ function startOf(problem, origin, unit, german) {
  * @param {bigint} unit numbers of the instance to a unit of the list
  * @param {Problem} problem the list before
  * @param {Built} built its instance
- * @param {(machine: number) => string} machineName
  * @param {boolean} german
  * @returns {Problem}
  */
-export function relisted(left, unit, problem, built, machineName, german) {
+export function relisted(left, unit, problem, built, german) {
   const { plain, origin, machines } = left, rows = built.jobs.map(it => it.row);
   const found = { ...problem, parts: plain.parts, machines: String(plain.machines), start: startOf(problem, origin, unit, german) };
   if (hasSpeeds(plain.parts)) found.speeds = plain.speeds.join(' ');
-  if (plain.machines !== built.machines) found.machineNames = [...machines.keys()].map(it => machineName(it + 1));
+  const kept = [...machines.keys()], moved = kept.some((old, now) => old !== now);
+  if (plain.machines !== built.machines) found.machineNames = kept.map(it => problem.machineNames[it] || (moved ? String(it + 1) : ''));
   const writer = new Writer(left, unit, problem, built, clockOf(found), german);
   found.rows = plain.jobs.map((_, at) => writer.row(at, rows));
   return found;

@@ -188,10 +188,9 @@ export class WhatIfView {
       await this.judge(app.planText(), 'ifBroken');
       const question = this.question();
       const searched = app.pinned.get(app.built.text);
-      const answer = answered(question, app.problem, plan.pieces, it => app.machineName(it), app.words.german, searched && searched.runs);
-      const made = built(answer.problem, clockOf(answer.problem));
-      await this.judge(made.text + scheduleText(answer.pieces, made), '', made);
-      if (app.state.plan === plan) this.take(question, answer, made);
+      const answer = answered(question, app.problem, plan.pieces, app.words.german, searched && searched.runs);
+      await this.judge(answer.made.text + scheduleText(answer.pieces, answer.made), '', answer.made);
+      if (app.state.plan === plan) this.take(question, answer);
     } catch (fault) {
       this.failed(fault);
     } finally {
@@ -263,10 +262,9 @@ export class WhatIfView {
    * Takes the changed list with a plan to begin with, the plan before beside it, and looks for a better one.
    * @param {Question} question
    * @param {Answer} answer
-   * @param {Built} made
    */
-  take(question, answer, made) {
-    const { app, searching } = this, { rest, before } = answer, { plan } = app.state;
+  take(question, answer) {
+    const { app, searching } = this, { rest, before, made } = answer, { plan } = app.state;
     const kept = { problem: before.problem, plan: { pieces: before.pieces, from: plan && !before.rest ? plan.from : /** @type {'own'} */ ('own') } };
     this.beside.notes.set(kept, notesOf(question, answer, app));
     this.pin(rest, answer.unit, made);

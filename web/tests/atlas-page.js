@@ -40,7 +40,9 @@
     for (const text of texts) found.push([await typed(text), await shown(encodeURIComponent(text.trim()))]);
     return found;
   };
-  window.trial = { seen, shown, typed, names };
+  /** When the page is drawn, with what comes behind the first view of a small screen. */
+  const settled = () => new Promise(done => requestAnimationFrame(() => setTimeout(() => setTimeout(done, 20))));
+  window.trial = { seen, shown, typed, names, settled };
 })();
 
 // How what is seen looks.
@@ -81,6 +83,13 @@
     .filter(it => it.width && (it.width < 24 || it.height < 24)).map(it => `${it.width} x ${it.height}`);
   /** What lies below the screen is drawn, too, and so is measured. */
   const whole = () => document.querySelectorAll('section').forEach(it => it.style.setProperty('content-visibility', 'visible'));
+  Object.assign(window.trial, { poor, pale, small, whole });
+})();
+
+// What it saves, when it is drawn, and where its pictures stand.
+(() => {
+  /** @param {string} name */
+  const one = name => /** @type {HTMLElement} */ (document.querySelector(name));
   /** @param {string} name */
   const file = name => {
     const button = document.querySelector(`[data-file="${name}"]`);
@@ -93,10 +102,12 @@
     const link = document.querySelector('a[download]');
     if (link instanceof HTMLElement) link.click();
   };
-  /** When the greatest part of what is seen was drawn last, in milliseconds since the page was asked for. */
+  /** When the greatest part of the view was drawn, in milliseconds since the page was asked for; -1 where a browser does not say. */
   const drawn = () => new Promise(done => {
-    const watch = new PerformanceObserver(list => done(Math.max(...list.getEntries().map(it => it.startTime))));
-    watch.observe({ type: 'largest-contentful-paint', buffered: true });
+    const kind = 'largest-contentful-paint', inside = (/** @type {any} */ { element }) => element && one('main').contains(element);
+    const watch = new PerformanceObserver(list => list.getEntries().filter(inside).forEach(it => done(it.startTime)));
+    if (PerformanceObserver.supportedEntryTypes.includes(kind)) watch.observe({ type: kind, buffered: true });
+    setTimeout(() => done(-1), 20000);
   });
   /** Whether the class around which the picture is stands in sight once one goes there. */
   const centred = async () => {
@@ -107,5 +118,5 @@
     const [inner, outer] = [here.getBoundingClientRect(), frame.getBoundingClientRect()];
     return inner.left >= outer.left - 1 && inner.right <= outer.right + 1;
   };
-  Object.assign(window.trial, { poor, pale, small, whole, file, save, drawn, centred });
+  Object.assign(window.trial, { file, save, drawn, centred });
 })();
