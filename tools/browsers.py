@@ -71,9 +71,6 @@ class Browser(Protocol):
     def slow(self, times: int) -> bool:
         """Slows the processor for all pages from now on; whether the browser can do that."""
 
-    def print(self, file: Path) -> None:
-        """Writes what the page prints, as a PDF."""
-
     def close(self) -> None:
         """Ends the browser."""
 
@@ -180,11 +177,6 @@ class Chromium:
         """Slows the processor."""
         self.driver.execute_cdp_cmd("Emulation.setCPUThrottlingRate", {"rate": times})
         return True
-
-    @driven()
-    def print(self, file: Path) -> None:
-        """Writes what the page prints."""
-        file.write_bytes(base64.b64decode(self.driver.execute_cdp_cmd("Page.printToPDF", {"preferCSSPageSize": True})["data"]))
 
     @driven()
     def close(self) -> None:
@@ -323,12 +315,6 @@ class Firefox:
     def slow(self, _: int) -> bool:
         """Firefox has no word for it."""
         return False
-
-    def print(self, file: Path) -> None:
-        """Writes what the page prints."""
-        page = {"width": 29.7, "height": 21.0}
-        told = self.channel.ask("browsingContext.print", context=self.context, page=page, margin={side: 1.2 for side in ("top", "bottom", "left", "right")})
-        file.write_bytes(base64.b64decode(told["data"]))
 
     def close(self) -> None:
         """Ends the browser."""
