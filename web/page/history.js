@@ -19,6 +19,8 @@ const PARTS = [['className', it => nameOf(it.parts)], ['jobs', it => it.rows], [
  */
 export function differing(one, other) {
   const text = (/** @type {unknown} */ it) => JSON.stringify(it), same = one.problem === other.problem;
+  const moved = [one.kept, other.kept].some(it => it && [one.problem, other.problem].includes(it.problem));
+  if (one.kept !== other.kept && (same || moved)) return 'beside';
   const found = same ? undefined : PARTS.find(([, of]) => text(of(one.problem)) !== text(of(other.problem)));
   return found ? found[0] : 'thePlan';
 }

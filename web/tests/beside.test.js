@@ -6,6 +6,7 @@ import { run } from '../engine.js';
 import { fraction, print } from '../fractions.js';
 import { clockOf } from '../page/clock.js';
 import { countAlike, differenceOf } from '../page/difference.js';
+import { differing } from '../page/history.js';
 import { built } from '../page/instance.js';
 import { solvedOf } from '../page/schedule.js';
 import { packed, stateIn, textOf, unpacked } from '../page/state.js';
@@ -59,6 +60,9 @@ test('the plan beside is in the text of a state, and in links', async () => {
   const state = { problem, plan: { pieces, from: 'own' }, kept: { problem: other, plan: { pieces: pieces.slice(1), from: 'rules' } } };
   const back = stateIn(await unpacked(await packed(textOf(state))));
   assert.deepEqual(back, state);
+  const { kept } = state, swapped = kept && { problem: kept.problem, plan: kept.plan, kept: { problem, plan: kept.plan } };
+  assert.deepEqual([{ ...state, kept: null }, swapped || state, { ...state, plan: null }].map(it => differing(state, it)),
+    ['beside', 'beside', 'thePlan']);
   const alone = textOf({ problem, plan: null, kept: null });
   for (const kept of ['{}', 'null', '[]', '{"problem":{"class":"nonsense"}}', `{"problem":${alone},"plan":null}`]) {
     const found = stateIn(alone.replace('"kept":null', `"kept":${kept}`));
