@@ -144,7 +144,8 @@ ASKED = {
     "to-schedule": ["list.txt", "plan.csv", "--check"], "replan": ["list.txt", "list.txt", "--now", "1"], "grade": ["sheet.txt", "handed-in"],
     "check-all": ["lists", "1||Lmax", "--start", "2026-03-02", "--scale", "2"], "make-instance": ["1||Lmax", "3", "1"],
     "print-sheet": ["sheet.txt", "--solution"], "verify": ["evidence"], "board": ["list.txt", "--address"],
-    "exam": ["2", "1"], "choose": ["1||Lmax"], "cite": ["1|r|Lmax"], "reduces": ["1||Lmax", "1|r|Lmax"], "what-if": ["results.csv", "1||sumC", "easy"],
+    "exam": ["2", "1"], "choose": ["1||Lmax"], "cite": ["1|r|Lmax"], "reduces": ["1||Lmax", "1|r|Lmax"],
+    "what-if": ["results.csv", "1||sumC", "easy"],
     "atlas": ["--part", "3", "--output", "page.html"]}
 LIST = "job,p [h],d\nSäge,1.5,2026-03-02 12:00\nTür,2,2026-03-02 09:00\n"
 INSTANCE = "msp 1\nclass 1||Lmax\njob Sage p=3 d=12\njob Tur p=4 d=6\nend\n"
