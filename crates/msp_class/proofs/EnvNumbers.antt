@@ -9,23 +9,7 @@ envs = One ∷ P2 ∷ P3 ∷ P ∷ Q2 ∷ Q ∷ R2 ∷ R ∷ O2 ∷ O3 ∷ O ∷
 
 at_number : (e : Env) → get_or envs (env_number e) One ≡ e
 at_number One = refl
-at_number P2 = refl
-at_number P3 = refl
-at_number P = refl
-at_number Q2 = refl
-at_number Q = refl
-at_number R2 = refl
-at_number R = refl
-at_number O2 = refl
-at_number O3 = refl
-at_number O = refl
-at_number F2 = refl
-at_number F3 = refl
-at_number F = refl
-at_number J2Short = refl
-at_number JShort = refl
-at_number J2 = refl
-at_number J = refl
+at_number _ = refl
 
 -- no two environments have one number
 pub env_number-injective : (a b : Env) → env_number a ≡ env_number b → a ≡ b
@@ -33,20 +17,4 @@ env_number-injective a b e = sym (at_number a) ∙ ap (λ n. get_or envs n One) 
 
 pub env_number-below : (e : Env) → env_number e < 18
 env_number-below One = omega arith
-env_number-below P2 = omega arith
-env_number-below P3 = omega arith
-env_number-below P = omega arith
-env_number-below Q2 = omega arith
-env_number-below Q = omega arith
-env_number-below R2 = omega arith
-env_number-below R = omega arith
-env_number-below O2 = omega arith
-env_number-below O3 = omega arith
-env_number-below O = omega arith
-env_number-below F2 = omega arith
-env_number-below F3 = omega arith
-env_number-below F = omega arith
-env_number-below J2Short = omega arith
-env_number-below JShort = omega arith
-env_number-below J2 = omega arith
-env_number-below J = omega arith
+env_number-below _ = omega arith

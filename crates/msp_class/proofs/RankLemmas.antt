@@ -31,64 +31,42 @@ orders = Free ∷ Chains ∷ Intree ∷ Outtree ∷ Prec ∷ []
 
 order_at_number : (o : Order) → get_or orders (order_number o) Free ≡ o
 order_at_number Free = refl
-order_at_number Chains = refl
-order_at_number Intree = refl
-order_at_number Outtree = refl
-order_at_number Prec = refl
+order_at_number _ = refl
 
 pub order_number-injective : (a b : Order) → order_number a ≡ order_number b → a ≡ b
 order_number-injective a b e = sym (order_at_number a) ∙ ap (λ n. get_or orders n Free) e ∙ order_at_number b
 
 pub order_number-below : (o : Order) → order_number o < 5
 order_number-below Free = omega arith
-order_number-below Chains = omega arith
-order_number-below Intree = omega arith
-order_number-below Outtree = omega arith
-order_number-below Prec = omega arith
+order_number-below _ = omega arith
 
 abbrev kinds : List Times
 kinds = General ∷ UnitTimes ∷ Equal ∷ []
 
 times_at_number : (t : Times) → get_or kinds (times_number t) General ≡ t
 times_at_number General = refl
-times_at_number UnitTimes = refl
-times_at_number Equal = refl
+times_at_number _ = refl
 
 pub times_number-injective : (a b : Times) → times_number a ≡ times_number b → a ≡ b
 times_number-injective a b e = sym (times_at_number a) ∙ ap (λ n. get_or kinds n General) e ∙ times_at_number b
 
 pub times_number-below : (t : Times) → times_number t < 3
 times_number-below General = omega arith
-times_number-below UnitTimes = omega arith
-times_number-below Equal = omega arith
+times_number-below _ = omega arith
 
 abbrev crits : List Crit
 crits = Cmax ∷ Lmax ∷ Fmax ∷ SumC ∷ SumWC ∷ SumU ∷ SumWU ∷ SumT ∷ SumWT ∷ []
 
 crit_at_number : (k : Crit) → get_or crits (crit_number k) Cmax ≡ k
 crit_at_number Cmax = refl
-crit_at_number Lmax = refl
-crit_at_number Fmax = refl
-crit_at_number SumC = refl
-crit_at_number SumWC = refl
-crit_at_number SumU = refl
-crit_at_number SumWU = refl
-crit_at_number SumT = refl
-crit_at_number SumWT = refl
+crit_at_number _ = refl
 
 pub crit_number-injective : (a b : Crit) → crit_number a ≡ crit_number b → a ≡ b
 crit_number-injective a b e = sym (crit_at_number a) ∙ ap (λ n. get_or crits n Cmax) e ∙ crit_at_number b
 
 pub crit_number-below : (k : Crit) → crit_number k < 9
 crit_number-below Cmax = omega arith
-crit_number-below Lmax = omega arith
-crit_number-below Fmax = omega arith
-crit_number-below SumC = omega arith
-crit_number-below SumWC = omega arith
-crit_number-below SumU = omega arith
-crit_number-below SumWU = omega arith
-crit_number-below SumT = omega arith
-crit_number-below SumWT = omega arith
+crit_number-below _ = omega arith
 
 -- numbers of six digits are equal only where all digits are
 same_digits : (e c o g t k : ℕ) (f d p h u l : ℕ)
