@@ -2,11 +2,11 @@
 use Rattle.std.proofs.Common.{ℕ, ◌*◌, ◌<◌, ◌≤◌, Bool, true, false, List, length, ℤ, pos, ◌-ℤ◌, ◌≤ℤ◌, arith, lit≤}
 use Rattle.std.proofs.lemmas.Int.{ints}
 use Rattle.msp_class.specs.declared.environments.EnvKind.{EnvKind}
-use Rattle.msp_class.specs.declared.environments.EnvKind.TheVariants.{Identical, Uniform, Unrelated, OpenShop, FlowShop, JobShop}
+use Rattle.msp_class.specs.declared.environments.EnvKind.TheVariants.{Identical}
 use Rattle.msp_class.specs.Env.{kind_of}
 use Rattle.msp_class.specs.Crit.{uses_due}
 use Rattle.msp_class.specs.declared.class.Times.{Times}
-use Rattle.msp_class.specs.declared.class.Times.TheVariants.{General, Unit as UnitTimes, Equal}
+use Rattle.msp_class.specs.declared.class.Times.TheVariants.{Equal}
 use Rattle.msp_class.specs.declared.sizes.TheConstants.{GREATEST}
 use Rattle.msp_instance.specs.declared.Need.{Need}
 use Rattle.msp_instance.specs.declared.Curve.{Curve}
@@ -26,9 +26,8 @@ HasTimes-wider : (least a b : ℕ) (needs : List Need) → a ≤ b → HasTimes 
 HasTimes-wider least a b needs w h = λ k d t. ((h k d t).0, omega (arith, (h k d t).1))
 
 greatest_time-wider : (l m : Limits) (t : Times) → AreWithin l m → greatest_time l t ≤ greatest_time m t
-greatest_time-wider l m General w = w.times
-greatest_time-wider l m UnitTimes w = w.times
 greatest_time-wider l m Equal w = omega arith
+greatest_time-wider l m _ w = w.times
 
 HasNeeds-wider : (l m : Limits) (i : Instance) (needs : List Need) → AreWithin l m → HasNeeds l i needs → HasNeeds m i needs
 HasNeeds-wider l m i needs w h = record {
@@ -88,11 +87,7 @@ MeetsConditions-wider l m i w h = record {
 -- the limits of texts are within those that carried instances keep
 pub text_limits-inner : (k : EnvKind) → AreWithin text_limits (inner_limits k)
 text_limits-inner Identical = record { times = lit≤ tt; releases = lit≤ tt; dates = lit≤ tt }
-text_limits-inner Uniform = record { times = lit≤ tt; releases = lit≤ tt; dates = lit≤ tt }
-text_limits-inner Unrelated = record { times = lit≤ tt; releases = lit≤ tt; dates = lit≤ tt }
-text_limits-inner OpenShop = record { times = lit≤ tt; releases = lit≤ tt; dates = lit≤ tt }
-text_limits-inner FlowShop = record { times = lit≤ tt; releases = lit≤ tt; dates = lit≤ tt }
-text_limits-inner JobShop = record { times = lit≤ tt; releases = lit≤ tt; dates = lit≤ tt }
+text_limits-inner _ = record { times = lit≤ tt; releases = lit≤ tt; dates = lit≤ tt }
 
 due-within : (l : Limits) (b : Bool) (d : ℤ) → HasDue l b d → LiesWithin l.greatest_date d
 due-within l true d h = h
@@ -104,11 +99,7 @@ apart a b x y w h k = omega (arith, ints, h.1, k.0)
 
 twice : (k : EnvKind) → 2 * GREATEST ≤ 2 * GREATEST * inner_factor k
 twice Identical = lit≤ tt
-twice Uniform = lit≤ tt
-twice Unrelated = lit≤ tt
-twice OpenShop = lit≤ tt
-twice FlowShop = lit≤ tt
-twice JobShop = lit≤ tt
+twice _ = lit≤ tt
 
 -- an instance that belongs to its class within the limits of texts is an inner one
 pub Inner-from_class : (i : Instance) → InClass i → Inner i
