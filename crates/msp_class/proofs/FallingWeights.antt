@@ -20,7 +20,4 @@ abel_more (suc n) w x y falls less v low =
     by w x y xs ys p q h k = omega arith
 
 pub abel : (n : ℕ) (w x y : ℕ → ℕ) → ((a b : ℕ) → a ≤ b → b < n → w b ≤ w a) → ((q : ℕ) → q ≤ n → total_below q y ≤ total_below q x) → total_below n (λ r. w r * y r) ≤ total_below n (λ r. w r * x r)
-abel n w x y falls less = by _ _ (total_below n x) (total_below n y) (abel_more n w x y falls less 0 (λ r l. omega arith))
-  where
-    by : (p q a b : ℕ) → p + 0 * a ≤ q + 0 * b → p ≤ q
-    by p q a b h = omega arith
+abel n w x y falls less = omega (arith, abel_more n w x y falls less 0 (λ r l. omega arith))

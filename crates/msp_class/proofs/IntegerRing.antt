@@ -2,6 +2,7 @@
 use Rattle.std.proofs.Common.{◌≡◌, ℕ, zero, suc, ◌+◌, ◌*◌, ◌-◌, ◌≤◌, ◌<◌, ℤ, pos, negsuc, ◌+ℤ◌, ◌-ℤ◌, ◌*ℤ◌, neg_ℤ, ◌≤ℤ◌, ◌<ℤ◌, nat_abs, ◌⊎◌, inl, inr, arith, refl, sym, ap, subst, ◌∙◌}
 use Rattle.std.proofs.lemmas.Int.{ints}
 use Rattle.std.specs.Int.{int_max}
+use Rattle.msp_class.proofs.Cases.{less_or_not}
 use Rattle.std.proofs.lemmas.Int.{clamps}
 use native.Mathlib.Nat.{mul-le-mul_left, mul-lt-mul_of_pos_left, le_of_mul-le-mul_left, lt_of_mul-lt-mul_left}
 use borrow.Author.Differences.{up, down, product_is, sum_is_lem, neg_is, le_out, lt_out, at_most_in, below_in}
@@ -66,10 +67,7 @@ pub <ℤ_weak : {a b : ℤ} → a <ℤ b → a ≤ℤ b
 <ℤ_weak {a} {b} h = omega (arith, ints)
 
 pub ≤ℤ_total : (a b : ℤ) → (a ≤ℤ b) ⊎ (b <ℤ a)
-≤ℤ_total a b = elim (either (up a + down b) (up b + down a)) [ inl h ↦ inl (at_most_in a b h) | inr h ↦ inr (below_in b a h) ]
-  where
-    either : (m n : ℕ) → (m ≤ n) ⊎ (n < m)
-    either m n = grind arith
+≤ℤ_total a b = elim (less_or_not (up b + down a) (up a + down b)) [ inl h ↦ inr (below_in b a h) | inr h ↦ inl (at_most_in a b h) ]
 
 pub +ℤ_mono : {a b c d : ℤ} → a ≤ℤ b → c ≤ℤ d → (a +ℤ c) ≤ℤ (b +ℤ d)
 +ℤ_mono {a} {b} {c} {d} h k = omega (arith, ints)

@@ -2,7 +2,9 @@ pub mod Cases
 pub mod EnvNumbers
 pub mod FallingWeights
 pub mod IntegerRing
+pub mod ListSums
 pub mod Lists
 pub mod Quotients
 pub mod RankLemmas
 pub mod Sums
+pub mod Totals

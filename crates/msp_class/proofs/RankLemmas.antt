@@ -1,6 +1,6 @@
 -- Each class has a rank of its own.
 use Rattle.std.proofs.Common.{◌≡◌, ℕ, ◌+◌, ◌*◌, ◌<◌, Bool, true, false, List, [], ◌∷◌, get_or, refl, sym, ap, ◌∙◌, arith}
-use Rattle.msp_class.specs.Rank.{env_number, flag_number, order_number, times_number, crit_number, rank_of}
+use Rattle.msp_class.specs.Rank.{flag_number, order_number, times_number, crit_number, rank_of}
 use Rattle.msp_class.specs.declared.ranks.TheConstants.{CLASSES}
 use Rattle.msp_class.specs.declared.class.Class.{Class}
 use Rattle.msp_class.specs.declared.class.Env.{Env}
@@ -104,13 +104,9 @@ rank_of-below c =
 pub rank_of-injective : (a b : Class) → rank_of a ≡ rank_of b → a ≡ b
 unfolding rank_of
 rank_of-injective a b same =
-    let d = same_digits (env_number a.env) (flag_number a.cut) (order_number a.order) (flag_number a.heads)
-    (times_number a.times) (crit_number a.crit) (env_number b.env) (flag_number b.cut) (order_number b.order)
-    (flag_number b.heads) (times_number b.times) (crit_number b.crit) (flag_number-below a.cut)
-    (order_number-below a.order) (flag_number-below a.heads) (times_number-below a.times) (crit_number-below a.crit)
-    (flag_number-below b.cut) (order_number-below b.order) (flag_number-below b.heads) (times_number-below b.times)
-    (crit_number-below b.crit) same in
-    same_class a.env b.env a.cut b.cut a.order b.order a.heads b.heads a.times b.times a.crit b.crit
-    (env_number-injective a.env b.env d.0) (flag_number-injective a.cut b.cut d.1) (order_number-injective a.order b.order d.2)
-    (flag_number-injective a.heads b.heads d.3) (times_number-injective a.times b.times d.4)
-    (crit_number-injective a.crit b.crit d.5)
+    let d = same_digits _ _ _ _ _ _ _ _ _ _ _ _ (flag_number-below a.cut) (order_number-below a.order) (flag_number-below a.heads)
+    (times_number-below a.times) (crit_number-below a.crit) (flag_number-below b.cut) (order_number-below b.order)
+    (flag_number-below b.heads) (times_number-below b.times) (crit_number-below b.crit) same in
+    same_class _ _ _ _ _ _ _ _ _ _ _ _ (env_number-injective a.env b.env d.0) (flag_number-injective a.cut b.cut d.1)
+    (order_number-injective a.order b.order d.2) (flag_number-injective a.heads b.heads d.3)
+    (times_number-injective a.times b.times d.4) (crit_number-injective a.crit b.crit d.5)
