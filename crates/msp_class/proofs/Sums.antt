@@ -130,8 +130,13 @@ pub sum_by-distinct_test : (f : ℕ → ℕ) (test : ℕ → Bool) (n : ℕ) (xs
     → All (λ x. x < n) xs → AllPairs (λ x y. x ≢ y) xs → All (λ x. test x ≡ true) xs → sum_by f xs ≤ total_below n (λ i. cond (test i) (f i) 0)
 sum_by-distinct_test f test n xs h u t =
     let same : sum_by f xs ≡ sum_by (λ x. cond (test x) (f x) 0) xs = sum_by-same f _ xs (λ k d l. sym (cond-yes (f (get_or xs k d)) (t k d l))) in
-    omega (arith, same, sum_by_counts (λ x. cond (test x) (f x) 0) n xs h, total_below-mono n (λ i. cond (test i) (f i) 0 * count_by (λ x. eqb x i) xs)
-    (λ i. cond (test i) (f i) 0) (λ i l. omega (arith, mul-le-mul_left (cond (test i) (f i) 0) (count_by-distinct xs i u))))
+    omega (
+      arith,
+      same,
+      sum_by_counts (λ x. cond (test x) (f x) 0) n xs h,
+      total_below-mono n (λ i. cond (test i) (f i) 0 * count_by (λ x. eqb x i) xs)
+          (λ i. cond (test i) (f i) 0) (λ i l. omega (arith, mul-le-mul_left (cond (test i) (f i) 0) (count_by-distinct xs i u))),
+    )
 
 -- ---- a list that holds each number below n once
 pub record OnceBelow (n : ℕ) (xs : List ℕ) : Type 0 where
