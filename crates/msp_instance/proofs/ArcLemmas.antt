@@ -1,11 +1,11 @@
 -- Lemmas on sorted arcs, and on how many arcs enter a job.
-use Rattle.std.proofs.Common.{◌≡◌, ℕ, ◌+◌, ◌-◌, ◌<◌, ◌≤◌, Bool, true, false, cond, eqb, ltb, leb, List, [], ◌∷◌, ◌++◌, length, get_or, take, drop, set, filter, replicate, ◌==◌}
+use Rattle.std.proofs.Common.{◌≡◌, ℕ, ◌+◌, ◌-◌, ◌<◌, ◌≤◌, Bool, true, false, cond, eqb, ltb, leb, List, [], ◌∷◌, ◌++◌, length, get_or, take, drop, set, filter, ◌==◌}
 use Rattle.std.proofs.Common.{◌&&◌, ◌||◌, inl, inr, add-one, All, refl, sym, ap, ◌∙◌, subst, arith}
-use Rattle.std.proofs.Math.ListN.{length-set, length-replicate}
+use Rattle.std.proofs.Math.ListN.{length-set}
 use Rattle.std.proofs.lemmas.Grind.{get_or-set_at}
 use Rattle.std.specs.List.{list_any, range_with_len}
 use Rattle.std.specs.List.Sorted.{IsPartitionPoint}
-use Rattle.std.proofs.lemmas.List.{append-nil, get_or-replicate, get_or-take, get_or-drop, length-take, length-drop, take_all, take-append-drop, get_or_default, get_or-set_other}
+use Rattle.std.proofs.lemmas.List.{append-nil, get_or-take, get_or-drop, length-take, length-drop, take_all, take-append-drop, get_or_default, get_or-set_other}
 use Rattle.std.proofs.lemmas.List.Elements.{All-head, All-tail, filter-append}
 use Rattle.std.proofs.lemmas.List.Sums.{sum_by_more, count_by-le-length}
 use Rattle.std.proofs.lemmas.Bool.{cases_Bool, ne_eqb, eq-eqb, eqb-true, eqb-false, ltb-true, ltb-false, leb-true, leb-false}
@@ -80,9 +80,6 @@ filter_between_cut key j xs a b low high =
 pub record CountsEntering (arcs : List Arc) (n : ℕ) (counts : List ℕ) : Type 0 where
   pub whole : length counts ≡ n
   pub each : (k : ℕ) → k < n → get_or counts k 0 ≡ entering arcs k
-
-pub CountsEntering-none : (n : ℕ) → CountsEntering [] n (replicate n 0)
-CountsEntering-none n = record { whole = length-replicate n 0; each = λ k t. get_or-replicate n k 0 0 t }
 
 pub entering_more : (arcs : List Arc) (i : ℕ) (d : Arc) (k : ℕ) → i < length arcs → entering (take (i + 1) arcs) k ≡ entering (take i arcs) k + cond ((get_or arcs i d).after == k) 1 0
 entering_more arcs i d k t = sum_by_more (λ a. cond (a.after == k) 1 0) arcs i d t

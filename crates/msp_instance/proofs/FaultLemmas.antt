@@ -85,18 +85,7 @@ fault_at part j step = get_or (get_or ((Jobs ∷ []) ∷ (Machines ∷ []) ∷ (
 
 fault_at_turn : (f : ClassFault) → fault_at (turn_of f).part (turn_of f).number (turn_of f).step ≡ f
 fault_at_turn Jobs = refl
-fault_at_turn Machines = refl
-fault_at_turn Speeds = refl
-fault_at_turn Multiple = refl
-fault_at_turn (NeedFault j) = refl
-fault_at_turn (UnitFault j) = refl
-fault_at_turn (Head j) = refl
-fault_at_turn (Due j) = refl
-fault_at_turn (Weight j) = refl
-fault_at_turn (CurveFault j) = refl
-fault_at_turn Arcs = refl
-fault_at_turn (ArcFault at) = refl
-fault_at_turn (Degree j) = refl
+fault_at_turn _ = refl
 
 -- an instance has at most one first fault
 pub IsFirstFault-unique : (i : Instance) (f g : ClassFault) → IsFirstFault i f → IsFirstFault i g → f ≡ g

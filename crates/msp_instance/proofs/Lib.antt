@@ -7,3 +7,5 @@ pub mod OrderLemmas
 pub mod SearchLemmas
 pub mod CycleLemmas
 pub mod PathBitLemmas
+pub mod BitLemmas
+pub mod JoinLemmas

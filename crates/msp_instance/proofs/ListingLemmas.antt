@@ -73,9 +73,6 @@ IsListing-filter n test = record { inside = All-filter test (λ x. x < n) (range
         ∙ total_below-range n (λ x. cond (eqb k x) (cond (test x) 1 0) 0)
         ∙ total_below-only n (λ x. cond (test x) 1 0) k t
 
-pub IsListing-none : (n : ℕ) (test : ℕ → Bool) → ((k : ℕ) → k < n → test k ≡ false) → IsListing n test []
-IsListing-none n test h = record { inside = λ k d t. absurd (omega arith); each = λ k t. sym (cond-no 1 (h k t)) }
-
 pub IsListing-same : (n : ℕ) (test other : ℕ → Bool) (xs : List ℕ) → ((k : ℕ) → k < n → other k ≡ test k) → IsListing n test xs → IsListing n other xs
 IsListing-same n test other xs e h = record { inside = h.inside; each = λ k t. h.each k t ∙ ap (λ b. cond b 1 0) (sym (e k t)) }
 

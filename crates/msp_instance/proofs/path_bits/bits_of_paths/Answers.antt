@@ -1,6 +1,6 @@
 use Rattle.std.proofs.Common.{ap, ◌∙◌}
 use Rattle.msp_instance.specs.Bits.{has_bit}
-use Rattle.msp_instance.proofs.PathBitLemmas.{no_bits}
+use Rattle.msp_instance.proofs.BitLemmas.{no_bits}
 use Rattle.msp_instance.proofs.path_bits.bits_of_paths.Goals as goal
 
 pub fill-requires-clause-none : goal.fill-requires-clause-none

@@ -1,4 +1,4 @@
-use Rattle.msp_instance.proofs.PathBitLemmas.{places_apart, Follows-from}
+use Rattle.msp_instance.proofs.JoinLemmas.{places_apart, Follows-from}
 use Rattle.msp_instance.proofs.path_bits.follow.Goals as goal
 
 pub join_words-requires-clause-apart : goal.join_words-requires-clause-apart

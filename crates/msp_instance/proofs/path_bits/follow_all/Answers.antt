@@ -1,5 +1,5 @@
 use Rattle.std.proofs.Common.{arith}
-use Rattle.msp_instance.proofs.PathBitLemmas.{FollowsAll-more}
+use Rattle.msp_instance.proofs.JoinLemmas.{FollowsAll-more}
 use Rattle.msp_instance.proofs.path_bits.follow_all.Goals as goal
 
 pub loop-arc-preserved : goal.loop-arc-preserved

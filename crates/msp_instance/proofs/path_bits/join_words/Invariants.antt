@@ -1,4 +1,4 @@
-use Rattle.msp_instance.proofs.PathBitLemmas.{JoinedTo}
+use Rattle.msp_instance.proofs.JoinLemmas.{JoinedTo}
 use Rattle.msp_instance.proofs.path_bits.join_words.Given as goal
 
 abbrev pub invariant-loop-k : goal.invariant-loop-k

@@ -1,5 +1,5 @@
 use Rattle.std.proofs.Common.{◌<◌, length, sym, subst}
-use Rattle.msp_instance.proofs.PathBitLemmas.{SetsBit-written}
+use Rattle.msp_instance.proofs.BitLemmas.{SetsBit-written}
 use Rattle.msp_instance.proofs.path_bits.set_bit.Goals as goal
 
 pub returns : goal.returns

@@ -1,4 +1,4 @@
-use Rattle.msp_instance.proofs.PathBitLemmas.{read_some, no_bit}
+use Rattle.msp_instance.proofs.BitLemmas.{read_some, no_bit}
 use Rattle.msp_instance.proofs.path_bits.Paths.leads.Goals as goal
 
 pub returns-in-Some : goal.returns-in-Some
