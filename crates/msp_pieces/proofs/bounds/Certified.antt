@@ -10,9 +10,6 @@ use Rattle.std.proofs.lemmas.Bool.{cases_Bool, eqb-true, eq-eqb, ne_eqb, false�
 use Rattle.std.proofs.lemmas.Int.{ints}
 use Rattle.std.proofs.lemmas.List.Elements.{All-contains, Contains-get_or}
 use Rattle.std.proofs.lemmas.Option.{get_or_from_slice_get, slice_get_within}
-use Rattle.msp_class.specs.declared.environments.EnvKind.{EnvKind}
-use Rattle.msp_class.specs.declared.environments.EnvKind.TheVariants.{Identical}
-use Rattle.msp_class.specs.Env.{kind_of}
 use Rattle.msp_class.specs.Crit.{is_greatest}
 use Rattle.msp_class.proofs.IntegerRing.{≤ℤ_trans, ≤ℤ_of_same, pos-le, le-pos, *ℤ-one, *ℤ_comm, *ℤ-mono}
 use Rattle.msp_class.specs.Sums.{total_below}
@@ -20,8 +17,8 @@ use Rattle.msp_class.proofs.Sums.{sum_by-contains, sum_by_counts, count_by-disti
 use Rattle.msp_class.proofs.Sums.{AllPairs-tail, OnceBelow-distinct}
 use Rattle.msp_instance.specs.declared.Arc.{Arc}
 use Rattle.msp_instance.specs.declared.Instance.{Instance}
-use Rattle.msp_instance.specs.Instance.{no_job, no_need, job_at}
-use Rattle.msp_instance.specs.Conditions.{Limits, MeetsConditions, HasShape, HasTimes, IsSingleNeed, IsAcyclic, GoesForward, least_time, greatest_time}
+use Rattle.msp_instance.specs.Instance.{job_at}
+use Rattle.msp_instance.specs.Conditions.{IsAcyclic, GoesForward}
 use Rattle.msp_instance.specs.Paths.{HasPath, one, more}
 use Rattle.msp_instance.proofs.ListingLemmas.{list_any-from_Contains, Contains-from_list_any, Contains-from_count, count-from_contains}
 use Rattle.msp_instance.proofs.CycleLemmas.{OnceBelow-from_sequence}
@@ -33,6 +30,7 @@ use Rattle.msp_pieces.specs.Cost.{job_cost, end_of, cost_of, Best}
 use Rattle.msp_pieces.specs.Intervals.{work_of}
 use Rattle.msp_pieces.proofs.lists.Intervals.{last_of, last_of-bound, last_of-reached, piece_of, last_job}
 use Rattle.msp_pieces.proofs.feasible.OneMachine.{IsOneMachine, IsOneMachine-from_env, IsPlan, IsPlan-from_feasible, last_end-is}
+pub use Rattle.msp_pieces.proofs.feasible.OneMachine.{takes_time}
 use Rattle.msp_pieces.specs.BackToBack.{time_at}
 use Rattle.msp_pieces.proofs.costs.Charges.{job_cost-mono, job_cost-scale, charge_of, cost_of-bound, cost_of-reached}
 use Rattle.msp_pieces.specs.Blocks.{total_time, cost_at, HasNoSuccessor, LeadsToNone, IsSound, LawOfBlocks, IsCertified}
@@ -104,10 +102,7 @@ module _ (i : Instance) (m : IsOneMachine i) (takes : (j : ℕ) → j < length i
       let all_p = All-contains (λ a. All (λ p. All (λ q. p.job ≡ a.before → q.job ≡ a.after → IsBefore p q) t.pieces) t.pieces) i.arcs a f.arc c in
       let all_q = All-contains (λ p. All (λ q. p.job ≡ a.before → q.job ≡ a.after → IsBefore p q) t.pieces) t.pieces p all_p cp in
       let h = All-contains (λ q. p.job ≡ a.before → q.job ≡ a.after → IsBefore p q) t.pieces q all_q cq ep eq in
-      in_nat p q (timed p cp) (timed q cq) h
-    where
-      in_nat : (p q : Piece) → IsTimed p → IsTimed q → IsBefore p q → finish p ≤ start q
-      in_nat p q tp tq h = omega (arith, ints, h, tp.to, tq.from)
+      omega (arith, ints, h, (timed p cp).to, (timed q cq).from)
 
   -- no piece of an arc's job after begins before the job before is complete
   after_last : (a : Arc) → Contains i.arcs a → (q : Piece) → Contains t.pieces q → q.job ≡ a.after → last a.before ≤ start q
@@ -256,17 +251,6 @@ best_by_certificates i m takes ends some greatest heads sound s single feasible 
         ≤ℤ_trans (≤ℤ_of_same left) (≤ℤ_trans (*ℤ-mono (nat_abs t.unit) here) (≤ℤ_trans bound (≤ℤ_of_same right)))
 
 -- ---- the law of blocks
-pub takes_time : (l : Limits) (i : Instance) → kind_of i.class.env ≡ Identical → MeetsConditions l i → (j : ℕ) → j < length i.jobs → 0 < time_at i j
-takes_time l i kind h j less = by (kind_of i.class.env) kind (h.jobs j no_job less).needs.shape (h.jobs j no_job less).needs.times
-  where
-    by : (k : EnvKind) → k ≡ Identical → HasShape k i.class.env i.machines (job_at i j).needs
-        → HasTimes (least_time k i.class.times) (greatest_time l i.class.times) (job_at i j).needs → 0 < time_at i j
-    by k e shape times =
-        let single : IsSingleNeed (job_at i j).needs = subst (λ x. HasShape x i.class.env i.machines (job_at i j).needs) e shape in
-        let ranges : HasTimes 1 (greatest_time l i.class.times) (job_at i j).needs = subst (λ x. HasTimes (least_time x i.class.times) (greatest_time l i.class.times) (job_at i j).needs) e times in
-        let at_least = (ranges 0 no_need (omega (arith, single.0))).0 in
-        omega (arith, at_least)
-
 pub law_of_blocks : LawOfBlocks
 law_of_blocks l i s heads jobs value env greatest h f b v =
     let m = IsOneMachine-from_env l i env h in

@@ -5,14 +5,14 @@ use Rattle.std.specs.Prelude.{◌==◌, ◌&&◌}
 use Rattle.std.proofs.lemmas.Bool.{eq-eqb}
 use Rattle.std.proofs.lemmas.Int.{ints}
 use Rattle.std.proofs.lemmas.Nat.{le-div}
-use Rattle.std.proofs.Math.Nat.{div-mul-le_self, mul-div-le, zero-div, add-div_left}
-use Rattle.std.proofs.lemmas.List.Elements.{All-head, All-tail, All-contains_itself, Contains-get_or}
+use Rattle.std.proofs.Math.Nat.{add_comm, mul-pos, div-mul-le_self, mul-div-le, zero-div, add-div_left}
+use Rattle.std.proofs.lemmas.List.Elements.{All-contains_itself, Contains-get_or}
 use native.Mathlib.Nat.{mul-le-mul_left}
 use Rattle.msp_class.specs.declared.environments.EnvKind.TheVariants.{Identical}
 use Rattle.msp_class.specs.Env.{kind_of}
 use Rattle.msp_class.specs.Sums.{total_below}
 use Rattle.msp_class.proofs.Sums.{Contains-filter, cond-scale, cond-yes, total_below-same, total_below-scale, total_below-range, total_below-term}
-use Rattle.msp_class.proofs.IntegerRing.{natural, pos-le, le-pos, pos-sub, ≤ℤ_refl, ≤ℤ_trans, +ℤ_idl, one-*ℤ, *ℤ-one, *ℤ-zero}
+use Rattle.msp_class.proofs.IntegerRing.{natural, pos-le, le-pos, pos-sub, ≤ℤ_refl, ≤ℤ_trans, +ℤ_idl, *ℤ-one, *ℤ-zero}
 use Rattle.msp_instance.specs.declared.Instance.{Instance}
 use Rattle.msp_instance.specs.Instance.{need_at}
 use Rattle.msp_pieces.specs.declared.Piece.{Piece}
@@ -23,9 +23,9 @@ use Rattle.msp_pieces.specs.Cost.{end_of}
 use Rattle.msp_pieces.specs.Laws.{time_together, HasRoom, BeginsFrom, EndsLast, LawOfEnds, floor, floored, floored_piece, LawOfFloors}
 use Rattle.msp_pieces.specs.Intervals.{work_of}
 use Rattle.msp_pieces.proofs.lists.Intervals.{last_of, last_of-bound, room, law_of_ends as last_of_all}
-use Rattle.msp_pieces.proofs.feasible.OneMachine.{timed_pieces, machines_below, apart_on_machines, full_work, last_end-is}
+use Rattle.msp_pieces.proofs.feasible.OneMachine.{unit_in_parts, timed_pieces, machines_below, apart_on_machines, full_work, last_end-is}
 use Rattle.msp_pieces.proofs.feasible.LastEnds.{last_end-bound, last_end-natural}
-use Rattle.msp_pieces.proofs.feasible.Frames.{Frame, frame_by, Stands, Fits, IsShaped, IsShaped-from_identical, of_operation, part, Fits-from_feasible}
+use Rattle.msp_pieces.proofs.feasible.Frames.{Frame, frame_by, Stands, Fits, IsShaped, IsShaped-from_identical, of_operation, part, map-same, Fits-from_feasible}
 use Rattle.msp_pieces.proofs.changes.Transport.{Carries, carried, carried_schedule, Feasible-carried, end_of-carried}
 use Rattle.msp_pieces.proofs.changes.Serves.{IsMultiple-same, Suits-same}
 
@@ -43,11 +43,8 @@ module _ (i : Instance) (s : Schedule) (test : ℕ → Bool) (kind : kind_of i.c
       total_below-same n _ (λ j. unit * time j) (λ j l. ap (λ m. cond (test j) m 0) (full_work i kind s f j l) ∙ cond-scale (test j) unit (need_at i j 0).time)
       ∙ total_below-scale n unit time ∙ ap (λ m. unit * m) (sym (total_below-range n time))
 
-  unit_is : s.unit ≡ pos unit
-  unit_is = natural s.unit (omega (arith, ints, f.unit))
-
   from_room : (a b : ℕ) → a ≤ b → work ≤ i.machines * (b - a) → HasRoom i s test (pos a) (pos b)
-  from_room a b h w = subst₂ (λ x y. x ≤ℤ y) (sym (ap (λ u. u *ℤ pos (time_together i test)) unit_is))
+  from_room a b h w = subst₂ (λ x y. x ≤ℤ y) (sym (ap (λ u. u *ℤ pos (time_together i test)) (unit_in_parts i s f)))
       (ap (λ z. pos i.machines *ℤ z) (pos-sub b a h)) (pos-le (subst (λ m. m ≤ i.machines * (b - a)) work_is w))
 
   begins : (a : ℕ) → BeginsFrom (pos a) test s → All (λ p. test p.job ≡ true → a ≤ start p) s.pieces
@@ -78,10 +75,8 @@ module _ (i : Instance) (s : Schedule) (test : ℕ → Bool) (kind : kind_of i.c
       positive =
           let term = total_below-term (length i.jobs) (λ m. cond (test m) (work_of job_of start finish s.pieces m) 0) j l in
           let own : cond (test j) (work_of job_of start finish s.pieces j) 0 ≡ unit * (need_at i j 0).time = cond-yes (work_of job_of start finish s.pieces j) e ∙ full_work i kind s f j l in
-          more unit (need_at i j 0).time work (omega (arith, ints, f.unit)) (some j l) (omega (arith, term, own))
-        where
-          more : (u t w : ℕ) → 1 ≤ u → 1 ≤ t → u * t ≤ w → 0 < w
-          more u t w p q r = grind arith
+          let parts : 1 ≤ unit = omega (arith, ints, f.unit) in
+          omega (arith, mul-pos parts (some j l), term, own)
 
 pub law_of_ends : LawOfEnds
 law_of_ends = record {
@@ -109,22 +104,13 @@ floor-below (pos u) (pos a) p q = pos-le (mul-div-le a u)
 floor-after : (unit x : ℤ) (h : ℕ) → pos 1 ≤ℤ unit → pos 0 ≤ℤ x → (unit *ℤ pos h) ≤ℤ x → (unit *ℤ pos h) ≤ℤ floor unit x
 floor-after (negsuc u) x h p q b = absurd (omega (arith, ints))
 floor-after (pos u) (negsuc a) h p q b = absurd (omega (arith, ints))
-floor-after (pos u) (pos a) h p q b = pos-le (mul-le-mul_left u (le-div h a u (le-pos p) (turned u h a (le-pos b))))
-  where
-    turned : (u h a : ℕ) → u * h ≤ a → h * u ≤ a
-    turned u h a b = omega arith
+floor-after (pos u) (pos a) h p q b = pos-le (mul-le-mul_left u (le-div h a u (le-pos p) (omega (arith, le-pos b))))
 
 -- a unit later, the floor is one unit later
 floor-next : (unit x : ℤ) → pos 1 ≤ℤ unit → pos 0 ≤ℤ x → floor unit (x +ℤ unit) ≡ floor unit x +ℤ unit
 floor-next (negsuc u) x p q = absurd (omega (arith, ints))
 floor-next (pos u) (negsuc a) p q = absurd (omega (arith, ints))
-floor-next (pos u) (pos a) p q = ap pos (ap (λ n. u * (n / u)) (swapped a u) ∙ ap (λ n. u * n) (add-div_left a (le-pos p)) ∙ more u (a / u))
-  where
-    swapped : (a u : ℕ) → a + u ≡ u + a
-    swapped a u = omega arith
-
-    more : (u q : ℕ) → u * (q + 1) ≡ u * q + u
-    more u q = omega arith
+floor-next (pos u) (pos a) p q = ap pos (ap (λ n. u * (n / u)) (add_comm a u) ∙ ap (λ n. u * n) (add-div_left a (le-pos p)) ∙ omega arith)
 
 -- where operations may not be cut, each piece is all its operation wants
 whole_parts : (f : Frame) (unit : ℤ) (ps : List Piece) → Fits f unit ps → f.cut ≡ false → All (λ p. part f p ≡ unit *ℤ pos (f.want p.job p.op)) ps
@@ -168,7 +154,7 @@ module _ (i : Instance) (s : Schedule) (kind : kind_of i.class.env ≡ Identical
       factor = ≤ℤ_refl (pos 1);
       zero_is = ap (λ n. s.unit *ℤ pos n) (zero-div (nat_abs s.unit)) ∙ *ℤ-zero s.unit;
       monotone = λ x y p h. floor-mono s.unit x y f.unit p h;
-      long = λ k d l. same (get_or s.pieces k d).from (get_or s.pieces k d).to (floor s.unit (get_or s.pieces k d).from) (floor s.unit (get_or s.pieces k d).to) (long k d l) (to_floor k d l);
+      long = λ k d l. same (get_or s.pieces k d).from (get_or s.pieces k d).to s.unit _ _ (long k d l) (to_floor k d l);
     };
     operations = Suits-same (frame_by Identical i) (frame_by Identical i) s.unit (record {
       jobs = refl;
@@ -183,19 +169,12 @@ module _ (i : Instance) (s : Schedule) (kind : kind_of i.class.env ≡ Identical
     routed = λ e. inl e;
   }
     where
-      same : (a b x y : ℤ) → b ≡ a +ℤ s.unit → y ≡ x +ℤ s.unit → y -ℤ x ≡ pos 1 *ℤ (b -ℤ a)
-      same a b x y e h = length_is a b s.unit x y e h ∙ sym (one-*ℤ (b -ℤ a))
-        where
-          length_is : (a b u x y : ℤ) → b ≡ a +ℤ u → y ≡ x +ℤ u → y -ℤ x ≡ b -ℤ a
-          length_is a b u x y e h = omega (arith, ints)
+      same : (a b u x y : ℤ) → b ≡ a +ℤ u → y ≡ x +ℤ u → y -ℤ x ≡ pos 1 *ℤ (b -ℤ a)
+      same a b u x y e h = omega (arith, ints)
 
   same_schedule : carried_schedule s.unit (floor s.unit) (λ j o. o) s ≡ floored s
-  same_schedule = ap (λ l. record { unit = s.unit; pieces = l }) (map_agree (carried (floor s.unit) (λ j o. o)) (floored_piece s.unit) s.pieces
+  same_schedule = ap (λ l. record { unit = s.unit; pieces = l }) (map-same (carried (floor s.unit) (λ j o. o)) (floored_piece s.unit) s.pieces
       (λ k d l. let p = get_or s.pieces k d in ap (λ x. record { job = p.job; op = p.op; machine = p.machine; from = floor s.unit p.from; to = x }) (to_floor k d l)))
-    where
-      map_agree : (f g : Piece → Piece) (ps : List Piece) → All (λ p. f p ≡ g p) ps → map f ps ≡ map g ps
-      map_agree f g [] h = refl
-      map_agree f g (p ∷ ps) h = ap₂ (λ q l. q ∷ l) (All-head (λ x. f x ≡ g x) p ps h) (map_agree f g ps (All-tail (λ x. f x ≡ g x) p ps h))
 
   is_feasible : Feasible i (floored s)
   is_feasible = subst (Feasible i) same_schedule (Feasible-carried i i s Identical Identical kind kind s.unit (pos 1) (floor s.unit) (λ j o. o) shaped f carries shaped)

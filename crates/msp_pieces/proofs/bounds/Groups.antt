@@ -1,8 +1,8 @@
 -- The law of groups, and what it says of one job and of all jobs: a job runs on one machine at a time, so few jobs do not use more machines than they are.
-use Rattle.std.proofs.Common.{◌≡◌, ℕ, ◌+◌, ◌*◌, ◌<◌, ◌≤◌, ◌⊎◌, inl, inr, min, Bool, true, false, cond, eqb, leb, length, filter, pos, nat_abs, ◌*ℤ◌, ◌-ℤ◌, ◌≤ℤ◌, All, AllPairs}
+use Rattle.std.proofs.Common.{◌≡◌, ℕ, ◌+◌, ◌*◌, ◌<◌, ◌≤◌, inl, inr, min, Bool, true, false, cond, eqb, length, filter, pos, nat_abs, ◌*ℤ◌, ◌-ℤ◌, ◌≤ℤ◌, All}
 use Rattle.std.proofs.Common.{refl, sym, ap, subst, subst₂, ◌∙◌, arith}
-use Rattle.std.proofs.lemmas.Int.{ints}
 use Rattle.std.proofs.Math.Nat.{mul-le-mul_left}
+use Rattle.std.proofs.lemmas.Bool.{cases_lt}
 use Rattle.msp_class.specs.declared.environments.EnvKind.TheVariants.{Identical}
 use Rattle.msp_class.specs.Env.{kind_of}
 use Rattle.msp_class.specs.Sums.{total_below}
@@ -13,10 +13,9 @@ use Rattle.msp_pieces.specs.declared.Schedule.{Schedule}
 use Rattle.msp_pieces.specs.Feasible.{Feasible}
 use Rattle.msp_pieces.specs.Cost.{end_of}
 use Rattle.msp_pieces.specs.Laws.{time_together, HasRoom, EndsLast, jobs_together, HasTimeFor, LawOfGroups}
-use Rattle.msp_pieces.specs.Intervals.{IsApartOn}
 use Rattle.msp_pieces.proofs.lists.Intervals.{apart_on_each, packed, last_of, greatest_by-bound, greatest_below, greatest_below-bound, greatest_below-reached}
 use Rattle.msp_pieces.specs.Piece.{job_of, start, finish, IsTimed}
-use Rattle.msp_pieces.proofs.feasible.OneMachine.{apart_in_nat, timed_pieces, full_work, last_end-is}
+use Rattle.msp_pieces.proofs.feasible.OneMachine.{unit_in_parts, jobs_apart, timed_pieces, full_work, last_end-is}
 use Rattle.msp_pieces.specs.BackToBack.{time_at}
 use Rattle.msp_pieces.proofs.bounds.EndsAndFloors.{law_of_ends}
 
@@ -24,7 +23,7 @@ use Rattle.msp_pieces.proofs.bounds.EndsAndFloors.{law_of_ends}
 pub ends_last : (i : Instance) (s : Schedule) → All IsTimed s.pieces → (test : ℕ → Bool) (j : ℕ) → j < length i.jobs → test j ≡ true → (k : ℕ) × EndsLast i s test k
 ends_last i s timed test j l p =
     let (k, m, e) = greatest_below-reached (length i.jobs) after (omega (arith, l)) in
-    let (t, z) = passed (test k) (ended k) (greatest_below (length i.jobs) after) e some in (
+    let (t, z) = passed (test k) (ended k) (greatest_below (length i.jobs) after) e (omega (arith, greatest_below-bound (length i.jobs) after j l, cond-yes (ended j + 1) p)) in (
       k,
       record {
         inside = m;
@@ -40,9 +39,6 @@ ends_last i s timed test j l p =
     after : ℕ → ℕ
     after x = cond (test x) (ended x + 1) 0
 
-    some : 1 ≤ greatest_below (length i.jobs) after
-    some = omega (arith, greatest_below-bound (length i.jobs) after j l, cond-yes (ended j + 1) p)
-
     passed : (b : Bool) (z g : ℕ) → cond b (z + 1) 0 ≡ g → 1 ≤ g → (b ≡ true) × (z + 1 ≡ g)
     passed true z g e h = (refl, e)
     passed false z g e h = absurd (omega (arith, e, h))
@@ -52,16 +48,13 @@ module _ (i : Instance) (kind : kind_of i.class.env ≡ Identical) (s : Schedule
   unit = nat_abs s.unit
 
   unit_is : s.unit ≡ pos unit
-  unit_is = natural s.unit (omega (arith, ints, f.unit))
+  unit_is = unit_in_parts i s f
 
   abbrev ended : ℕ → ℕ
   ended j = last_of job_of finish s.pieces j
 
   end_is : (j : ℕ) → end_of s j ≡ pos (ended j)
   end_is j = last_end-is s.pieces j (timed_pieces i kind s f)
-
-  apart_on_jobs : AllPairs (IsApartOn job_of start finish) s.pieces
-  apart_on_jobs a b d h k e = apart_in_nat _ _ (timed_pieces i kind s f a d (omega arith)) (timed_pieces i kind s f b d k) (f.job a b d h k e)
 
   -- a job has had its time when it ends
   has_ended : (j : ℕ) → j < length i.jobs → unit * time_at i j ≤ ended j
@@ -70,7 +63,7 @@ module _ (i : Instance) (kind : kind_of i.class.env ≡ Identical) (s : Schedule
       omega (
         arith,
         full_work i kind s f j l,
-        packed start finish 0 (ended j) mine (apart_on_each job_of start finish j s.pieces apart_on_jobs) (λ k d m. (omega arith, greatest_by-bound finish mine k d m)),
+        packed start finish 0 (ended j) mine (apart_on_each job_of start finish j s.pieces (jobs_apart i s f)) (λ k d m. (omega arith, greatest_by-bound finish mine k d m)),
       )
 
   module _ (test : ℕ → Bool) (c : ℕ) (ends : (j : ℕ) → j < length i.jobs → test j ≡ true → end_of s j ≤ℤ pos c) where
@@ -98,11 +91,10 @@ module _ (i : Instance) (kind : kind_of i.class.env ≡ Identical) (s : Schedule
     )
 
     by_machines : unit * time_together i test ≤ i.machines * c
-    by_machines = whole (le-pos (subst (λ x. (x *ℤ pos (time_together i test)) ≤ℤ (pos i.machines *ℤ (pos c -ℤ pos 0))) unit_is has))
+    by_machines =
+        let whole : unit * time_together i test ≤ i.machines * (c + 0) = le-pos (subst (λ x. (x *ℤ pos (time_together i test)) ≤ℤ (pos i.machines *ℤ (pos c -ℤ pos 0))) unit_is has) in
+        omega (arith, whole)
       where
-        whole : unit * time_together i test ≤ i.machines * (c + 0) → unit * time_together i test ≤ i.machines * c
-        whole h = omega (arith, h)
-
         has : HasRoom i s test (pos 0) (pos c)
         has = law_of_ends.room i s test (pos 0) (pos c) kind f (≤ℤ_refl (pos 0)) (zero-le-pos c) (λ k d l e. (f.span k d l).0) ends
 
@@ -110,13 +102,10 @@ module _ (i : Instance) (kind : kind_of i.class.env ≡ Identical) (s : Schedule
     group_is_over = by (jobs_together i test) i.machines by_jobs by_machines
       where
         by : (x y : ℕ) → unit * time_together i test ≤ x * c → unit * time_together i test ≤ y * c → unit * time_together i test ≤ min x y * c
-        by x y p q = elim (either x y) [ inl e ↦ subst (λ k. unit * time_together i test ≤ k * c) (sym e) p | inr e ↦ subst (λ k. unit * time_together i test ≤ k * c) (sym e) q ]
-          where
-            either : (x y : ℕ) → (min x y ≡ x) ⊎ (min x y ≡ y)
-            either x y = by_test (leb x y) refl
-              where
-                by_test : (b : Bool) → leb x y ≡ b → (min x y ≡ x) ⊎ (min x y ≡ y)
-                by_test b e = grind arith
+        by x y p q = elim (cases_lt x y) [
+          | inl less ↦ subst (λ k. unit * time_together i test ≤ k * c) (let e : x ≡ min x y = omega arith in e) p
+          | inr past ↦ subst (λ k. unit * time_together i test ≤ k * c) (let e : y ≡ min x y = omega arith in e) q
+        ]
 
   has_time : (test : ℕ → Bool) (c : ℕ) → ((j : ℕ) → j < length i.jobs → test j ≡ true → end_of s j ≤ℤ pos c) → HasTimeFor i s test (pos c)
   has_time test c ends = subst (λ x. (x *ℤ pos (time_together i test)) ≤ℤ (pos (min (jobs_together i test) i.machines) *ℤ pos c)) (sym unit_is) (pos-le (group_is_over test c ends))
@@ -136,10 +125,7 @@ module _ (i : Instance) (kind : kind_of i.class.env ≡ Identical) (s : Schedule
         n = length i.jobs
 
         by : (t k m : ℕ) → t ≡ time_at i j → k ≡ 1 → unit * t ≤ min k m * c → unit * time_at i j ≤ c
-        by t k m e g h = omega (arith, subst (λ x. unit * x ≤ min k m * c) e h, ap (λ x. min x m * c) g, less m)
-          where
-            less : (m : ℕ) → min 1 m * c ≤ c
-            less m = let most : min 1 m ≤ 1 = omega arith in omega (arith, mul-le-mul_left c most)
+        by t k m e g h = omega (arith, subst (λ x. unit * x ≤ min k m * c) e h, ap (λ x. min x m * c) g, mul-le-mul_left c (let most : min 1 m ≤ 1 = omega arith in most))
 
     pub jobs_are_over : unit * total_below (length i.jobs) (time_at i) ≤ i.machines * c
     jobs_are_over = by _ _ (total_below-range (length i.jobs) (time_at i)) (group_is_over (λ _. true) c (λ k m _. ends k m))

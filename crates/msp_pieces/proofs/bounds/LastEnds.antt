@@ -2,16 +2,15 @@
 use Rattle.std.proofs.Common.{◌≡◌, ℕ, ◌+◌, ◌*◌, ◌-◌, ◌<◌, ◌≤◌, Bool, cond, eqb, List, length, get_or, filter, pos, nat_abs, ◌*ℤ◌, ◌≤ℤ◌, All, AllPairs, sum_by, sym, ap, ap₂, subst, subst₂, ◌∙◌, arith}
 use Rattle.std.specs.List.{range_with_len}
 use Rattle.std.proofs.lemmas.Bool.{eqb-true}
-use Rattle.std.proofs.lemmas.Int.{ints}
 use Rattle.std.proofs.lemmas.List.Elements.{All-filter, filter_passes}
 use Rattle.std.proofs.lemmas.List.Kept.{AllPairs-filter}
 use Rattle.msp_class.specs.Sums.{total_below}
 use Rattle.msp_class.proofs.Sums.{cond-mono, cond-scale, sum_by-mono, sum_by-same, sum_by-add, sum_by-filter, sum_by-by_key_test, sum_by-by_key_filter, total_below-mono}
 use Rattle.msp_class.proofs.Sums.{total_below-same, total_below-scale, total_below-bound, total_below-range}
-use Rattle.msp_class.proofs.IntegerRing.{natural, pos-le}
+use Rattle.msp_class.proofs.IntegerRing.{pos-le}
 use Rattle.msp_instance.specs.declared.Instance.{Instance}
 use Rattle.msp_pieces.specs.declared.Schedule.{Schedule}
-use Rattle.msp_pieces.specs.Piece.{job_of, start, finish, IsTimed}
+use Rattle.msp_pieces.specs.Piece.{job_of, start, finish}
 use Rattle.msp_pieces.specs.Feasible.{Feasible}
 use Rattle.msp_pieces.specs.Cost.{end_of}
 use Rattle.msp_pieces.specs.Intervals.{IsApartOn, size_of, work_of}
@@ -19,13 +18,10 @@ use Rattle.msp_pieces.specs.LastEnds.{HasRoomAround, LawOfLastEnds}
 use Rattle.msp_pieces.specs.Loads.{job_length}
 use Rattle.msp_pieces.specs.BackToBack.{time_at}
 use Rattle.msp_pieces.proofs.lists.Intervals.{overlap, overlap_of, packing, apart_on_each, work_by_job, last_of, last_of-bound}
-use Rattle.msp_pieces.proofs.feasible.OneMachine.{IsTimed-from_span, apart_in_nat, machines_below, full_work, last_end-is}
+use Rattle.msp_pieces.proofs.feasible.OneMachine.{unit_in_parts, pieces_timed, machines_apart, jobs_apart, machines_below, full_work, last_end-is}
 use Rattle.msp_pieces.proofs.bounds.Loads.{shop_machines_below, job_is_worked}
 
 -- ---- pieces of any type
-split : (u v last t : ℕ) → v ≤ last → v - u ≤ overlap u v 0 t + overlap u v t last
-split u v last t h = omega arith
-
 module _ {X : Type 0} (job machine from to : X → ℕ) (test : ℕ → Bool) (last : ℕ → ℕ) (m n t : ℕ) (xs : List X)
     (jobs : All (λ q. job q < n) xs) (machines : All (λ q. machine q < m) xs)
     (on_machines : AllPairs (IsApartOn machine from to) xs) (on_jobs : AllPairs (IsApartOn job from to) xs) (ends : All (λ q. to q ≤ last (job q)) xs) where
@@ -45,7 +41,7 @@ module _ {X : Type 0} (job machine from to : X → ℕ) (test : ℕ → Bool) (l
   parts = omega (
     arith,
     sum_by-mono (size_of from to) (λ q. before q + behind q) chosen
-        (λ k d l. split (from (get_or chosen k d)) (to (get_or chosen k d)) (last (job (get_or chosen k d))) t (All-filter passes (λ q. to q ≤ last (job q)) xs ends k d l)),
+        (λ k d l. omega (arith, All-filter passes (λ q. to q ≤ last (job q)) xs ends k d l)),
     sum_by-add before behind chosen,
   )
 
@@ -80,33 +76,22 @@ module _ (i : Instance) (s : Schedule) (test : ℕ → Bool) (t : ℕ) (f : Feas
   abbrev n : ℕ
   n = length i.jobs
 
-  abbrev together : ℕ
-  together = total_below n (λ j. cond (test j) (time j) 0)
-
-  timed : All IsTimed s.pieces
-  timed k d l = IsTimed-from_span _ (f.span k d l)
-
-  on_machines : AllPairs (IsApartOn (λ p. p.machine) start finish) s.pieces
-  on_machines a b d h k e = apart_in_nat _ _ (timed a d (omega arith)) (timed b d k) (f.machine a b d h k e)
-
-  on_jobs : AllPairs (IsApartOn job_of start finish) s.pieces
-  on_jobs a b d h k e = apart_in_nat _ _ (timed a d (omega arith)) (timed b d k) (f.job a b d h k e)
-
-  in_pieces : unit * together ≤ i.machines * t + total_below n (λ j. cond (test j) (ended j - t) 0)
+  in_pieces : unit * total_below n (λ j. cond (test j) (time j) 0) ≤ i.machines * t + total_below n (λ j. cond (test j) (ended j - t) 0)
   in_pieces = omega (
     arith,
     total_below-scale n unit (λ j. cond (test j) (time j) 0),
     total_below-mono n (λ j. unit * cond (test j) (time j) 0) (λ j. cond (test j) (work_of job_of start finish s.pieces j) 0)
         (λ j l. subst (λ x. x ≤ cond (test j) (work_of job_of start finish s.pieces j) 0) (cond-scale (test j) unit (time j)) (cond-mono (test j) (worked j l))),
-    room_around job_of (λ p. p.machine) start finish test ended i.machines n t s.pieces (λ k d l. (f.place k d l).job) machines on_machines on_jobs (last_of-bound job_of finish s.pieces),
+    room_around job_of (λ p. p.machine) start finish test ended i.machines n t s.pieces (λ k d l. (f.place k d l).job)
+        machines (machines_apart i s f) (jobs_apart i s f) (last_of-bound job_of finish s.pieces),
   )
 
   behind_is : sum_by (λ j. cond (test j) (nat_abs (end_of s j) - t) 0) (range_with_len 0 n) ≡ total_below n (λ j. cond (test j) (ended j - t) 0)
-  behind_is = total_below-range n _ ∙ total_below-same n _ _ (λ j l. ap (λ x. cond (test j) (nat_abs x - t) 0) (last_end-is s.pieces j timed))
+  behind_is = total_below-range n _ ∙ total_below-same n _ _ (λ j l. ap (λ x. cond (test j) (nat_abs x - t) 0) (last_end-is s.pieces j (pieces_timed i s f)))
 
   in_schedule : HasRoomAround i s test t (sum_by (λ j. cond (test j) (time j) 0) (range_with_len 0 n))
   in_schedule = subst₂ (λ x y. x ≤ℤ pos (i.machines * t + y))
-      (sym (ap₂ (λ u k. u *ℤ pos k) (natural s.unit (omega (arith, ints, f.unit))) (total_below-range n (λ j. cond (test j) (time j) 0)))) (sym behind_is) (pos-le in_pieces)
+      (sym (ap₂ (λ u k. u *ℤ pos k) (unit_in_parts i s f) (total_below-range n (λ j. cond (test j) (time j) 0)))) (sym behind_is) (pos-le in_pieces)
 
 pub law_of_last_ends : LawOfLastEnds
 law_of_last_ends = record {

@@ -1,14 +1,13 @@
 -- The law of levels: floors, the tails of jobs along arcs, and the law of ends.
 use Rattle.std.proofs.Common.{◌≡◌, ℕ, zero, suc, ◌+◌, ◌*◌, ◌/◌, ◌-◌, ◌<◌, ◌≤◌, Bool, true, cond, leb, length, pos, nat_abs, ◌-ℤ◌, ◌*ℤ◌, ◌≤ℤ◌, All, Contains, refl, sym, ap, subst, subst₂, ◌∙◌, arith}
 use Rattle.std.proofs.lemmas.Bool.{leb-true, le-leb}
-use Rattle.std.proofs.lemmas.Int.{ints}
 use Rattle.std.proofs.lemmas.Nat.{div_below}
 use native.Mathlib.Nat.{mul-le-mul_left, le_of_mul-le-mul_left}
 use Rattle.std.proofs.lemmas.List.Elements.{All-contains}
 use Rattle.msp_class.specs.declared.environments.EnvKind.TheVariants.{Identical}
 use Rattle.msp_class.specs.Env.{kind_of}
 use Rattle.msp_class.proofs.Sums.{total_below-same, total_below-term, total_below-range, cond-yes}
-use Rattle.msp_class.proofs.IntegerRing.{natural, zero-le-pos, pos-le, le-pos, ≤ℤ_refl, ≤ℤ_trans}
+use Rattle.msp_class.proofs.IntegerRing.{zero-le-pos, pos-le, le-pos, ≤ℤ_refl, ≤ℤ_trans}
 use Rattle.msp_instance.specs.declared.Instance.{Instance}
 use Rattle.msp_instance.specs.Instance.{need_at}
 use Rattle.msp_instance.specs.Paths.{HasStep}
@@ -19,6 +18,7 @@ use Rattle.msp_pieces.specs.Feasible.{Feasible, HasOperation, whole_work}
 use Rattle.msp_pieces.specs.Cost.{end_of}
 use Rattle.msp_pieces.specs.Laws.{time_together, HasRoom, EndsLast, floored}
 use Rattle.msp_pieces.proofs.bounds.EndsAndFloors.{law_of_ends, law_of_floors}
+use Rattle.msp_pieces.proofs.feasible.OneMachine.{unit_in_parts}
 use Rattle.msp_pieces.proofs.bounds.Floored.{FillsUnit, floored-fills}
 use Rattle.msp_pieces.proofs.feasible.LastEnds.{last_end-reached}
 use Rattle.msp_pieces.proofs.feasible.Frames.{frame_of, HasWork, IsShaped-from_identical, Fits-from_feasible}
@@ -30,7 +30,7 @@ pub rounded_up : (n m d : ℕ) → 1 ≤ n → n ≤ m * d → (n + (m - 1)) / m
 rounded_up n zero d some h = absurd (omega arith)
 rounded_up n (suc m) d some h = let b : (n + (suc m - 1)) / suc m < d + 1 = div_below (n + (suc m - 1)) (suc m) (d + 1) (omega arith) (omega arith) in omega arith
 
-cancelled : (u m n d : ℕ) → 1 ≤ u → u * n ≤ m * (u * d) → n ≤ m * d
+pub cancelled : (u m n d : ℕ) → 1 ≤ u → u * n ≤ m * (u * d) → n ≤ m * d
 cancelled u m n d some h = le_of_mul-le-mul_left {k = u} (omega (arith, h)) some
 
 -- ---- levels step down along arcs
@@ -117,20 +117,15 @@ module _ (i : Instance) (level : ℕ → ℕ) (kind : kind_of i.class.env ≡ Id
         d = r + 1 - t
 
         early : (j : ℕ) → j < length i.jobs → high j ≡ true → end_of s j ≤ℤ pos (unit * d)
-        early j b e = let (q, a) = run j b in subst (λ x. x ≤ℤ pos (unit * d)) (sym a.end) (pos-le (by q (tail t j q b (leb-true t (level j) e) a)))
-          where
-            by : (q : ℕ) → q + t ≤ r → unit * q + unit ≤ unit * d
-            by q h = omega (arith, mul-le-mul_left unit (fits q h))
-              where
-                fits : (q : ℕ) → q + t ≤ r → q + 1 ≤ d
-                fits q h = omega (arith, h)
+        early j b e =
+            let (q, a) = run j b in
+            let fits : q + 1 ≤ d = omega (arith, tail t j q b (leb-true t (level j) e) a) in
+            subst (λ x. x ≤ℤ pos (unit * d)) (sym a.end) (pos-le (omega (arith, mul-le-mul_left unit fits)))
 
         room : jobs_from i level t ≤ i.machines * d
-        room = cancelled unit i.machines (jobs_from i level t) d some_unit (whole (le-pos (subst₂ (λ x n. (x *ℤ pos n) ≤ℤ (pos i.machines *ℤ (pos (unit * d) -ℤ pos 0))) unit_is (together t) has)))
+        room = cancelled unit i.machines (jobs_from i level t) d some_unit (let whole : unit * jobs_from i level t ≤ i.machines * (unit * d + 0) = le-pos
+            (subst₂ (λ x n. (x *ℤ pos n) ≤ℤ (pos i.machines *ℤ (pos (unit * d) -ℤ pos 0))) unit_is (together t) has) in omega (arith, whole))
           where
-            whole : unit * jobs_from i level t ≤ i.machines * (unit * d + 0) → unit * jobs_from i level t ≤ i.machines * (unit * d)
-            whole h = omega (arith, h)
-
             has : HasRoom i s high (pos 0) (pos (unit * d))
             has = law_of_ends.room i s high (pos 0) (pos (unit * d)) kind f (≤ℤ_refl (pos 0)) (zero-le-pos (unit * d)) (λ n x l e. (f.span n x l).0) early
 
@@ -145,6 +140,6 @@ pub law_of_levels : LawOfLevels
 law_of_levels i s level t j kind whole ones steps f b h =
     let (g, no_later) = law_of_floors i s kind whole ones f in
     let (k, last, room) = law_of_ends.last i (floored s) (λ _. true) (pos 0) kind g (≤ℤ_refl (pos 0)) (λ n x l e. (g.span n x l).0) (λ m l. omega (arith, ones m l)) j b refl in
-    let unit_is : s.unit ≡ pos (nat_abs s.unit) = natural s.unit (omega (arith, ints, f.unit)) in
+    let unit_is = unit_in_parts i s f in
     let (r, z) = run i level kind ones steps (floored s) g (nat_abs s.unit) unit_is (floored-fills s f.unit) k last.inside in
     (k, last.inside, ≤ℤ_trans (bound i level kind ones steps (floored s) g (nat_abs s.unit) unit_is (floored-fills s f.unit) k r last z t j b h) (no_later k))

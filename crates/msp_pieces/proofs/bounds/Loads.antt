@@ -1,12 +1,12 @@
 -- The law of machines and the law of lines: in shops an operation has its time on its own machine, and none of its job's other operations runs then.
-use Rattle.std.proofs.Common.{◌≡◌, ◌≢◌, ℕ, ◌*◌, ◌-◌, ◌<◌, ◌≤◌, Bool, true, false, cond, eqb, List, length, get_or, filter, ℤ, pos, nat_abs, ◌*ℤ◌, ◌≤ℤ◌, All, AllPairs, sum_by, refl}
+use Rattle.std.proofs.Common.{◌≡◌, ◌≢◌, ℕ, ◌*◌, ◌-◌, ◌<◌, ◌≤◌, Bool, true, false, cond, eqb, List, length, get_or, filter, ℤ, pos, nat_abs, ◌*ℤ◌, ◌≤ℤ◌, All, sum_by, refl}
 use Rattle.std.proofs.Common.{sym, ap, ap₂, subst, subst₂, ◌∙◌, arith}
 use Rattle.std.specs.Prelude.{◌==◌, ◌&&◌}
 use Rattle.std.proofs.lemmas.Bool.{eqb-true, eqb-false}
 use Rattle.std.proofs.lemmas.Int.{ints}
 use Rattle.std.proofs.lemmas.List.Elements.{All-filter, filter_passes}
 use Rattle.msp_class.specs.declared.environments.EnvKind.{EnvKind}
-use Rattle.msp_class.specs.declared.environments.EnvKind.TheVariants.{Identical, Uniform, Unrelated, OpenShop, FlowShop, JobShop}
+use Rattle.msp_class.specs.declared.environments.EnvKind.TheVariants.{Unrelated, OpenShop, FlowShop, JobShop}
 use Rattle.msp_class.specs.Env.{kind_of, is_shop_kind, is_shop}
 use Rattle.msp_class.specs.Sums.{total_below}
 use Rattle.msp_class.proofs.Sums.{cond-mono, cond-scale, sum_by-same, sum_by-filter, sum_by-by_key_test, sum_by-by_key_filter, total_below-mono, total_below-same, total_below-scale}
@@ -21,9 +21,9 @@ use Rattle.msp_pieces.specs.Feasible.{Feasible, HasOperation, MayRun, total, who
 use Rattle.msp_pieces.specs.Cost.{end_of}
 use Rattle.msp_pieces.specs.Loads.{machine_load, job_length, LawOfMachines, LawOfLines}
 use Rattle.msp_pieces.proofs.lists.Places.{sum_by-places, filter-both}
-use Rattle.msp_pieces.specs.Intervals.{IsApartOn, size_of}
+use Rattle.msp_pieces.specs.Intervals.{size_of}
 use Rattle.msp_pieces.proofs.lists.Intervals.{apart_on_each, packed, last_of, greatest_by-bound}
-use Rattle.msp_pieces.proofs.feasible.OneMachine.{IsTimed-from_span, apart_in_nat, total_lengths, last_end-is}
+use Rattle.msp_pieces.proofs.feasible.OneMachine.{unit_in_parts, pieces_timed, machines_apart, jobs_apart, total_lengths, last_end-is}
 use Rattle.msp_pieces.proofs.feasible.LastEnds.{last_end-bound}
 use Rattle.msp_pieces.proofs.feasible.Frames.{Fits, Fits-from_feasible, frame_of, rate_on, part, of_operation, map-same}
 
@@ -37,12 +37,10 @@ record IsShopKind (k : EnvKind) (i : Instance) : Type 0 where
   other : k ≢ Unrelated
 
 kind_reads : (k : EnvKind) → is_shop_kind k ≡ true → (i : Instance) → IsShopKind k i
-kind_reads Identical e i = absurd (cc)
-kind_reads Uniform e i = absurd (cc)
-kind_reads Unrelated e i = absurd (cc)
 kind_reads OpenShop e i = record { has = λ j o h. h.0; all = λ j o l n. (l, n); may = λ j o m h. h; rate = λ j m. refl; want = λ j o. refl; other = λ u. absurd (cc) }
 kind_reads FlowShop e i = record { has = λ j o h. h.0; all = λ j o l n. (l, n); may = λ j o m h. h; rate = λ j m. refl; want = λ j o. refl; other = λ u. absurd (cc) }
 kind_reads JobShop e i = record { has = λ j o h. h.0; all = λ j o l n. (l, n); may = λ j o m h. h; rate = λ j m. refl; want = λ j o. refl; other = λ u. absurd (cc) }
+kind_reads _ e i = absurd (cc)
 
 module _ (i : Instance) (s : Schedule) (shop : is_shop i.class.env ≡ true) (f : Feasible i s) where
   reads : IsShopKind (kind_of i.class.env) i
@@ -54,11 +52,8 @@ module _ (i : Instance) (s : Schedule) (shop : is_shop i.class.env ≡ true) (f 
   abbrev unit : ℕ
   unit = nat_abs s.unit
 
-  unit_is : s.unit ≡ pos unit
-  unit_is = natural s.unit (omega (arith, ints, f.unit))
-
   timed : All IsTimed s.pieces
-  timed k d l = IsTimed-from_span _ (f.span k d l)
+  timed = pieces_timed i s f
 
   abbrev size : Piece → ℕ
   size = size_of start finish
@@ -79,16 +74,13 @@ module _ (i : Instance) (s : Schedule) (shop : is_shop i.class.env ≡ true) (f 
         sym (total_lengths own (All-filter (λ p. (p.job == j) && (p.op == o)) IsTimed s.pieces timed))
         ∙ ap total (map-same length_of (part (frame_of i)) own (λ k d b. let p = get_or own k d in sym (ap (λ r. length_of p *ℤ pos r) (reads.rate p.job p.machine) ∙ *ℤ-one (length_of p))))
         ∙ (fits.work j o l (reads.all j o m n)).sum
-        ∙ ap₂ (λ u t. u *ℤ pos t) unit_is (reads.want j o))
+        ∙ ap₂ (λ u t. u *ℤ pos t) (unit_in_parts i s f) (reads.want j o))
 
     operation_is_done : unit * (need_at i j o).time ≤ sum_by size (filter (λ p. eqb p.op o) (share j))
     operation_is_done = by (eqb (need_at i j o).time 0) refl
       where
-        none : (t x : ℕ) → t ≡ 0 → unit * t ≤ x
-        none t x e = subst (λ n. unit * n ≤ x) (sym e) (omega arith)
-
         by : (b : Bool) → eqb (need_at i j o).time 0 ≡ b → unit * (need_at i j o).time ≤ sum_by size (filter (λ p. eqb p.op o) (share j))
-        by true e = none (need_at i j o).time _ (eqb-true _ _ e)
+        by true e = omega (arith, ap (λ t. unit * t) (eqb-true _ _ e))
         by false e = omega (arith, full (eqb-false _ _ e), ap (sum_by size) (filter-both (λ p. eqb p.job j) (λ p. eqb p.op o) s.pieces))
 
   of_share : (j : ℕ) → All (λ p. p.job ≡ j) (share j)
@@ -117,25 +109,16 @@ module _ (i : Instance) (s : Schedule) (shop : is_shop i.class.env ≡ true) (f 
       )
 
   -- ---- a job
-  apart_on_jobs : AllPairs (IsApartOn job_of start finish) s.pieces
-  apart_on_jobs a b d h k e = apart_in_nat _ _ (timed a d (omega arith)) (timed b d k) (f.job a b d h k e)
-
-  line : (j : ℕ) → j < length i.jobs → (s.unit *ℤ pos (job_length i j)) ≤ℤ end_of s j
-  line j l = subst₂ (λ x y. x ≤ℤ y) (sym (ap (λ u. u *ℤ pos (job_length i j)) unit_is))
-      (sym (last_end-is s.pieces j timed)) (pos-le (by (job_length i j) _ _ _ lengths (operations_are_done (λ _. true) j l) short))
-    where
-      lengths : job_length i j ≡ total_below (length (needs j)) (λ o. (need_at i j o).time)
-      lengths = sum_by-places (λ n. n.time) (needs j) no_need
-
-      short : sum_by size (share j) ≤ last_of job_of finish s.pieces j - 0
-      short = packed start finish 0 (last_of job_of finish s.pieces j)
-          (share j) (apart_on_each job_of start finish j s.pieces apart_on_jobs) (λ k d b. (omega arith, greatest_by-bound finish (share j) k d b))
-
-      by : (a b c e : ℕ) → a ≡ b → unit * b ≤ c → c ≤ e - 0 → unit * a ≤ e
-      by a b c e q h k = subst (λ x. unit * x ≤ e) (sym q) (omega arith)
-
   pub job_is_worked : (j : ℕ) → j < length i.jobs → unit * job_length i j ≤ sum_by size (share j)
   job_is_worked j l = subst (λ x. unit * x ≤ sum_by size (share j)) (sym (sum_by-places (λ n. n.time) (needs j) no_need)) (operations_are_done (λ _. true) j l)
+
+  line : (j : ℕ) → j < length i.jobs → (s.unit *ℤ pos (job_length i j)) ≤ℤ end_of s j
+  line j l = subst₂ (λ x y. x ≤ℤ y) (sym (ap (λ u. u *ℤ pos (job_length i j)) (unit_in_parts i s f)))
+      (sym (last_end-is s.pieces j timed)) (pos-le (omega (arith, job_is_worked j l, short)))
+    where
+      short : sum_by size (share j) ≤ last_of job_of finish s.pieces j - 0
+      short = packed start finish 0 (last_of job_of finish s.pieces j)
+          (share j) (apart_on_each job_of start finish j s.pieces (jobs_apart i s f)) (λ k d b. (omega arith, greatest_by-bound finish (share j) k d b))
 
   pub shop_machines_below : All (λ j. All (λ n. n.machine < i.machines) j.needs) i.jobs → All (λ p. p.machine < i.machines) s.pieces
   shop_machines_below on k d l =
@@ -144,9 +127,6 @@ module _ (i : Instance) (s : Schedule) (shop : is_shop i.class.env ≡ true) (f 
       subst (λ m. m < i.machines) (sym (reads.may p.job p.op p.machine place.machine)) (on p.job no_job place.job p.op no_need (reads.has p.job p.op place.operation))
 
   -- ---- a machine
-  apart_on_machines : AllPairs (IsApartOn (λ p. p.machine) start finish) s.pieces
-  apart_on_machines a b d h k e = apart_in_nat _ _ (timed a d (omega arith)) (timed b d k) (f.machine a b d h k e)
-
   module _ (m : ℕ) where
     abbrev on : Piece → ℕ
     on p = cond (eqb p.machine m) (size p) 0
@@ -179,11 +159,11 @@ module _ (i : Instance) (s : Schedule) (shop : is_shop i.class.env ≡ true) (f 
       arith,
       jobs_are_done,
       packed start finish 0 c (filter (λ p. eqb p.machine m) s.pieces)
-          (apart_on_each (λ p. p.machine) start finish m s.pieces apart_on_machines) (λ k d l. (omega arith, All-filter (λ p. eqb p.machine m) (λ p. finish p ≤ c) s.pieces ends k d l)),
+          (apart_on_each (λ p. p.machine) start finish m s.pieces (machines_apart i s f)) (λ k d l. (omega arith, All-filter (λ p. eqb p.machine m) (λ p. finish p ≤ c) s.pieces ends k d l)),
     )
 
     machine : (end : ℤ) → pos 0 ≤ℤ end → ((j : ℕ) → j < length i.jobs → end_of s j ≤ℤ end) → (s.unit *ℤ pos (machine_load i m)) ≤ℤ end
-    machine end b ends = subst₂ (λ x y. x ≤ℤ y) (sym (ap (λ u. u *ℤ pos (machine_load i m)) unit_is)) (sym (natural end b))
+    machine end b ends = subst₂ (λ x y. x ≤ℤ y) (sym (ap (λ u. u *ℤ pos (machine_load i m)) (unit_in_parts i s f))) (sym (natural end b))
         (pos-le (machine_is_done (nat_abs end) (λ k d l. let t = timed k d l in omega (arith, ints, t.to, b, last_end-bound s.pieces k d l, ends (get_or s.pieces k d).job (f.place k d l).job))))
 
 pub law_of_machines : LawOfMachines

@@ -7,7 +7,7 @@ use Rattle.std.proofs.lemmas.List.FromFn.{length-range_with_len, get_or-range_wi
 use Rattle.msp_class.specs.declared.environments.EnvKind.TheVariants.{Unrelated}
 use Rattle.msp_class.specs.declared.class.Crit.TheVariants.{SumC}
 use Rattle.msp_class.specs.Env.{kind_of}
-use Rattle.msp_class.proofs.IntegerRing.{natural, pos-le, +ℤ_mono, ≤ℤ_refl, ≤ℤ_trans, *ℤ-mono_nonneg}
+use Rattle.msp_class.proofs.IntegerRing.{pos-le, +ℤ_mono, ≤ℤ_refl, ≤ℤ_trans, *ℤ-mono_nonneg}
 use Rattle.msp_class.specs.Sums.{total_below, int_total_below}
 use Rattle.msp_class.proofs.Sums.{total_below-same, total_below-scale, int_total_below-same, int_total_below-mono, int_total_below-add, int_total_below-pos}
 use Rattle.msp_instance.specs.declared.Instance.{Instance}
@@ -17,7 +17,7 @@ use Rattle.msp_pieces.specs.Feasible.{Feasible, HasOperation, MayRun, IsWholeWor
 use Rattle.msp_pieces.specs.Cost.{cost_of}
 use Rattle.msp_pieces.specs.Prices.{ArePrices, prices_on_machine, all_prices, LawOfPrices}
 use Rattle.msp_pieces.specs.Piece.{start, finish}
-use Rattle.msp_pieces.proofs.feasible.OneMachine.{total-below}
+use Rattle.msp_pieces.proofs.feasible.OneMachine.{total-below, unit_in_parts}
 use Rattle.msp_pieces.proofs.feasible.SolePieces.{only_piece, length_in_nat, is_only, only_timed, only_placed, only_apart, sum_of_only_ends}
 use Rattle.msp_pieces.proofs.lists.Positions.{distinct_pairs, position_of, position_of-some, position_of-few, position_of-once, sum_of_ends}
 
@@ -109,25 +109,13 @@ module _ (i : Instance) (s : Schedule) (job : ℕ → ℤ) (position : ℕ → �
   priced j l =
       let some = position_of-some n machine end j l in
       let few = position_of-few n machine end j in
-      let same : count j - 1 + 1 ≡ count j = back (count j) some in
-      subst (λ x. (job j +ℤ position (machine j) (count j - 1)) ≤ℤ pos (x * time j)) same (h.fair j (machine j) (count j - 1) l (inside j l) (below (count j) n some few))
-    where
-      back : (c : ℕ) → 1 ≤ c → c - 1 + 1 ≡ c
-      back c h = omega arith
-
-      below : (c n : ℕ) → 1 ≤ c → c ≤ n → c - 1 < n
-      below c n h k = omega arith
+      let same : count j - 1 + 1 ≡ count j = omega (arith, some) in
+      subst (λ x. (job j +ℤ position (machine j) (count j - 1)) ≤ℤ pos (x * time j)) same (h.fair j (machine j) (count j - 1) l (inside j l) (omega (arith, some, few)))
 
   positions_low : int_total_below i.machines (λ m. int_total_below n (λ k. position m k)) ≤ℤ int_total_below n (λ j. position (machine j) (count j - 1))
   positions_low = distinct_low_pairs n i.machines n machine
-      (λ j. count j - 1) position h.low (λ j l. (inside j l, below (count j) n (position_of-some n machine end j l) (position_of-few n machine end j)))
-      (λ a b l m on same. position_of-once n machine end begin lasts apart a b l m on (back (count a) (count b) (position_of-some n machine end a l) (position_of-some n machine end b m) same))
-    where
-      below : (c n : ℕ) → 1 ≤ c → c ≤ n → c - 1 < n
-      below c n h k = omega arith
-
-      back : (c d : ℕ) → 1 ≤ c → 1 ≤ d → c - 1 ≡ d - 1 → c ≡ d
-      back c d h k e = omega arith
+      (λ j. count j - 1) position h.low (λ j l. (inside j l, omega (arith, position_of-some n machine end j l, position_of-few n machine end j)))
+      (λ a b l m on same. position_of-once n machine end begin lasts apart a b l m on (omega (arith, same, position_of-some n machine end a l, position_of-some n machine end b m)))
 
   all_is : all_prices i job position ≡ int_total_below n job +ℤ int_total_below i.machines (λ m. int_total_below n (λ k. position m k))
   all_is = ap₂ (λ x y. x +ℤ y) (total_over_range n job) (total_over_range i.machines (prices_on_machine i position)
@@ -143,7 +131,7 @@ module _ (i : Instance) (s : Schedule) (job : ℕ → ℤ) (position : ℕ → �
 
   bound : (s.unit *ℤ all_prices i job position) ≤ℤ cost_of i s
   bound =
-      let u : s.unit ≡ pos unit = natural s.unit (omega (arith, ints, f.unit)) in
+      let u = unit_in_parts i s f in
       ≤ℤ_trans (*ℤ-mono_nonneg s.unit (omega (arith, ints, f.unit)) all_low)
       (≤ℤ_trans (subst (λ x. (x *ℤ pos (total_below n (λ j. count j * time j))) ≤ℤ pos (total_below n end)) (sym u) (pos-le ends_take)) (sum_of_only_ends i s whole works f crit))
 

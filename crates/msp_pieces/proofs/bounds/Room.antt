@@ -20,16 +20,13 @@ module _ (i : Instance) (t : Schedule) (f : Feasible i t) (time : ℕ → ℕ)
   abbrev n : ℕ
   n = length i.jobs
 
-  abbrev unit : ℕ
-  unit = nat_abs t.unit
-
-  in_tests : (test : ℕ → Bool) (moment : ℕ) → unit * total_below n (λ j. cond (test j) (time j) 0) ≤ i.machines * moment + total_below n (λ j. cond (test j) (end_at t j - moment) 0)
+  in_tests : (test : ℕ → Bool) (moment : ℕ) → nat_abs t.unit * total_below n (λ j. cond (test j) (time j) 0) ≤ i.machines * moment + total_below n (λ j. cond (test j) (end_at t j - moment) 0)
   in_tests test moment =
-      subst₂ (λ x y. unit * x ≤ i.machines * moment + y) (total_below-range n (λ j. cond (test j) (time j) 0)) (total_below-range n (λ j. cond (test j) (end_at t j - moment) 0))
+      subst₂ (λ x y. nat_abs t.unit * x ≤ i.machines * moment + y) (total_below-range n (λ j. cond (test j) (time j) 0)) (total_below-range n (λ j. cond (test j) (end_at t j - moment) 0))
       (le-pos (subst (λ u. (u *ℤ pos (sum_by (λ j. cond (test j) (time j) 0) (range_with_len 0 n)))
       ≤ℤ pos (i.machines * moment + sum_by (λ j. cond (test j) (end_at t j - moment) 0) (range_with_len 0 n))) (natural t.unit (omega (arith, ints, f.unit))) (law test moment)))
 
-  pub room_in_list : (xs : List ℕ) → All (λ x. x < n) xs → AllPairs (λ a b. a ≢ b) xs → (moment : ℕ) → unit * sum_by time xs ≤ i.machines * moment + sum_by (λ j. end_at t j - moment) xs
+  pub room_in_list : (xs : List ℕ) → All (λ x. x < n) xs → AllPairs (λ a b. a ≢ b) xs → (moment : ℕ) → nat_abs t.unit * sum_by time xs ≤ i.machines * moment + sum_by (λ j. end_at t j - moment) xs
   room_in_list xs within distinct moment =
-      subst₂ (λ x y. unit * x ≤ i.machines * moment + y) (list_total time n xs within distinct) (list_total (λ j. end_at t j - moment) n xs within distinct)
+      subst₂ (λ x y. nat_abs t.unit * x ≤ i.machines * moment + y) (list_total time n xs within distinct) (list_total (λ j. end_at t j - moment) n xs within distinct)
       (in_tests (λ j. list_any (λ x. eqb x j) xs) moment)

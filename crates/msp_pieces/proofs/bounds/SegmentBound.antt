@@ -1,16 +1,15 @@
 -- The law of segments: floors, and the law of ends list by list.
-use Rattle.std.proofs.Common.{◌≡◌, ◌≢◌, ℕ, suc, ◌+◌, ◌*◌, ◌/◌, ◌-◌, ◌<◌, ◌≤◌, Bool, true, cond, List, [], ◌∷◌, length, get_or, pos, nat_abs, ◌-ℤ◌, ◌*ℤ◌, ◌≤ℤ◌, All, AllPairs}
+use Rattle.std.proofs.Common.{◌≡◌, ◌≢◌, ℕ, ◌+◌, ◌*◌, ◌/◌, ◌-◌, ◌<◌, ◌≤◌, Bool, true, cond, List, [], ◌∷◌, length, get_or, pos, nat_abs, ◌-ℤ◌, ◌*ℤ◌, ◌≤ℤ◌, All, AllPairs}
 use Rattle.std.proofs.Common.{Contains, refl, sym, ap, subst, subst₂, ◌∙◌, arith}
 use Rattle.std.specs.Prelude.{◌==◌, ⊤}
 use Rattle.std.specs.List.{AllAdjacentBelow, flat_map, list_any}
-use Rattle.std.proofs.lemmas.Int.{ints}
 use Rattle.std.proofs.lemmas.List.Elements.{All-head, All-tail, All-contains, Contains-get_or}
 use Rattle.std.proofs.lemmas.List.Sums.{sum_by-cons}
 use native.Mathlib.Nat.{mul-le-mul_left, le_of_mul-le-mul_left}
 use Rattle.msp_class.specs.declared.environments.EnvKind.TheVariants.{Identical}
 use Rattle.msp_class.specs.Env.{kind_of}
-use Rattle.msp_class.proofs.Sums.{sum_by-constant, sum_by-distinct_test, total_below-range, total_below-same}
-use Rattle.msp_class.proofs.IntegerRing.{natural, pos-le, le-pos, pos-sub, zero-le-pos, ≤ℤ_trans, <ℤ_weak}
+use Rattle.msp_class.proofs.Sums.{AllAdjacent-tail, sum_by-constant, sum_by-distinct_test, total_below-range, total_below-same}
+use Rattle.msp_class.proofs.IntegerRing.{pos-le, le-pos, pos-sub, zero-le-pos, ≤ℤ_trans, <ℤ_weak}
 use Rattle.msp_instance.specs.declared.Instance.{Instance}
 use Rattle.msp_instance.specs.Instance.{need_at}
 use Rattle.msp_instance.specs.Paths.{HasStep, HasPath, one, more}
@@ -23,25 +22,21 @@ use Rattle.msp_pieces.specs.Cost.{end_of}
 use Rattle.msp_pieces.specs.Laws.{time_together, BeginsFrom, floored}
 use Rattle.msp_pieces.specs.Segments.{LeadTo, AreSegments, segments_bound, LawOfSegments}
 use Rattle.msp_pieces.proofs.lists.Parts.{AllPairs-front, AllPairs-back}
-use Rattle.msp_pieces.proofs.feasible.OneMachine.{IsTimed-from_span}
+use Rattle.msp_pieces.proofs.feasible.OneMachine.{pieces_timed, unit_in_parts}
 use Rattle.msp_pieces.proofs.bounds.EndsAndFloors.{law_of_ends, law_of_floors}
 use Rattle.msp_pieces.proofs.bounds.Floored.{FillsUnit, floored-fills}
 use Rattle.msp_pieces.proofs.feasible.LastEnds.{last_end-reached, last_end-contains}
 use Rattle.msp_pieces.proofs.feasible.Frames.{Fits, Lasts, frame_of, piece_of, IsShaped-from_identical, Fits-from_feasible}
 use Rattle.msp_pieces.proofs.bounds.Groups.{ends_last}
-use Rattle.msp_pieces.proofs.bounds.LevelBound.{rounded_up, unit_work}
+use Rattle.msp_pieces.proofs.bounds.LevelBound.{rounded_up, cancelled, unit_work}
 
 -- ---- lists
-module _ {X : Type 0} (R : X → X → Type 0) where
-  AllAdjacent-rest : (x : X) (xs : List X) → AllAdjacentBelow R (x ∷ xs) (length (x ∷ xs)) → AllAdjacentBelow R xs (length xs)
-  AllAdjacent-rest x xs h k d l = let next : suc k + 1 ≡ suc (k + 1) = omega arith in subst (λ n. R (get_or xs k d) (get_or (x ∷ xs) n d)) next (h (suc k) d (omega arith))
-
 AreSegments-rest : (i : Instance) (jobs : List ℕ) (rest : List (List ℕ)) → AreSegments i (jobs ∷ rest) → AreSegments i rest
 AreSegments-rest i jobs rest a = record {
   some = All-tail (λ js. 0 < length js) jobs rest a.some;
   inside = All-tail (λ js. All (λ j. j < length i.jobs) js) jobs rest a.inside;
   apart = AllPairs-back (λ j k. j ≢ k) jobs (flat_map (λ js. js) rest) a.apart;
-  lead = AllAdjacent-rest (LeadTo i) jobs rest a.lead;
+  lead = AllAdjacent-tail (LeadTo i) jobs rest a.lead;
 }
 
 -- whether the job is one of the list
@@ -53,13 +48,10 @@ room_in_units : (u m n h d : ℕ) → 1 ≤ u → h ≤ d → u * n ≤ m * (u *
 room_in_units u m n h d some less r = by (d - h) (omega arith)
   where
     by : (w : ℕ) → d ≡ h + w → n ≤ m * w
-    by w e = cancelled (let more : u * d ≡ u * h + u * w = ap (λ x. u * x) e ∙ omega arith in omega (arith, more))
-      where
-        cancelled : u * d - u * h ≡ u * w → n ≤ m * w
-        cancelled c = le_of_mul-le-mul_left {k = u} (turned (subst (λ x. u * n ≤ m * x) c r)) some
-          where
-            turned : u * n ≤ m * (u * w) → u * n ≤ u * (m * w)
-            turned q = omega (arith, q)
+    by w e =
+        let more : u * d ≡ u * h + u * w = ap (λ x. u * x) e ∙ omega arith in
+        let cut : u * d - u * h ≡ u * w = omega (arith, more) in
+        cancelled u m n w some (subst (λ x. u * n ≤ m * x) cut r)
 
 -- ---- along paths
 module _ (i : Instance) (kind : kind_of i.class.env ≡ Identical) (ones : (k : ℕ) → k < length i.jobs → (need_at i k 0).time ≡ 1)
@@ -98,13 +90,7 @@ module _ (i : Instance) (kind : kind_of i.class.env ≡ Identical) (ones : (k : 
         let (p, here, own, last) = last_end-reached (frame_of i) s.unit s.pieces fits (unit_work i kind ones) k l in
         let (q, from, to) = All-contains (FillsUnit unit) s.pieces p pieces here in
         let first = All-contains (λ p. test p.job ≡ true → pos (unit * h) ≤ℤ p.from) s.pieces p begins here (ap test own ∙ passes) in
-        (q + 1, sym last ∙ to ∙ ap pos (next q), by q (le-pos (subst (λ x. pos (unit * h) ≤ℤ x) from first)))
-      where
-        next : (q : ℕ) → unit * q + unit ≡ unit * (q + 1)
-        next q = omega arith
-
-        by : (q : ℕ) → unit * h ≤ unit * q → h ≤ q + 1
-        by q e = let less : h ≤ q = le_of_mul-le-mul_left {k = unit} e some_unit in omega arith
+        (q + 1, sym last ∙ to ∙ ap pos (omega arith), let less : h ≤ q = le_of_mul-le-mul_left {k = unit} (le-pos (subst (λ x. pos (unit * h) ≤ℤ x) from first)) some_unit in omega arith)
 
     -- the jobs of a list, none of which begins before h units, take as many units as the law of ends says
     list_takes : (jobs : List ℕ) (h : ℕ) → 0 < length jobs → All (λ j. j < length i.jobs) jobs → AllPairs (λ j k. j ≢ k) jobs → BeginsFrom (pos (unit * h)) (is_in jobs) s
@@ -168,10 +154,7 @@ module _ (i : Instance) (kind : kind_of i.class.env ≡ Identical) (ones : (k : 
             subst (λ y. y ≤ℤ q.from) is (after_path k q.job path q (Contains-get_or s.pieces x e l) refl)
 
     starts : (test : ℕ → Bool) → BeginsFrom (pos (unit * 0)) test s
-    starts test x d b e = subst (λ z. pos z ≤ℤ (get_or s.pieces x d).from) zero_is (f.span x d b).0
-      where
-        zero_is : 0 ≡ unit * 0
-        zero_is = omega arith
+    starts test x d b e = subst (λ z. pos z ≤ℤ (get_or s.pieces x d).from) (let zero_is : 0 ≡ unit * 0 = omega arith in zero_is) (f.span x d b).0
 
     lasts : (segments : List (List ℕ)) (r : ℕ) → AreSegments i segments → ((k : ℕ) → k < length i.jobs → end_of s k ≤ℤ pos (unit * r)) → segments_bound i segments ≤ r
     lasts segments r a all = omega (arith, climbs segments 0 r a (from_start segments) (omega arith) all)
@@ -185,9 +168,9 @@ pub law_of_segments : LawOfSegments
 law_of_segments l i s segments kind whole ones h f a =
     let (g, no_later) = law_of_floors i s kind whole ones f in
     let unit = nat_abs s.unit in
-    let unit_is : s.unit ≡ pos unit = natural s.unit (omega (arith, ints, f.unit)) in
+    let unit_is = unit_in_parts i s f in
     let fills = floored-fills s f.unit in
-    let (k, last) = ends_last i (floored s) (λ x d b. IsTimed-from_span _ (g.span x d b)) (λ _. true) 0 (omega (arith, h.some)) refl in
+    let (k, last) = ends_last i (floored s) (pieces_timed i (floored s) g) (λ _. true) 0 (omega (arith, h.some)) refl in
     let (r, is, from) = whole_end i kind ones h.ends (floored s) g unit unit_is fills (λ _. true) 0 k (starts i kind ones h.ends (floored s) g unit unit_is fills (λ _. true)) last.inside refl in
     let bound = lasts i kind ones h.ends (floored s) g unit unit_is fills segments r a (λ j b. subst (λ x. end_of (floored s) j ≤ℤ x) is (last.latest j b refl)) in
     (k, last.inside, ≤ℤ_trans (subst₂ (λ u e. (u *ℤ pos (segments_bound i segments)) ≤ℤ e) (sym unit_is) (sym is) (pos-le (mul-le-mul_left unit bound))) (no_later k))

@@ -1,19 +1,18 @@
 -- The law of speeds: what is slower than the threshold is counted by job, what is faster by machine.
-use Rattle.std.proofs.Common.{◌≡◌, ◌≢◌, ℕ, ◌+◌, ◌*◌, ◌-◌, ◌<◌, ◌≤◌, inl, inr, Bool, true, false, cond, eqb, List, [], ◌∷◌, length, get_or, filter, map, fold, ℤ, pos, nat_abs, ◌+ℤ◌}
-use Rattle.std.proofs.Common.{◌-ℤ◌, ◌*ℤ◌, ◌≤ℤ◌, All, AllPairs, sum_by, refl, sym, ap, ap₂, subst, subst₂, ◌∙◌, arith, zero-add}
+use Rattle.std.proofs.Common.{◌≡◌, ◌≢◌, ℕ, ◌+◌, ◌*◌, ◌-◌, ◌<◌, ◌≤◌, inl, inr, Bool, true, false, cond, eqb, List, length, get_or, filter, map, ℤ, pos, nat_abs}
+use Rattle.std.proofs.Common.{◌*ℤ◌, ◌≤ℤ◌, All, AllPairs, sum_by, refl, sym, ap, ap₂, subst, subst₂, ◌∙◌, arith}
 use Rattle.std.proofs.lemmas.Bool.{eqb-true}
 use Rattle.std.proofs.lemmas.Int.{ints}
-use Rattle.std.proofs.lemmas.List.Elements.{All-head, All-tail, All-filter, filter_passes}
+use Rattle.std.proofs.lemmas.List.Elements.{All-filter, filter_passes}
 use Rattle.std.proofs.lemmas.List.Kept.{AllPairs-filter}
-use Rattle.std.proofs.lemmas.List.Sums.{sum_by-cons}
 use native.Mathlib.Nat.{mul-le-mul_left}
 use Rattle.msp_class.specs.declared.environments.EnvKind.{EnvKind}
-use Rattle.msp_class.specs.declared.environments.EnvKind.TheVariants.{Identical, Uniform, Unrelated, OpenShop, FlowShop, JobShop}
+use Rattle.msp_class.specs.declared.environments.EnvKind.TheVariants.{Identical, Uniform, Unrelated}
 use Rattle.msp_class.specs.Env.{kind_of}
 use Rattle.msp_class.specs.Sums.{total_below}
 use Rattle.msp_class.proofs.Sums.{cond-scale, sum_by-mono, sum_by-same, sum_by-add, sum_by-scale, sum_by-filter, sum_by-by_key_test, sum_by-by_key_filter, total_below-mono}
 use Rattle.msp_class.proofs.Sums.{total_below-same, total_below-scale, total_below-scale_right, total_below-range}
-use Rattle.msp_class.proofs.IntegerRing.{natural, pos-le, pos-same, pos-+ℤ-pos, pos-*ℤ-pos}
+use Rattle.msp_class.proofs.IntegerRing.{natural, pos-le, pos-same, pos-*ℤ-pos}
 use Rattle.msp_instance.specs.declared.Instance.{Instance}
 use Rattle.msp_instance.specs.Instance.{need_at}
 use Rattle.msp_pieces.specs.declared.Piece.{Piece}
@@ -25,7 +24,7 @@ use Rattle.msp_pieces.specs.Intervals.{IsApartOn, size_of, work_of}
 use Rattle.msp_pieces.specs.Laws.{time_together, jobs_together}
 use Rattle.msp_pieces.specs.Speeds.{HaveSpeeds, speed_by, speed_of, speed_above, HasSpeedFor, LawOfSpeeds}
 use Rattle.msp_pieces.proofs.lists.Intervals.{apart_on_each, packed, work_by_job, last_of}
-use Rattle.msp_pieces.proofs.feasible.OneMachine.{IsTimed-from_span, apart_in_nat, pieces_of-job, last_end-is}
+use Rattle.msp_pieces.proofs.feasible.OneMachine.{length-timed, unit_in_parts, pieces_timed, machines_apart, jobs_apart, pieces_of-job, total_in_nat, last_end-is}
 use Rattle.msp_pieces.proofs.feasible.LastEnds.{last_end-bound}
 use Rattle.msp_pieces.proofs.feasible.Frames.{Fits, Fits-from_feasible, frame_of, rate_on, part, map-same}
 use Rattle.msp_pieces.proofs.bounds.Groups.{ends_last}
@@ -128,10 +127,7 @@ record IsSpeedKind (k : EnvKind) (i : Instance) : Type 0 where
 kind_reads : (k : EnvKind) → HaveSpeeds k → (i : Instance) → IsSpeedKind k i
 kind_reads Identical h i = record { has = λ j o e. e; one = λ j. refl; may = λ j o m l. l; rate = λ j m. refl; want = λ j. refl; other = λ e. absurd (cc) }
 kind_reads Uniform h i = record { has = λ j o e. e; one = λ j. refl; may = λ j o m l. l; rate = λ j m. refl; want = λ j. refl; other = λ e. absurd (cc) }
-kind_reads Unrelated h i = absurd (elim h [ inl e ↦ cc | inr e ↦ cc ])
-kind_reads OpenShop h i = absurd (elim h [ inl e ↦ cc | inr e ↦ cc ])
-kind_reads FlowShop h i = absurd (elim h [ inl e ↦ cc | inr e ↦ cc ])
-kind_reads JobShop h i = absurd (elim h [ inl e ↦ cc | inr e ↦ cc ])
+kind_reads _ h i = absurd (elim h [ inl e ↦ cc | inr e ↦ cc ])
 
 -- lengths times rates, added up
 module _ (rate : Piece → ℕ) where
@@ -141,21 +137,8 @@ module _ (rate : Piece → ℕ) where
   abbrev pub size_share : Piece → ℕ
   size_share p = size_of start finish p * rate p
 
-  share-is : (p : Piece) → IsTimed p → share p ≡ pos (size_share p)
-  share-is p t = ap (λ x. x *ℤ pos (rate p)) (lasts (finish p) (start p) p.to p.from t.to t.from t.lasts) ∙ pos-*ℤ-pos (finish p - start p) (rate p)
-    where
-      lasts : (m n : ℕ) (x y : ℤ) → x ≡ pos m → y ≡ pos n → n < m → x -ℤ y ≡ pos (m - n)
-      lasts m n x y e f h = omega (arith, ints)
-
-  fold-shares : (a : ℕ) (xs : List Piece) → All IsTimed xs → fold ◌+ℤ◌ (pos a) (map share xs) ≡ pos (a + sum_by size_share xs)
-  fold-shares a [] h = ap pos (omega arith)
-  fold-shares a (p ∷ ps) h =
-      ap (λ x. fold ◌+ℤ◌ x (map share ps)) (ap (λ x. pos a +ℤ x) (share-is p (All-head IsTimed p ps h)) ∙ pos-+ℤ-pos a (size_share p))
-      ∙ fold-shares (a + size_share p) ps (All-tail IsTimed p ps h)
-      ∙ ap pos (omega (arith, sum_by-cons size_share p ps))
-
   pub total_shares : (xs : List Piece) → All IsTimed xs → total (map share xs) ≡ pos (sum_by size_share xs)
-  total_shares xs h = fold-shares 0 xs h ∙ ap pos (zero-add (sum_by size_share xs))
+  total_shares xs h = total_in_nat share size_share xs (λ k d l. let p = get_or xs k d in ap (λ x. x *ℤ pos (rate p)) (length-timed p (h k d l)) ∙ pos-*ℤ-pos (finish p - start p) (rate p))
 
 module _ (i : Instance) (s : Schedule) (speeds : HaveSpeeds (kind_of i.class.env)) (f : Feasible i s) where
   reads : IsSpeedKind (kind_of i.class.env) i
@@ -167,11 +150,8 @@ module _ (i : Instance) (s : Schedule) (speeds : HaveSpeeds (kind_of i.class.env
   abbrev unit : ℕ
   unit = nat_abs s.unit
 
-  unit_is : s.unit ≡ pos unit
-  unit_is = natural s.unit (omega (arith, ints, f.unit))
-
   timed : All IsTimed s.pieces
-  timed k d l = IsTimed-from_span _ (f.span k d l)
+  timed = pieces_timed i s f
 
   abbrev n : ℕ
   n = length i.jobs
@@ -193,7 +173,7 @@ module _ (i : Instance) (s : Schedule) (speeds : HaveSpeeds (kind_of i.class.env
       (part (frame_of i)) (own j) (λ k d b. let p = get_or (own j) k d in ap (λ r. length_of p *ℤ pos r) (sym (reads.rate p.job p.machine))))
       ∙ ap (λ ps. total (map (part (frame_of i)) ps)) (sym (pieces_of-job s j operations))
       ∙ (fits.work j 0 l (reads.one j)).sum
-      ∙ ap₂ (λ u t. u *ℤ pos t) unit_is (reads.want j))
+      ∙ ap₂ (λ u t. u *ℤ pos t) (unit_in_parts i s f) (reads.want j))
 
   module _ (test : ℕ → Bool) (threshold c : ℕ) (ends : (j : ℕ) → j < n → test j ≡ true → end_of s j ≤ℤ pos c) where
     abbrev time : ℕ → ℕ
@@ -214,12 +194,10 @@ module _ (i : Instance) (s : Schedule) (speeds : HaveSpeeds (kind_of i.class.env
         (speeds_hold job_of (λ p. p.machine) start finish (speed_of i) threshold test i.machines n c s.pieces
         (λ k d l. (f.place k d l).job)
         (λ k d l. let p = get_or s.pieces k d in reads.may p.job p.op p.machine (f.place k d l).machine)
-        (λ a b d h k e. apart_in_nat _ _ (timed a d (omega arith)) (timed b d k) (f.machine a b d h k e))
-        (λ a b d h k e. apart_in_nat _ _ (timed a d (omega arith)) (timed b d k) (f.job a b d h k e))
-        ended))
+        (machines_apart i s f) (jobs_apart i s f) ended))
 
     has_speed : HasSpeedFor i s test threshold (pos c)
-    has_speed = subst (λ x. (x *ℤ pos (time_together i test)) ≤ℤ (pos c *ℤ pos (jobs_together i test * threshold + speed_above i threshold))) (sym unit_is) (pos-le in_time)
+    has_speed = subst (λ x. (x *ℤ pos (time_together i test)) ≤ℤ (pos c *ℤ pos (jobs_together i test * threshold + speed_above i threshold))) (sym (unit_in_parts i s f)) (pos-le in_time)
 
 pub law_of_speeds : LawOfSpeeds
 law_of_speeds = record {

@@ -6,18 +6,18 @@ use Rattle.std.proofs.lemmas.Bool.{cases_lt, leb-true, leb-false, ltb-true, ltb-
 use Rattle.std.proofs.lemmas.Int.{ints}
 use Rattle.std.proofs.lemmas.List.Sums.{sum_by-cons}
 use Rattle.std.proofs.lemmas.List.Folds.{list_any_none}
-use Rattle.std.proofs.lemmas.List.Elements.{All-contains_itself, Contains-get_or}
+use Rattle.std.proofs.lemmas.List.Elements.{Contains-get_or}
 use native.Mathlib.Nat.{mul-le-mul_left}
 use Rattle.msp_class.specs.Sums.{total_below}
 use Rattle.msp_class.proofs.Sums.{cond-le, sum_by-mono, sum_by-total_below, total_below-mono, total_below-same, total_below-none, total_below-split, total_below-constant, total_below-bound}
-use Rattle.msp_class.proofs.IntegerRing.{natural, pos-le, one-*ℤ, *ℤ-sub, *ℤ-zero, *ℤ_exchange}
+use Rattle.msp_class.proofs.IntegerRing.{natural, pos-le, *ℤ-sub, *ℤ-zero}
 use Rattle.msp_pieces.specs.declared.Piece.{Piece}
 use Rattle.msp_pieces.specs.Intervals.{size_of}
 use Rattle.msp_pieces.specs.Piece.{start, finish}
 use Rattle.msp_pieces.proofs.feasible.OneMachine.{IsTimed-from_span}
 use Rattle.msp_pieces.proofs.feasible.Frames.{Frame, Lasts, Fits}
 use Rattle.msp_pieces.proofs.changes.Moves.{Suits}
-use Rattle.msp_pieces.proofs.changes.Transport.{Stretches, Carries, carried_all, Fits-carried}
+use Rattle.msp_pieces.proofs.changes.Transport.{Stretches, Carries}
 use Rattle.msp_pieces.specs.Busy.{runs, some_runs, busy, busy_moment}
 
 -- ---- in ℕ, for elements of any type with the moments at which they begin and end
@@ -50,14 +50,8 @@ module _ {X : Type 0} (from to : X → ℕ) where
   some_runs-no : (xs : List X) (u : ℕ) → All (λ q. (u < from q) ⊎ (to q ≤ u)) xs → some_runs from to xs u ≡ false
   some_runs-no xs u h = list_any_none (runs from to u) xs (λ k d l. runs-no u (get_or xs k d) (h k d l))
 
-  pub busy-zero : (xs : List X) → busy from to xs 0 ≡ 0
-  busy-zero xs = refl
-
   busy-add : (xs : List X) (a b : ℕ) → a ≤ b → busy from to xs b ≡ busy from to xs a + total_below (b - a) (λ i. cond (some_runs from to xs (a + i)) 1 0)
-  busy-add xs a b h = ap (busy from to xs) (split a b h) ∙ total_below-split a (b - a) (λ u. cond (some_runs from to xs u) 1 0)
-    where
-      split : (a b : ℕ) → a ≤ b → b ≡ a + (b - a)
-      split a b h = omega arith
+  busy-add xs a b h = ap (busy from to xs) (let split : b ≡ a + (b - a) = omega arith in split) ∙ total_below-split a (b - a) (λ u. cond (some_runs from to xs u) 1 0)
 
   pub busy-mono : (xs : List X) (a b : ℕ) → a ≤ b → busy from to xs a ≤ busy from to xs b
   busy-mono xs a b h = omega (arith, busy-add xs a b h)
@@ -69,24 +63,18 @@ module _ {X : Type 0} (from to : X → ℕ) where
   pub busy-runs : (xs : List X) (q : X) → Contains xs q → (a b : ℕ) → from q ≤ a → a ≤ b → b ≤ to q → busy from to xs b ≡ busy from to xs a + (b - a)
   busy-runs xs q c a b h k l =
       busy-add xs a b k ∙ ap (λ n. busy from to xs a + n)
-      (total_below-same (b - a) _ (λ _. 1) (λ i m. ap (λ t. cond t 1 0) (some_runs-yes xs (a + i) q c (omega arith) (omega arith))) ∙ total_below-constant (b - a) 1 ∙ once (b - a))
-    where
-      once : (n : ℕ) → n * 1 ≡ n
-      once n = omega arith
+      (total_below-same (b - a) _ (λ _. 1) (λ i m. ap (λ t. cond t 1 0) (some_runs-yes xs (a + i) q c (omega arith) (omega arith))) ∙ total_below-constant (b - a) 1 ∙ omega arith)
 
   -- over a stretch at which none runs it stays
   pub busy-idle : (xs : List X) (a b : ℕ) → a ≤ b → All (λ q. (to q ≤ a) ⊎ (b ≤ from q)) xs → busy from to xs b ≡ busy from to xs a
   busy-idle xs a b k h =
       busy-add xs a b k ∙ ap (λ n. busy from to xs a + n)
       (total_below-none (b - a) _ (λ i m. ap (λ t. cond t 1 0) (some_runs-no xs (a + i) (λ j d l. outside a b i (from (get_or xs j d)) (to (get_or xs j d)) m (h j d l)))))
-      ∙ add-zero (busy from to xs a)
+      ∙ omega arith
     where
       outside : (a b i u v : ℕ) → i < b - a → (v ≤ a) ⊎ (b ≤ u) → (a + i < u) ⊎ (v ≤ a + i)
       outside a b i u v m (inl h) = inr (omega arith)
       outside a b i u v m (inr h) = inl (omega arith)
-
-      add-zero : (n : ℕ) → n + 0 ≡ n
-      add-zero n = omega arith
 
   -- one element runs as long as it lasts
   runs-length : (q : X) (t : ℕ) → total_below t (λ u. cond (runs from to u q) 1 0) ≤ min t (to q) - from q
@@ -160,13 +148,10 @@ module _ {X : Type 0} (from to : X → ℕ) where
         after,
       )
       | inr before ↦ elim so_far.attained [
-        | inl none ↦ omega (arith, so_far.idle_is, ap (busy from to xs) none, ap (busy from to xs) (zero_from none before))
+        | inl none ↦ omega (arith, so_far.idle_is, ap (busy from to xs) none, ap (busy from to xs) (let zero_from : from p ≡ 0 = omega (arith, none, before) in zero_from))
         | inr found ↦ let (q, c, e, h) = found in omega (arith, so_far.idle_is, busy-runs xs q c (from p) reach (h k d (omega arith) inside) (omega arith) (omega (arith, e)), before)
       ]
     ]
-      where
-        zero_from : reach ≡ 0 → from p ≤ reach → from p ≡ 0
-        zero_from e h = omega arith
 
     lasts_here : from p < to p
     lasts_here = lasts k d inside
@@ -240,22 +225,3 @@ Carries-closed f g D E ps e some unit fits suits heads arcs routed = record {
   arcs = arcs;
   routed = λ r. inl (routed r);
 }
-
-pub Fits-closed : (f : Frame) (D : ℤ) (ps : List Piece) (e : ℕ) → 1 ≤ e
-    → Fits f D ps → ((j : ℕ) → j < f.jobs → f.head j ≡ 0) → Fits (record f { want = λ j o. e * f.want j o }) D (carried_all (busy_moment e ps) (λ j o. o) ps)
-Fits-closed f D ps e some fits heads = let g : Frame = record f { want = λ j o. e * f.want j o } in
-    Fits-carried f g D D ps (pos e) (busy_moment e ps) (λ j o. o) fits (Carries-closed f g D D ps e some fits.unit_from fits (record {
-      jobs = refl;
-      has = λ j o l h. h;
-      all = λ j o l h. (o, h, refl);
-      increasing = λ j o n l a b h. h;
-      may = λ j o m l h w. w;
-      ratio = λ j o l h. record {
-        times = 1;
-        over = e;
-        some = omega arith;
-        rate = λ m w. one-*ℤ (pos e *ℤ pos (f.rate j m));
-        want = one-*ℤ (D *ℤ pos (e * f.want j o)) ∙ *ℤ_exchange D (pos e) (pos (f.want j o));
-      };
-      cut = λ c. c;
-    }) heads (All-contains_itself f.arcs) (λ r. r))

@@ -55,14 +55,8 @@ weighted_ends-exchange p w (x ∷ xs) =
 -- times that are D times as long
 weighted_ends-scale : {X : Type 0} (D : ℕ) (p w : X → ℕ) (t : ℕ) (xs : List X) → weighted_ends (λ x. D * p x) w (D * t) xs ≡ D * weighted_ends p w t xs
 weighted_ends-scale D p w t [] = omega arith
-weighted_ends-scale D p w t (x ∷ xs) = ap (λ u. w x * (D * t + D * p x) + weighted_ends (λ y. D * p y) w u xs) (join D t (p x))
-    ∙ ap (λ n. w x * (D * t + D * p x) + n) (weighted_ends-scale D p w (t + p x) xs) ∙ both D (w x) t (p x) (weighted_ends p w (t + p x) xs)
-  where
-    join : (D t q : ℕ) → D * t + D * q ≡ D * (t + q)
-    join D t q = omega arith
-
-    both : (D v t q s : ℕ) → v * (D * t + D * q) + D * s ≡ D * (v * (t + q) + s)
-    both D v t q s = omega arith
+weighted_ends-scale D p w t (x ∷ xs) = ap (λ u. w x * (D * t + D * p x) + weighted_ends (λ y. D * p y) w u xs) (let join : D * t + D * p x ≡ D * (t + p x) = omega arith in join)
+    ∙ ap (λ n. w x * (D * t + D * p x) + n) (weighted_ends-scale D p w (t + p x) xs) ∙ omega arith
 
 weighted_ends-agree : {X : Type 0} (p q v w : X → ℕ) (t : ℕ) (xs : List X) → All (λ k. p k ≡ q k) xs → All (λ k. v k ≡ w k) xs → weighted_ends p v t xs ≡ weighted_ends q w t xs
 weighted_ends-agree p q v w t [] h k = refl
@@ -79,10 +73,7 @@ pub cost_of-lined_up : (i : Instance) → IsLine i → i.class.crit ≡ SumWC �
 cost_of-lined_up i line e D unit order o =
     weighted_cost i (lined_up i D order) e (back_to_back-timed (λ j. D * time_at i j) 0 order (λ k d l. positive i line D unit order o (get_or order k d) (o.within k d l)))
     ∙ ap pos (last-weighted_ends_below piece piece_makes (λ j. D * time_at i j) (weight_at i) (length i.jobs) 0 order o
-    ∙ ap (λ t. weighted_ends (λ j. D * time_at i j) (weight_at i) t order) (none D) ∙ weighted_ends-scale D (time_at i) (weight_at i) 0 order)
-  where
-    none : (D : ℕ) → 0 ≡ D * 0
-    none D = omega arith
+    ∙ ap (λ t. weighted_ends (λ j. D * time_at i j) (weight_at i) t order) (let none : 0 ≡ D * 0 = omega arith in none) ∙ weighted_ends-scale D (time_at i) (weight_at i) 0 order)
 
 -- ---- the exchanged instance
 pub record Exchanges (i j : Instance) : Type 0 where

@@ -5,19 +5,18 @@ use Rattle.std.specs.Prelude.{int_lt}
 use Rattle.std.specs.List.{range_with_len}
 use Rattle.std.proofs.lemmas.List.Kept.{AllPairs-cons}
 use Rattle.std.proofs.lemmas.Bool.{eqb-true, eqb-false, le-leb}
+use Rattle.std.proofs.Math.Nat.{mul-pos, mul-one, one-mul}
 use Rattle.std.proofs.lemmas.Int.{ints}
 use Rattle.std.proofs.lemmas.List.Sums.{sum_by-cons}
-use Rattle.std.proofs.lemmas.List.Elements.{All-nil, All-cons, All-head, All-tail, All-contains, Contains-get_or}
-use Rattle.msp_class.specs.declared.environments.EnvKind.TheVariants.{Identical, Uniform, Unrelated, OpenShop, FlowShop, JobShop}
-use Rattle.msp_class.specs.declared.environments.EnvKind.{EnvKind}
+use Rattle.std.proofs.lemmas.List.Elements.{All-cons, All-head, All-tail, All-contains, Contains-get_or}
+use Rattle.msp_class.specs.declared.environments.EnvKind.TheVariants.{Identical}
 use Rattle.msp_class.specs.declared.class.Env.TheVariants.{One}
-use Rattle.msp_class.specs.Env.{kind_of}
 use Rattle.msp_class.proofs.Sums.{cond-yes, AllPairs-head, AllPairs-tail, Contains-tail, AllPairs-contains, OnceBelow, OnceBelow-distinct, OnceBelow-contains, OnceBelow-range}
-use Rattle.msp_class.proofs.IntegerRing.{natural, pos-le, le-pos, ≤ℤ_trans, ≤ℤ_of_same, ≤ℤ_antisym, ≤ℤ_total}
+use Rattle.msp_class.proofs.IntegerRing.{pos-le, le-pos, ≤ℤ_trans, ≤ℤ_of_same, ≤ℤ_antisym, ≤ℤ_total}
 use Rattle.msp_instance.specs.declared.Arc.{Arc}
 use Rattle.msp_instance.specs.declared.Instance.{Instance}
-use Rattle.msp_instance.specs.Instance.{no_job, no_need, job_at, need_at}
-use Rattle.msp_instance.specs.Conditions.{Limits, MeetsConditions, HasShape, HasTimes, least_time, greatest_time}
+use Rattle.msp_instance.specs.Instance.{job_at, need_at}
+use Rattle.msp_instance.specs.Conditions.{Limits, MeetsConditions}
 use Rattle.msp_pieces.specs.declared.Schedule.{Schedule}
 use Rattle.msp_pieces.specs.Piece.{IsBefore, job_of, start, finish, IsTimed}
 use Rattle.msp_pieces.specs.Feasible.{Feasible}
@@ -27,12 +26,12 @@ use Rattle.msp_pieces.proofs.lists.Intervals.{last_of, last_of-bound}
 use Rattle.msp_pieces.proofs.lists.WeightedEnds.{done_by, ends_cover_work}
 use Rattle.msp_pieces.specs.BackToBack.{back_to_back, piece, time_at}
 use Rattle.msp_pieces.proofs.lists.BackToBack.{end_in, back_to_back-last}
-use Rattle.msp_pieces.proofs.feasible.OneMachine.{IsOneMachine, IsOneMachine-from_env, IsPlan, IsPlan-from_feasible, last_end-is}
+use Rattle.msp_pieces.proofs.feasible.OneMachine.{IsOneMachine, IsOneMachine-from_env, takes_time, IsPlan, IsPlan-from_feasible, unit_in_parts, last_end-is}
 use Rattle.msp_pieces.proofs.feasible.BackToBack.{piece_makes, back_to_back-timed}
 use Rattle.msp_pieces.proofs.feasible.Frames.{frame_by, Lasts, Fits, HasWork, IsShaped-from_identical, piece_of, Fits-from_feasible, Feasible-from_fits}
 use Rattle.msp_pieces.proofs.feasible.LastEnds.{last_end-contains, last_end-reached}
 use Rattle.msp_pieces.proofs.costs.Charges.{SameCharges, cost-by_ends, cost-same_charges}
-use Rattle.msp_pieces.proofs.feasible.Series.{IsSerial, MayPrecede, tasks, piece_on, Fits-series}
+use Rattle.msp_pieces.proofs.feasible.Series.{IsSerial, MayPrecede, tasks, piece_on, zero_only, Fits-series}
 use Rattle.msp_pieces.specs.LineUp.{lined_up, insert_by, sorted_by, order_of_ends}
 
 -- one machine, jobs that take time, and arcs between them
@@ -42,17 +41,7 @@ pub record IsLine (i : Instance) : Type 0 where
   pub arcs : All (λ a. (a.before < length i.jobs) × (a.after < length i.jobs)) i.arcs
 
 pub IsLine-from_conditions : (l : Limits) (i : Instance) → i.class.env ≡ One → MeetsConditions l i → IsLine i
-IsLine-from_conditions l i e h = let m = IsOneMachine-from_env l i e h in
-    record { machine = m; some = λ j b. let n = (h.jobs j no_job b).needs in time_from (kind_of i.class.env) j m.kind n.shape n.times; arcs = h.ends }
-  where
-    time_from : (k : EnvKind) (j : ℕ) → k ≡ Identical → HasShape k i.class.env i.machines (job_at i j).needs
-        → HasTimes (least_time k i.class.times) (greatest_time l i.class.times) (job_at i j).needs → 1 ≤ time_at i j
-    time_from Identical j e s t = (t 0 no_need (omega (arith, s.0))).0
-    time_from Uniform j e s t = absurd (cc)
-    time_from Unrelated j e s t = absurd (cc)
-    time_from OpenShop j e s t = absurd (cc)
-    time_from FlowShop j e s t = absurd (cc)
-    time_from JobShop j e s t = absurd (cc)
+IsLine-from_conditions l i e h = let m = IsOneMachine-from_env l i e h in record { machine = m; some = takes_time l i m.kind h; arcs = h.ends }
 
 -- ---- it is feasible
 module _ (i : Instance) (line : IsLine i) (D : ℕ) (unit : 1 ≤ D) (order : List ℕ) (o : OnceBelow (length i.jobs) order) where
@@ -60,29 +49,20 @@ module _ (i : Instance) (line : IsLine i) (D : ℕ) (unit : 1 ≤ D) (order : Li
   time j = D * time_at i j
 
   pub positive : (j : ℕ) → j < length i.jobs → 0 < time j
-  positive j l = more D (time_at i j) unit (line.some j l)
-    where
-      more : (a b : ℕ) → 1 ≤ a → 1 ≤ b → 0 < a * b
-      more a b h k = grind arith
-
-  one : (P : ℕ → Type 0) → P 0 → All P (0 ∷ [])
-  one P p = All-cons P 0 [] p (All-nil P)
+  positive j l = mul-pos unit (line.some j l)
 
   serial : ((j : ℕ) → j < length i.jobs → (job_at i j).release ≡ 0) → IsSerial (frame_by Identical i) D (λ j. 0 ∷ []) (λ j n. 0) (λ j n. time j)
   serial heads = record {
     unit = unit;
-    has = λ j l. one (λ n. n ≡ 0) refl;
+    has = λ j l. zero_only (λ n. n ≡ 0) refl;
     all = λ j n l e. (0, omega arith, sym e);
     once = λ j l a b d h k. absurd (omega arith);
-    may = λ j l. one (λ n. 0 < i.machines) (let m = line.machine.one in omega arith);
-    some = λ j l. one (λ n. 0 < time j) (positive j l);
-    rate = λ j l. one (λ n. time j * 1 ≡ D * (need_at i j n).time) (once (time j));
+    may = λ j l. zero_only (λ n. 0 < i.machines) (let m = line.machine.one in omega arith);
+    some = λ j l. zero_only (λ n. 0 < time j) (positive j l);
+    rate = λ j l. zero_only (λ n. time j * 1 ≡ D * (need_at i j n).time) (mul-one (time j));
     heads = heads;
     unrouted = refl;
   }
-    where
-      once : (n : ℕ) → n * 1 ≡ n
-      once n = omega arith
 
   same_back_to_back : (t : ℕ) (js : List ℕ) → back_to_back (piece_on (λ j n. 0)) (λ x. time x.job) t (tasks (λ j. 0 ∷ []) js) ≡ back_to_back piece time t js
   same_back_to_back t [] = refl
@@ -132,11 +112,9 @@ module _ (i : Instance) (line : IsLine i) (s : Schedule) (f : Feasible i s) (ord
   pub lined_up-no_later : (j : ℕ) → j < length i.jobs → end_of (lined_up i D order) j ≤ℤ end_of s j
   lined_up-no_later j l =
       let p = λ (k : ℕ). D * time_at i k in
-      let done = ends_cover_work job_of start finish (length i.jobs) s.pieces 1 p last order o plan.jobs plan.apart (λ k b. plan.work k b ∙ once (p k)) (last_of-bound job_of finish s.pieces) j in
+      let done = ends_cover_work job_of start finish (length i.jobs) s.pieces 1 p last order o plan.jobs
+      plan.apart (λ k b. plan.work k b ∙ sym (one-mul (p k))) (last_of-bound job_of finish s.pieces) j in
       subst₂ (λ x y. x ≤ℤ y) (sym (end_of-lined_up i line D plan.some order o j l)) (sym (last_is j)) (pos-le (omega (arith, end_in-done p last 0 order j last_rises (OnceBelow-contains o j l), done)))
-    where
-      once : (n : ℕ) → n ≡ 1 * n
-      once n = omega arith
 
   -- ---- and arcs go forward
   fits : Fits (frame_by Identical i) s.unit s.pieces
@@ -154,10 +132,7 @@ module _ (i : Instance) (line : IsLine i) (s : Schedule) (f : Feasible i s) (ord
       let first = All-contains (λ x. All (λ y. x.job ≡ a.before → y.job ≡ a.after → IsBefore x y) s.pieces)
       s.pieces p (All-contains (λ b. All (λ x. All (λ y. x.job ≡ b.before → y.job ≡ b.after → IsBefore x y) s.pieces) s.pieces) i.arcs a f.arc c) cp in
       let before = All-contains (λ y. p.job ≡ a.before → y.job ≡ a.after → IsBefore p y) s.pieces q first cq ep eq in
-      subst₂ (λ x y. x <ℤ last_end s.pieces y) tp eq (after p.to q.from q.to (last_end s.pieces q.job) before (All-contains Lasts s.pieces q f.span cq).1 (last_end-contains s.pieces q cq))
-    where
-      after : (a b c d : ℤ) → a ≤ℤ b → b <ℤ c → c ≤ℤ d → a <ℤ d
-      after a b c d h k l = omega (arith, ints)
+      subst₂ (λ x y. x <ℤ last_end s.pieces y) tp eq (omega (arith, ints, (All-contains Lasts s.pieces q f.span cq).1, last_end-contains s.pieces q cq))
 
   pub forward_by_ends : AllPairs (MayPrecede i.arcs) order
   forward_by_ends a b d h k arc c e g = never (end_of s (get_or order a d)) (end_of s (get_or order b d)) (rises a b d h k) (subst₂ (λ x y. end_of s x <ℤ end_of s y) e g (arc_grows arc c))
@@ -225,19 +200,13 @@ module _ (i j : Instance) (line : IsLine i) (other : IsLine j) (same : SameLine 
   same_lined = ap (λ l. record { unit = pos (nat_abs s.unit); pieces = l })
       (back_to_back_agree (λ k. nat_abs s.unit * time_at i k) (λ k. nat_abs s.unit * time_at j k) 0 order (λ k d l. ap (λ n. nat_abs s.unit * n) (same.times (get_or order k d) (o.within k d l))))
 
-  pub Feasible-by_ends : ((k : ℕ) → k < length j.jobs → (job_at j k).release ≡ 0) → Feasible j lined
-  Feasible-by_ends heads =
-      Feasible-lined_up j other (nat_abs s.unit) unit_some order (subst (λ n. OnceBelow n order) same.count o) heads
-      (subst (λ l. AllPairs (MayPrecede l) order) same.arcs (forward_by_ends i line s f order o rises))
-      (subst (λ l. All (λ a. a.before ≢ a.after) l) same.arcs (loose_by_ends i line s f order o rises))
-
   pub end_of-by_ends : (k : ℕ) → k < length i.jobs → end_of lined k ≤ℤ end_of s k
   end_of-by_ends k l = subst (λ t. end_of t k ≤ℤ end_of s k) same_lined (lined_up-no_later i line s f order o rises k l)
 
   -- by ends: it costs no more
   pub cost-lined_up : SameCharges i j → cost_of j lined ≤ℤ cost_of i s
   cost-lined_up h =
-      let unit_is = natural s.unit (omega (arith, ints, f.unit)) in
+      let unit_is = unit_in_parts i s f in
       ≤ℤ_trans (cost-by_ends j lined s (sym unit_is) (pos-le (omega arith)) (λ k l. end_of-by_ends k (omega (arith, same.count, l)))) (≤ℤ_of_same (sym (cost-same_charges i j s h f.unit)))
 
 -- ---- an order of the jobs by the ends
@@ -257,14 +226,11 @@ module _ (f : ℕ → ℤ) where
   insert_by-rises x [] h = λ i j d a b. absurd (omega arith)
   insert_by-rises x (y ∷ ys) h = by (int_lt (f y) (f x)) refl (insert_by-rises x ys (AllPairs-tail Rises y ys h))
     where
-      weak : (a b : ℤ) → int_lt a b ≡ true → a ≤ℤ b
-      weak a b e = omega (arith, ints)
-
       turned : (a b : ℤ) → int_lt b a ≡ false → a ≤ℤ b
       turned a b e = omega (arith, ints)
 
       by : (b : Bool) → int_lt (f y) (f x) ≡ b → AllPairs Rises (insert_by f x ys) → AllPairs Rises (if b then y ∷ insert_by f x ys else x ∷ y ∷ ys)
-      by true e later = AllPairs-cons Rises y (insert_by f x ys) (insert_by-All (Rises y) x ys (weak (f y) (f x) e) (AllPairs-head Rises y ys h)) later
+      by true e later = AllPairs-cons Rises y (insert_by f x ys) (insert_by-All (Rises y) x ys (omega (arith, ints)) (AllPairs-head Rises y ys h)) later
       by false e later = let first = turned (f x) (f y) e in AllPairs-cons Rises x (y ∷ ys) (All-cons (Rises x) y ys first (λ k d l. ≤ℤ_trans first (AllPairs-head Rises y ys h k d l))) h
 
   insert_by-count : (i x : ℕ) (ys : List ℕ) → count_by (λ z. eqb z i) (insert_by f x ys) ≡ count_by (λ z. eqb z i) (x ∷ ys)

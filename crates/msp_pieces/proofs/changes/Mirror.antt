@@ -1,5 +1,6 @@
 -- Schedules that are read from their end: for frames whose operations follow no route, with the arcs turned.
-use Rattle.std.proofs.Common.{◌≡◌, ℕ, ◌<◌, Bool, true, false, not, List, length, get_or, map, All, Contains, inl, inr, ℤ, pos, ◌+ℤ◌, ◌-ℤ◌, ◌*ℤ◌, ◌≤ℤ◌, ◌<ℤ◌, refl, sym, ap, subst, ◌∙◌, arith}
+use Rattle.std.proofs.Common.{◌≡◌, ℕ, ◌<◌, true, false, not, List, length, get_or, map, All, Contains, inl, inr, ℤ, pos, ◌+ℤ◌, ◌-ℤ◌, ◌*ℤ◌, ◌≤ℤ◌, ◌<ℤ◌, refl, sym, ap, subst, ◌∙◌, arith}
+use Rattle.std.proofs.lemmas.Bool.{false≢true}
 use Rattle.std.proofs.lemmas.Int.{ints}
 use Rattle.std.proofs.lemmas.List.Elements.{All-map, All-contains, All-contains_itself, Contains-get_or}
 use Rattle.msp_class.specs.Env.{is_mirror}
@@ -43,22 +44,16 @@ module _ (f g : Frame) (D : ℤ) (ps : List Piece) (last : ℤ) (fits : Fits f D
   move = mirrored last
 
   before : (p q : Piece) → IsBefore p q → IsBefore (move q) (move p)
-  before p q h = back p.to q.from h
-    where
-      back : (a b : ℤ) → a ≤ℤ b → (last -ℤ b) ≤ℤ (last -ℤ a)
-      back a b h = omega (arith, ints)
+  before p q h = omega (arith, ints)
 
   moves : Moves f ps (pos 1) (λ j o. o) move
   moves = record {
     job = λ p. refl;
     op = λ p. refl;
     machine = λ p. refl;
-    long = λ k d l. same_length (get_or ps k d).from (get_or ps k d).to ∙ sym (one-*ℤ (length_of (get_or ps k d)));
+    long = λ k d l. omega (arith, ints) ∙ sym (one-*ℤ (length_of (get_or ps k d)));
     apart = λ p q h i a. elim a [ inl b ↦ inr (before p q b) | inr b ↦ inl (before q p b) ];
   }
-    where
-      same_length : (a b : ℤ) → (last -ℤ a) -ℤ (last -ℤ b) ≡ b -ℤ a
-      same_length a b = omega (arith, ints)
 
   suits : Suits f g D D (pos 1) (λ j o. o)
   suits = Suits-same f g D m.operations
@@ -80,31 +75,22 @@ module _ (f g : Frame) (D : ℤ) (ps : List Piece) (last : ℤ) (fits : Fits f D
     place = moved-place f g D D (pos 1) (λ j o. o) move ps fits suits moves;
     machine = moved-machine f g D D (pos 1) (λ j o. o) move ps fits suits moves;
     job = moved-job f g D D (pos 1) (λ j o. o) move ps fits suits moves;
-    release = All-map (λ p. (D *ℤ pos (g.head p.job)) ≤ℤ p.from) move ps (λ k d l. released (get_or ps k d).to (D *ℤ pos (g.head (get_or ps k d).job)) (room k d l));
+    release = All-map (λ p. (D *ℤ pos (g.head p.job)) ≤ℤ p.from) move ps (λ k d l. omega (arith, ints, room k d l));
     arc = λ a d l.
         let old = All-contains (λ x. All (λ p. All (λ q. p.job ≡ x.before → q.job ≡ x.after → IsBefore p q) ps) ps) f.arcs (turned (get_or g.arcs a d)) fits.arc (m.arcs a d l) in
         All-map_pairs (λ p q. p.job ≡ (get_or g.arcs a d).before → q.job ≡ (get_or g.arcs a d).after → IsBefore p q)
         move ps (λ i e n j x b s t. before (get_or ps j x) (get_or ps i e) (old j x b i e n t s));
-    route = λ e. absurd (never g.routed m.unrouted e);
+    route = λ e. absurd (false≢true (sym m.unrouted ∙ e));
     work = moved-work f g D D (pos 1) (λ j o. o) move ps fits suits moves;
   }
-    where
-      released : (b d : ℤ) → (b +ℤ d) ≤ℤ last → d ≤ℤ (last -ℤ b)
-      released b d h = omega (arith, ints)
-
-      never : (b : Bool) → b ≡ false → b ≡ true → ⊥
-      never b e k = absurd (cc)
 
   -- each job ends early enough to leave room for the heads that there were
   pub last_end-mirrored : HasWork f → (j : ℕ) → j < f.jobs → last_end (mirrored_all last ps) j ≤ℤ (last -ℤ (D *ℤ pos (f.head j)))
   last_end-mirrored works j l = last_end-least (mirrored_all last ps) j (last -ℤ (D *ℤ pos (f.head j)))
       some (All-map (λ p. p.job ≡ j → p.to ≤ℤ (last -ℤ (D *ℤ pos (f.head j)))) move ps (λ k d b e. each (get_or ps k d) e (fits.release k d b)))
     where
-      turn : (a d : ℤ) → d ≤ℤ a → (last -ℤ a) ≤ℤ (last -ℤ d)
-      turn a d h = omega (arith, ints)
-
       each : (p : Piece) → p.job ≡ j → (D *ℤ pos (f.head p.job)) ≤ℤ p.from → (last -ℤ p.from) ≤ℤ (last -ℤ (D *ℤ pos (f.head j)))
-      each p e h = turn p.from (D *ℤ pos (f.head j)) (subst (λ x. (D *ℤ pos (f.head x)) ≤ℤ p.from) e h)
+      each p e h = omega (arith, ints, subst (λ x. (D *ℤ pos (f.head x)) ≤ℤ p.from) e h)
 
       left : (a b d e : ℤ) → pos 0 ≤ℤ e → d ≤ℤ a → a <ℤ b → (b +ℤ e) ≤ℤ last → pos 0 ≤ℤ (last -ℤ d)
       left a b d e h i k r = omega (arith, ints)

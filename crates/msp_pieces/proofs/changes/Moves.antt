@@ -1,5 +1,5 @@
 -- Pieces that are moved one by one to a schedule for another frame: places, machines, jobs and work. Moments are moved in any way.
-use Rattle.std.proofs.Common.{◌≡◌, ℕ, ◌<◌, Bool, true, false, cond, eqb, ltb, List, [], ◌∷◌, get_or, map, filter, fold, All, AllPairs, Contains, ℤ, pos, ◌+ℤ◌, ◌*ℤ◌, refl, sym, ap}
+use Rattle.std.proofs.Common.{◌≡◌, ℕ, ◌<◌, Bool, true, false, cond, eqb, ltb, List, [], ◌∷◌, get_or, map, filter, All, AllPairs, Contains, ℤ, pos, ◌+ℤ◌, ◌*ℤ◌, refl, sym, ap}
 use Rattle.std.proofs.Common.{ap₂, subst, subst₂, ◌∙◌, arith}
 use Rattle.std.specs.Prelude.{◌==◌, ◌&&◌}
 use Rattle.std.proofs.lemmas.Bool.{eqb-true, eqb-false, eq-eqb, ne_eqb, ltb-true, ltb-false}
@@ -7,11 +7,12 @@ use Rattle.std.proofs.lemmas.List.{length-map, get_or-map}
 use Rattle.std.proofs.lemmas.Simd.{map-map}
 use Rattle.std.proofs.lemmas.List.Elements.{All-head, All-tail, All-filter, All-map}
 use Rattle.std.proofs.lemmas.List.Kept.{AllPairs-cons}
-use Rattle.msp_class.proofs.IntegerRing.{+ℤ_assoc, +ℤ_idl, +ℤ_idr, *ℤ-zero, *ℤ-add, *ℤ_assoc, *ℤ_comm, *ℤ_exchange, *ℤ-cancel_same}
+use Rattle.msp_class.proofs.IntegerRing.{*ℤ-zero, *ℤ-add, *ℤ_assoc, *ℤ_comm, *ℤ_exchange, *ℤ-cancel_same}
 use Rattle.msp_class.proofs.Sums.{AllPairs-head, AllPairs-tail}
 use Rattle.msp_pieces.specs.declared.Piece.{Piece}
 use Rattle.msp_pieces.specs.Piece.{length_of, IsApart}
 use Rattle.msp_pieces.specs.Feasible.{total}
+pub use Rattle.msp_pieces.proofs.feasible.OneMachine.{total-cons}
 use Rattle.msp_pieces.proofs.feasible.Frames.{Frame, Lasts, Stands, Gets, Fits, of_operation, of_operation-named, part}
 
 -- ---- lists
@@ -37,12 +38,11 @@ filter-map f p q (x ∷ xs) h =
     by true l = refl
     by false l = refl
 
-total_from : (a : ℤ) (xs : List ℤ) → fold ◌+ℤ◌ a xs ≡ a +ℤ total xs
-total_from a [] = sym (+ℤ_idr a)
-total_from a (x ∷ xs) = total_from (a +ℤ x) xs ∙ +ℤ_assoc a x (total xs) ∙ ap (λ z. a +ℤ z) (sym (total_from (pos 0 +ℤ x) xs ∙ ap (λ z. z +ℤ total xs) (+ℤ_idl x)))
-
-pub total-cons : (x : ℤ) (xs : List ℤ) → total (x ∷ xs) ≡ x +ℤ total xs
-total-cons x xs = total_from (pos 0 +ℤ x) xs ∙ ap (λ z. z +ℤ total xs) (+ℤ_idl x)
+-- a list of which a map makes one element has one
+pub one_from_map : {X Y : Type 0} (f : X → Y) (xs : List X) (y : Y) → map f xs ≡ y ∷ [] → (x : X) × (xs ≡ x ∷ []) × (f x ≡ y)
+one_from_map f [] y e = absurd (cc)
+one_from_map f (x ∷ []) y e = (x, refl, cc)
+one_from_map f (x ∷ z ∷ zs) y e = absurd (cc)
 
 -- multiples of two lists of numbers that are equal one by one have equal totals
 pub total-multiples : {X : Type 0} (a b : ℤ) (f g : X → ℤ) (xs : List X) → All (λ x. a *ℤ f x ≡ b *ℤ g x) xs → a *ℤ total (map f xs) ≡ b *ℤ total (map g xs)

@@ -5,7 +5,7 @@ use Rattle.std.proofs.lemmas.List.{map-id, length-map, get_or_default}
 use Rattle.std.proofs.lemmas.List.Elements.{All-contains_itself}
 use Rattle.msp_class.specs.declared.class.Class.{Class}
 use Rattle.msp_class.specs.declared.environments.EnvKind.{EnvKind}
-use Rattle.msp_class.specs.declared.environments.EnvKind.TheVariants.{Identical, Uniform, Unrelated, OpenShop, FlowShop, JobShop}
+use Rattle.msp_class.specs.declared.environments.EnvKind.TheVariants.{Uniform, Unrelated, OpenShop, FlowShop, JobShop}
 use Rattle.msp_class.specs.Env.{kind_of, is_mirror_kind}
 use Rattle.msp_class.proofs.IntegerRing.{≤ℤ_trans, one-*ℤ, *ℤ_exchange, *ℤ-mono_nonneg, pos-le}
 use Rattle.msp_instance.specs.declared.Instance.{Instance}
@@ -110,44 +110,32 @@ IsShaped-same i j s h = record { unrelated = λ e k d l. shape k d l (h.unrelate
     shape : (k : ℕ) (d : Job) → k < length j.jobs → HasTimePerMachine i.machines (job_at i k) → HasTimePerMachine j.machines (get_or j.jobs k d)
     shape k d l p =
         let same : (job_at i k).needs ≡ (get_or j.jobs k d).needs = s.needs k (omega (arith, s.count)) ∙ ap (λ x. x.needs) (get_or_default j.jobs k no_job d l) in
-        let Q : List Need → Type 0 = λ ns. All (λ n. 1 ≤ n.time) ns in
-        (sym (ap length same) ∙ p.0 ∙ s.machines, subst Q same p.1)
+        (sym (ap length same) ∙ p.0 ∙ s.machines, subst (λ (ns : List Need). All (λ n. 1 ≤ n.time) ns) same p.1)
 
 -- the operation is there, with a time
 abbrev HasTime : ℕ → List Need → Type 0
 HasTime o needs = (o < length needs) × ((slice_index_or needs o no_need).time ≢ 0)
 
 has-same : (k : EnvKind) (i j : Instance) (a o : ℕ) → (job_at i a).needs ≡ (job_at j a).needs → HasOperation k i a o → HasOperation k j a o
-has-same Identical i j a o e h = h
-has-same Uniform i j a o e h = h
-has-same Unrelated i j a o e h = h
 has-same OpenShop i j a o e h = subst (HasTime o) e h
 has-same FlowShop i j a o e h = subst (HasTime o) e h
 has-same JobShop i j a o e h = subst (HasTime o) e h
+has-same _ i j a o e h = h
 
 may-same : (k : EnvKind) (i j : Instance) (a o m : ℕ) → i.machines ≡ j.machines → (job_at i a).needs ≡ (job_at j a).needs → MayRun k i a o m → MayRun k j a o m
-may-same Identical i j a o m s e h = omega arith
-may-same Uniform i j a o m s e h = omega arith
-may-same Unrelated i j a o m s e h = omega arith
 may-same OpenShop i j a o m s e h = h ∙ ap (λ ns. (slice_index_or ns o no_need).machine) e
 may-same FlowShop i j a o m s e h = h ∙ ap (λ ns. (slice_index_or ns o no_need).machine) e
 may-same JobShop i j a o m s e h = h ∙ ap (λ ns. (slice_index_or ns o no_need).machine) e
+may-same _ i j a o m s e h = omega arith
 
 rate-same : (k : EnvKind) (i j : Instance) (a m : ℕ) → i.speeds ≡ j.speeds → (job_at i a).needs ≡ (job_at j a).needs → rate_on k j a m ≡ rate_on k i a m
-rate-same Identical i j a m s e = refl
 rate-same Uniform i j a m s e = ap (λ l. slice_index_or l m 0) (sym s)
 rate-same Unrelated i j a m s e = ap (λ ns. product_of_times ns / (slice_index_or ns m no_need).time) (sym e)
-rate-same OpenShop i j a m s e = refl
-rate-same FlowShop i j a m s e = refl
-rate-same JobShop i j a m s e = refl
+rate-same _ i j a m s e = refl
 
 want-same : (k : EnvKind) (i j : Instance) (a o : ℕ) → (job_at i a).needs ≡ (job_at j a).needs → whole_work k j a o ≡ whole_work k i a o
-want-same Identical i j a o e = ap (λ ns. (slice_index_or ns o no_need).time) (sym e)
-want-same Uniform i j a o e = ap (λ ns. (slice_index_or ns o no_need).time) (sym e)
 want-same Unrelated i j a o e = ap product_of_times (sym e)
-want-same OpenShop i j a o e = ap (λ ns. (slice_index_or ns o no_need).time) (sym e)
-want-same FlowShop i j a o e = ap (λ ns. (slice_index_or ns o no_need).time) (sym e)
-want-same JobShop i j a o e = ap (λ ns. (slice_index_or ns o no_need).time) (sym e)
+want-same _ i j a o e = ap (λ ns. (slice_index_or ns o no_need).time) (sym e)
 
 pub SameOperations-from_needs : (i j : Instance) → SameNeeds i j → SameOperations (frame_of i) (frame_of j)
 SameOperations-from_needs i j s = subst (λ k. SameOperations (frame_of i) (frame_by k j)) s.kind (by (kind_of i.class.env))

@@ -109,9 +109,6 @@ later x y h k = omega (arith, ints)
 after : (x : ℤ) → pos 1 ≤ℤ x → pos 0 ≤ℤ x
 after x h = omega (arith, ints)
 
-pub Spans-natural : (ps : List Piece) → Spans ps → All (λ p. (pos 0 ≤ℤ p.from) × (pos 0 ≤ℤ p.to)) ps
-Spans-natural ps h k d l = let a = h k d l in (a.0, later _ _ a.0 a.1)
-
 pub divisor_positive : (unit : ℤ) (ps : List Piece) (g : ℕ) → pos 1 ≤ℤ unit → IsCommonDivisor unit ps g → 0 < g
 divisor_positive (pos n) ps g h c = pos_of_dvd_of_pos c.all.0 (omega (arith, ints))
 divisor_positive (negsuc n) ps g h c = absurd (omega (arith, ints))
@@ -172,10 +169,7 @@ module _ (s t : Schedule) (g : ℕ) (h : IsSettling s t g) where
       above x a e = by (unsigned_abs x / g) x a e
         where
           by : (n : ℕ) (x : ℤ) → pos 1 ≤ℤ x → pos g *ℤ pos n ≡ x → pos 1 ≤ℤ pos n
-          by zero x a e = absurd (none (pos g *ℤ pos 0) x (*ℤ-zero (pos g)) e a)
-            where
-              none : (y x : ℤ) → y ≡ pos 0 → y ≡ x → pos 1 ≤ℤ x → ⊥
-              none y x e f a = omega (arith, ints)
+          by zero x a e = absurd (omega (arith, ints, *ℤ-zero (pos g)))
           by (suc n) x a e = pos-le (omega arith)
 
   moment_within : (x : ℤ) → pos 0 ≤ℤ x → IsMoment x → IsMoment (part_of g x)

@@ -8,7 +8,7 @@ use Rattle.std.proofs.lemmas.List.{length-map, get_or-map}
 use Rattle.std.proofs.lemmas.Simd.{map-map}
 use Rattle.msp_class.proofs.IntegerRing.{*ℤ-zero, one-*ℤ, *ℤ-sub, *ℤ_assoc, *ℤ-cancel, *ℤ-cancel_lt, *ℤ-cancel_same, *ℤ-int_max, pos-le}
 use Rattle.msp_class.specs.declared.environments.EnvKind.{EnvKind}
-use Rattle.msp_class.specs.declared.environments.EnvKind.TheVariants.{Identical, Uniform, Unrelated, OpenShop, FlowShop, JobShop}
+use Rattle.msp_class.specs.declared.environments.EnvKind.TheVariants.{Uniform, Unrelated, FlowShop, JobShop}
 use Rattle.msp_class.specs.Env.{kind_of}
 use Rattle.msp_instance.specs.declared.Instance.{Instance}
 use Rattle.msp_instance.specs.Instance.{job_at, need_at}
@@ -18,7 +18,7 @@ use Rattle.msp_pieces.specs.Piece.{length_of, IsBefore, IsApart}
 use Rattle.msp_pieces.specs.Feasible.{Feasible, HasPlace, FollowsRoute, IsWholeWork, product_of_times, total, whole_work, work_of}
 use Rattle.msp_pieces.specs.Cost.{end_of, job_cost, cost_of}
 use Rattle.msp_pieces.proofs.feasible.Frames.{of_operation}
-use Rattle.msp_pieces.proofs.changes.Moves.{filter-map, total-multiples}
+use Rattle.msp_pieces.proofs.changes.Moves.{filter-map, one_from_map, total-multiples}
 use Rattle.msp_pieces.proofs.costs.Charges.{cost-multiple, job_cost-scale}
 
 pub All-from_map : {X Y : Type 0} (P : Y → Type 0) (f : X → Y) (xs : List X) → All P (map f xs) → All (λ x. P (f x)) xs
@@ -48,31 +48,21 @@ module _ (g : ℕ) (some : 0 < g) where
   grown_product p r = ap (λ z. z *ℤ r) (grown_length p) ∙ *ℤ_assoc (pos g) (length_of p) r
 
   grown_work : (k : EnvKind) (i : Instance) (p : Piece) → work_of k i (grown g p) ≡ pos g *ℤ work_of k i p
-  grown_work Identical i p = grown_length p
   grown_work Uniform i p = grown_product p (pos (slice_index_or i.speeds p.machine 0))
   grown_work Unrelated i p = grown_product p (pos (product_of_times (job_at i p.job).needs / (need_at i p.job p.machine).time))
-  grown_work OpenShop i p = grown_length p
-  grown_work FlowShop i p = grown_length p
-  grown_work JobShop i p = grown_length p
+  grown_work _ i p = grown_length p
 
   shrunk_long : (unit x y : ℤ) (n : ℕ) → x ≡ pos g *ℤ y → x ≡ (pos g *ℤ unit) *ℤ pos n → y ≡ unit *ℤ pos n
   shrunk_long unit x y n e h = *ℤ-cancel_same g some (sym e ∙ h ∙ *ℤ_assoc (pos g) unit (pos n))
 
   shrunk_whole : (k : EnvKind) (i : Instance) (unit : ℤ) (p : Piece) → IsWholeWork k i (pos g *ℤ unit) (grown g p) → IsWholeWork k i unit p
-  shrunk_whole Identical i unit p h = shrunk_long unit _ _ _ (grown_length p) h
   shrunk_whole Uniform i unit p h = shrunk_long unit _ _ _ (grown_product p (pos (slice_index_or i.speeds p.machine 0))) h
-  shrunk_whole Unrelated i unit p h = shrunk_long unit _ _ _ (grown_length p) h
-  shrunk_whole OpenShop i unit p h = shrunk_long unit _ _ _ (grown_length p) h
-  shrunk_whole FlowShop i unit p h = shrunk_long unit _ _ _ (grown_length p) h
-  shrunk_whole JobShop i unit p h = shrunk_long unit _ _ _ (grown_length p) h
+  shrunk_whole _ i unit p h = shrunk_long unit _ _ _ (grown_length p) h
 
   shrunk_route : (k : EnvKind) (ps : List Piece) → FollowsRoute k (map (grown g) ps) → FollowsRoute k ps
-  shrunk_route Identical ps r = r
-  shrunk_route Uniform ps r = r
-  shrunk_route Unrelated ps r = r
-  shrunk_route OpenShop ps r = r
   shrunk_route FlowShop ps r = λ k d l m e n a b. *ℤ-cancel g some (twice_from_map (λ p q. p.job ≡ q.job → p.op < q.op → IsBefore p q) (grown g) ps r k d l m e n a b)
   shrunk_route JobShop ps r = λ k d l m e n a b. *ℤ-cancel g some (twice_from_map (λ p q. p.job ≡ q.job → p.op < q.op → IsBefore p q) (grown g) ps r k d l m e n a b)
+  shrunk_route _ ps r = r
 
   module _ (i : Instance) (s : Schedule) where
     grown_operation : (j o : ℕ) → of_operation (map (grown g) s.pieces) j o ≡ map (grown g) (of_operation s.pieces j o)
@@ -81,11 +71,6 @@ module _ (g : ℕ) (some : 0 < g) where
     abbrev Work : ℤ → List Piece → ℕ → ℕ → Bool → Type 0
     Work unit ps j o cut = MatchBool cut (total (map (work_of (kind_of i.class.env) i) (of_operation ps j o)) ≡ unit *ℤ pos (whole_work (kind_of i.class.env) i j o))
         ((p : Piece) × (of_operation ps j o ≡ p ∷ []) × IsWholeWork (kind_of i.class.env) i unit p)
-
-    one_of : (ps : List Piece) (q : Piece) → map (grown g) ps ≡ q ∷ [] → (p : Piece) × (ps ≡ p ∷ []) × (grown g p ≡ q)
-    one_of [] q e = absurd (cc)
-    one_of (p ∷ []) q e = (p, refl, cc)
-    one_of (p ∷ r ∷ rs) q e = absurd (cc)
 
     shrunk_work : (j o : ℕ) (cut : Bool) → Work (pos g *ℤ s.unit) (map (grown g) s.pieces) j o cut → Work s.unit s.pieces j o cut
     shrunk_work j o true w =
@@ -96,21 +81,12 @@ module _ (g : ℕ) (some : 0 < g) where
         ∙ total-multiples (pos 1) (pos g) (λ p. w_of (grown g p)) w_of mine (λ a d l. one-*ℤ _ ∙ grown_work (kind_of i.class.env) i (get_or mine a d)))
         (ap (λ l. total (map w_of l)) (sym (grown_operation j o)) ∙ w)
     shrunk_work j o false (q, e, w) =
-        let (p, is, same) = one_of (of_operation s.pieces j o) q (sym (grown_operation j o) ∙ e) in
+        let (p, is, same) = one_from_map (grown g) (of_operation s.pieces j o) q (sym (grown_operation j o) ∙ e) in
         (p, is, shrunk_whole (kind_of i.class.env) i s.unit p (subst (IsWholeWork (kind_of i.class.env) i (pos g *ℤ s.unit)) (sym same) w))
-
-    unit_shrunk : (u : ℤ) → pos 1 ≤ℤ (pos g *ℤ u) → pos 1 ≤ℤ u
-    unit_shrunk u h = above u (*ℤ-cancel_lt g (subst (λ z. z <ℤ (pos g *ℤ u)) (sym (*ℤ-zero (pos g))) (after (pos g *ℤ u) h)))
-      where
-        after : (x : ℤ) → pos 1 ≤ℤ x → pos 0 <ℤ x
-        after x h = omega (arith, ints)
-
-        above : (u : ℤ) → pos 0 <ℤ u → pos 1 ≤ℤ u
-        above u h = omega (arith, ints)
 
     pub Feasible-shrunk : Feasible i (grown_schedule g s) → Feasible i s
     Feasible-shrunk f = record {
-      unit = unit_shrunk s.unit f.unit;
+      unit = omega (arith, ints, *ℤ-cancel_lt g {a = pos 0} {b = s.unit} (subst (λ z. z <ℤ (pos g *ℤ s.unit)) (sym (*ℤ-zero (pos g))) (omega (arith, ints, f.unit))), f.unit);
       span = λ a d l. let h = All-from_map (λ p. (pos 0 ≤ℤ p.from) × (p.from <ℤ p.to)) (grown g) s.pieces f.span a d l in
           (*ℤ-cancel g some (subst (λ z. z ≤ℤ (pos g *ℤ (get_or s.pieces a d).from)) (sym (*ℤ-zero (pos g))) h.0), *ℤ-cancel_lt g h.1);
       place = λ a d l. let h = All-from_map (HasPlace i) (grown g) s.pieces f.place a d l in record { job = h.job; operation = h.operation; machine = h.machine };

@@ -4,7 +4,6 @@ use Rattle.std.proofs.Common.{subst, subst₂, ◌∙◌, arith}
 use Rattle.std.specs.Prelude.{◌==◌}
 use Rattle.std.specs.Int.{int_max}
 use Rattle.std.proofs.lemmas.Int.{ints}
-use Rattle.std.proofs.lemmas.List.{length-map}
 use Rattle.std.proofs.lemmas.Simd.{map-map}
 use Rattle.std.proofs.lemmas.List.Elements.{All-head, All-tail, All-filter, All-map, All-contains}
 use Rattle.msp_class.proofs.IntegerRing.{≤ℤ_refl, ≤ℤ_trans, ≤ℤ_total, <ℤ_weak, one-*ℤ, *ℤ-zero, *ℤ-sub, *ℤ_comm, *ℤ-mono_nonneg, pos-le, int_max-left, int_max-right, ≤ℤ-int_max_left}
@@ -66,10 +65,7 @@ module _ (f g : Frame) (D E : ℤ) (ps : List Piece) (k : ℤ) (moment : ℤ →
   natural x h = subst (λ y. y ≤ℤ moment x) c.moments.zero_is (c.moments.monotone (pos 0) x (≤ℤ_refl (pos 0)) h)
 
   ends_after : (p : Piece) → Lasts p → pos 0 ≤ℤ p.to
-  ends_after p h = ends p.from p.to h.0 h.1
-    where
-      ends : (x y : ℤ) → pos 0 ≤ℤ x → x <ℤ y → pos 0 ≤ℤ y
-      ends x y p q = omega (arith, ints)
+  ends_after p h = omega (arith, ints, h.0, h.1)
 
   before : (p q : Piece) → Lasts p → Lasts q → IsBefore p q → IsBefore (move p) (move q)
   before p q h i b = c.moments.monotone p.to q.from (ends_after p h) b
@@ -89,16 +85,13 @@ module _ (f g : Frame) (D E : ℤ) (ps : List Piece) (k : ℤ) (moment : ℤ →
       longer : (a b x y k : ℤ) → pos 1 ≤ℤ k → a <ℤ b → y -ℤ x ≡ k *ℤ (b -ℤ a) → x <ℤ y
       longer a b x y k one h e =
           let some : (pos 1 *ℤ pos 1) ≤ℤ (k *ℤ (b -ℤ a)) = grown k (b -ℤ a) one (omega (arith, ints)) in
-          positive x y (k *ℤ (b -ℤ a)) e some
+          (omega (arith, ints))
         where
           grown : (k z : ℤ) → pos 1 ≤ℤ k → pos 1 ≤ℤ z → (pos 1 *ℤ pos 1) ≤ℤ (k *ℤ z)
           grown k z h i = ≤ℤ_trans (*ℤ-mono_nonneg (pos 1) (pos-le (omega arith)) i) (*ℤ-mono_nonneg_right z (≤ℤ_trans (pos-le (omega arith)) i) h)
             where
               *ℤ-mono_nonneg_right : {a b : ℤ} (z : ℤ) → pos 0 ≤ℤ z → a ≤ℤ b → (a *ℤ z) ≤ℤ (b *ℤ z)
               *ℤ-mono_nonneg_right {a} {b} z p q = subst₂ (λ x y. x ≤ℤ y) (*ℤ_comm z a) (*ℤ_comm z b) (*ℤ-mono_nonneg z p q)
-
-          positive : (x y z : ℤ) → y -ℤ x ≡ z → pos 1 ≤ℤ z → x <ℤ y
-          positive x y z e h = omega (arith, ints)
 
   in_order : (f.routed ≡ true) ⊎ ((j o n : ℕ) → j < f.jobs → f.Has j o → f.Has j n → o ≡ n) → All (λ p. All (λ q. p.job ≡ q.job → p.op < q.op → IsBefore p q) moved) moved
   in_order w = All-map_pairs (λ p q. p.job ≡ q.job → p.op < q.op → IsBefore p q)
@@ -151,9 +144,6 @@ module _ (f g : Frame) (D E : ℤ) (ps : List Piece) (k : ℤ) (moment : ℤ →
       ∙ ap (fold int_max (pos 0)) (map-map (λ p. p.to) move mine)
       ∙ ap (λ z. fold int_max z (map (λ p. moment p.to) mine)) (sym c.moments.zero_is)
       ∙ fold_moments (pos 0) mine (≤ℤ_refl (pos 0)) (All-filter (λ p. p.job == j) Lasts ps fits.span)
-
-pub length-carried : (moment : ℤ → ℤ) (number : ℕ → ℕ → ℕ) (ps : List Piece) → length (carried_all moment number ps) ≡ length ps
-length-carried moment number ps = length-map ps (carried moment number)
 
 -- ---- instances
 abbrev pub carried_schedule : ℤ → (ℤ → ℤ) → (ℕ → ℕ → ℕ) → Schedule → Schedule

@@ -52,7 +52,7 @@ pub IsUnitOf-from_conditions : (l : Limits) (i j : Instance) → MeetsConditions
     → i.class.times ≡ Equal → kind_of i.class.env ≡ kind_of j.class.env → i.class.cut ≡ j.class.cut → i.machines ≡ j.machines → i.speeds ≡ j.speeds
     → j.jobs ≡ map unit_job i.jobs → IsUnitOf (common_time i) i j
 IsUnitOf-from_conditions l i j h e kind cut machines speeds jobs = record {
-  some = let (k, x, b, s, t) = (h.jobs 0 no_job h.some).needs.some in large _ _ (equal 0 h.some k x b) (subst (λ n. 1 ≤ n.time) (sym s) t);
+  some = let (k, x, b, s, t) = (h.jobs 0 no_job h.some).needs.some in omega (arith, equal 0 h.some k x b, subst (λ n. 1 ≤ n.time) (sym s) t);
   kind = kind;
   cut = cut;
   machines = machines;
@@ -65,9 +65,6 @@ IsUnitOf-from_conditions l i j h e kind cut machines speeds jobs = record {
   where
     equal : (k : ℕ) → k < length i.jobs → All (λ n. n.time ≡ common_time i) (job_at i k).needs
     equal k b = subst (λ t. HasSameTimes t (common_time i) (job_at i k).needs) e (h.jobs k no_job b).times
-
-    large : (t e : ℕ) → t ≡ e → 1 ≤ t → 1 ≤ e
-    large t e s h = omega arith
 
 -- the product of unit times
 product_of_ones : (ns : List Need) → product_of_times (map unit_need ns) ≡ 1
@@ -98,36 +95,28 @@ module _ (e : ℕ) (i j : Instance) (u : IsUnitOf e i j) (a : ℕ) (inside : a <
   shop_from o h = let l : o < length (job_at i a).needs = omega (arith, long, h.0) in (l, λ z. absurd (omega (arith, z, time_here o l, u.some)))
 
   has_to : (k : EnvKind) (o : ℕ) → HasOperation k i a o → HasOperation k j a o
-  has_to Identical o h = h
-  has_to Uniform o h = h
-  has_to Unrelated o h = h
   has_to OpenShop o h = shop_to o h
   has_to FlowShop o h = shop_to o h
   has_to JobShop o h = shop_to o h
+  has_to _ o h = h
 
   has_from : (k : EnvKind) (o : ℕ) → HasOperation k j a o → HasOperation k i a o
-  has_from Identical o h = h
-  has_from Uniform o h = h
-  has_from Unrelated o h = h
   has_from OpenShop o h = shop_from o h
   has_from FlowShop o h = shop_from o h
   has_from JobShop o h = shop_from o h
+  has_from _ o h = h
 
   may_to : (k : EnvKind) (o m : ℕ) → HasOperation k i a o → MayRun k i a o m → MayRun k j a o m
-  may_to Identical o m h w = omega (arith, u.machines, w)
-  may_to Uniform o m h w = omega (arith, u.machines, w)
-  may_to Unrelated o m h w = omega (arith, u.machines, w)
   may_to OpenShop o m h w = w ∙ sym (machine_there o h.0)
   may_to FlowShop o m h w = w ∙ sym (machine_there o h.0)
   may_to JobShop o m h w = w ∙ sym (machine_there o h.0)
+  may_to _ o m h w = omega (arith, u.machines, w)
 
   may_from : (k : EnvKind) (o m : ℕ) → HasOperation k i a o → MayRun k j a o m → MayRun k i a o m
-  may_from Identical o m h w = omega (arith, u.machines, w)
-  may_from Uniform o m h w = omega (arith, u.machines, w)
-  may_from Unrelated o m h w = omega (arith, u.machines, w)
   may_from OpenShop o m h w = w ∙ machine_there o h.0
   may_from FlowShop o m h w = w ∙ machine_there o h.0
   may_from JobShop o m h w = w ∙ machine_there o h.0
+  may_from _ o m h w = omega (arith, u.machines, w)
 
   -- rates and work: over a unit e times as large, and over times e times as long
   record Ratios (k : EnvKind) (o : ℕ) : Type 0 where
@@ -158,7 +147,7 @@ module _ (e : ℕ) (i j : Instance) (u : IsUnitOf e i j) (a : ℕ) (inside : a <
     some = subst (λ n. 0 < n) (here 0 some) (rate_positive i a 0 own inside some);
     rate = λ m h. ap (λ n. quotient * n) (there m h) ∙ once quotient ∙ sym (here m h);
     want = ap (λ n. quotient * (e * n)) ones ∙ ap (λ n. quotient * n) (once e) ∙ whole;
-    rate_back = λ m h. ap (λ n. e * n) (here m h) ∙ turned e quotient ∙ whole ∙ sym (once product) ∙ ap (λ n. product * n) (sym (there m h));
+    rate_back = λ m h. ap (λ n. e * n) (here m h) ∙ omega arith ∙ whole ∙ sym (once product) ∙ ap (λ n. product * n) (sym (there m h));
     want_back = sym (once product) ∙ ap (λ n. product * n) (sym ones);
   }
     where
@@ -170,9 +159,6 @@ module _ (e : ℕ) (i j : Instance) (u : IsUnitOf e i j) (a : ℕ) (inside : a <
 
       once : (n : ℕ) → n * 1 ≡ n
       once n = omega arith
-
-      turned : (m n : ℕ) → m * n ≡ n * m
-      turned m n = omega arith
 
       short : (m : ℕ) → m < i.machines → m < length (job_at i a).needs
       short m l = let h = (own a no_job inside).0 in omega arith

@@ -56,10 +56,7 @@ jump-mono : (unit : ℤ) (s : Step) (x y : ℤ) → x ≤ℤ y → jump unit s x
 jump-mono unit s x y h = by (int_lt (unit *ℤ pos s.above) x) refl
   where
     by : (b : Bool) → int_lt (unit *ℤ pos s.above) x ≡ b → (if b then s.add else 0) ≤ jump unit s y
-    by true e = omega (arith, ap (λ b. if b then s.add else 0) (int_lt-true (unit *ℤ pos s.above) y (passed (unit *ℤ pos s.above) e)))
-      where
-        passed : (t : ℤ) → int_lt t x ≡ true → t <ℤ y
-        passed t e = omega (arith, ints)
+    by true e = omega (arith, ap (λ b. if b then s.add else 0) (int_lt-true (unit *ℤ pos s.above) y (omega (arith, ints))))
     by false e = omega arith
 
 jumps-mono : (unit : ℤ) (c : Curve) (x y : ℤ) → x ≤ℤ y → jumps unit c x ≤ jumps unit c y
@@ -70,10 +67,7 @@ late-mono unit j x y u h = by (int_lt (unit *ℤ j.due) x) refl (int_lt (unit *�
   where
     by : (s : Bool) → int_lt (unit *ℤ j.due) x ≡ s → (t : Bool) → int_lt (unit *ℤ j.due) y ≡ t → (if s then unit else pos 0) ≤ℤ (if t then unit else pos 0)
     by true e true k = ≤ℤ_refl unit
-    by true e false k = absurd (never (unit *ℤ j.due) e k)
-      where
-        never : (t : ℤ) → int_lt t x ≡ true → int_lt t y ≡ false → ⊥
-        never t e k = omega (arith, ints)
+    by true e false k = absurd (omega (arith, ints))
     by false e true k = u
     by false e false k = ≤ℤ_refl (pos 0)
 
@@ -81,15 +75,14 @@ tardiness-mono : (unit : ℤ) (j : Job) (x y : ℤ) → x ≤ℤ y → tardiness
 tardiness-mono unit j x y h = int_max_mono (≤ℤ_refl (pos 0)) (below x y (unit *ℤ j.due) h)
 
 pub job_cost-mono : (crit : Crit) (unit : ℤ) (j : Job) (x y : ℤ) → pos 0 ≤ℤ unit → x ≤ℤ y → job_cost crit unit j x ≤ℤ job_cost crit unit j y
-job_cost-mono Cmax unit j x y u h = h
 job_cost-mono Lmax unit j x y u h = below x y (unit *ℤ j.due) h
 job_cost-mono Fmax unit j x y u h = +ℤ_mono (*ℤ-mono j.curve.slope h) (*ℤ-mono_nonneg unit u (+ℤ_mono (≤ℤ_refl j.curve.base) (pos-le (jumps-mono unit j.curve x y h))))
-job_cost-mono SumC unit j x y u h = h
 job_cost-mono SumWC unit j x y u h = *ℤ-mono j.weight h
 job_cost-mono SumU unit j x y u h = late-mono unit j x y u h
 job_cost-mono SumWU unit j x y u h = *ℤ-mono j.weight (late-mono unit j x y u h)
 job_cost-mono SumT unit j x y u h = tardiness-mono unit j x y h
 job_cost-mono SumWT unit j x y u h = *ℤ-mono j.weight (tardiness-mono unit j x y h)
+job_cost-mono _ unit j x y u h = h
 
 -- ---- homogeneous: over n times the unit, a job that ends at n times the moment has n times the charge
 module _ (n : ℕ) (p : 0 < n) (unit : ℤ) where
@@ -131,15 +124,14 @@ module _ (n : ℕ) (p : 0 < n) (unit : ℤ) where
 
 -- ---- a charge reads of a job its due date, its weight and its curve
 pub job_cost-reads : (crit : Crit) (unit : ℤ) (i j : Job) (x : ℤ) → i.due ≡ j.due → i.weight ≡ j.weight → i.curve ≡ j.curve → job_cost crit unit i x ≡ job_cost crit unit j x
-job_cost-reads Cmax unit i j x d w c = refl
 job_cost-reads Lmax unit i j x d w c = ap (λ z. x -ℤ (unit *ℤ z)) d
 job_cost-reads Fmax unit i j x d w c = ap (λ z. (pos z.slope *ℤ x) +ℤ (unit *ℤ (z.base +ℤ pos (jumps unit z x)))) c
-job_cost-reads SumC unit i j x d w c = refl
 job_cost-reads SumWC unit i j x d w c = ap (λ z. pos z *ℤ x) w
 job_cost-reads SumU unit i j x d w c = ap (λ z. if int_lt (unit *ℤ z) x then unit else pos 0) d
 job_cost-reads SumWU unit i j x d w c = ap₂ (λ y z. pos y *ℤ (if int_lt (unit *ℤ z) x then unit else pos 0)) w d
 job_cost-reads SumT unit i j x d w c = ap (λ z. int_max (pos 0) (x -ℤ (unit *ℤ z))) d
 job_cost-reads SumWT unit i j x d w c = ap₂ (λ y z. pos y *ℤ int_max (pos 0) (x -ℤ (unit *ℤ z))) w d
+job_cost-reads _ unit i j x d w c = refl
 
 -- ---- all jobs
 -- the charge of the job of a number

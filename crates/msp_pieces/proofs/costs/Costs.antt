@@ -32,10 +32,7 @@ pub greatest-more : (xs : List ℤ) (k : ℕ) (z : ℤ) → 0 < k → k < length
 greatest-more [] k z h l = absurd (omega arith)
 greatest-more (x ∷ xs) zero z h l = absurd (omega arith)
 greatest-more (x ∷ xs) (suc k) z h l =
-    ap (λ n. greatest (take n (x ∷ xs))) (same_suc k) ∙ fold_more int_max x xs k z (omega arith)
-  where
-    same_suc : (k : ℕ) → suc k + 1 ≡ suc (k + 1)
-    same_suc k = omega arith
+    ap (λ n. greatest (take n (x ∷ xs))) (let same_suc : suc k + 1 ≡ suc (k + 1) = omega arith in same_suc) ∙ fold_more int_max x xs k z (omega arith)
 
 -- the costs by the ends that the numbers say
 abbrev pub costs_by : Crit → ℤ → List ℤ → List Job → List ℤ
@@ -45,9 +42,6 @@ costs_by crit unit ends jobs = job_costs crit unit (λ k. slice_index_or ends k 
 pub record SumsTo (crit : Crit) (unit : ℤ) (ends : List ℤ) (jobs : List Job) (k : ℕ) (sum : ℤ) : Type 0 where
   pub sum_is : sum ≡ fold ◌+ℤ◌ (pos 0) (take k (costs_by crit unit ends jobs))
   pub size : LiesWithin (greatest_cost * k) sum
-
-pub SumsTo-none : (crit : Crit) (unit : ℤ) (ends : List ℤ) (jobs : List Job) → SumsTo crit unit ends jobs 0 (pos 0)
-SumsTo-none crit unit ends jobs = record { sum_is = refl; size = (omega (arith, ints), omega (arith, ints)) }
 
 cost_at : (crit : Crit) (unit : ℤ) (ends : List ℤ) (jobs : List Job) (k : ℕ) (j : Job) (d : Job) (x : ℤ) → k < length jobs → j ≡ get_or jobs k d →
     x ≡ job_cost crit unit j (slice_index_or ends k (pos 0)) → get_or (costs_by crit unit ends jobs) k (pos 0) ≡ x

@@ -43,10 +43,7 @@ sum_zero n g nonneg = (each, all)
     whole = int_total_below-natural n g f (λ k l. natural (g k) (nonneg k l))
 
     each : int_total_below n g ≡ pos 0 → (k : ℕ) → k < n → g k ≡ pos 0
-    each e k l = natural (g k) (nonneg k l) ∙ ap pos (none (f k) (total_below n f) (total_below-term n f k l) (pos-same (sym whole ∙ e)))
-      where
-        none : (a b : ℕ) → a ≤ b → b ≡ 0 → a ≡ 0
-        none a b h e = omega arith
+    each e k l = natural (g k) (nonneg k l) ∙ ap pos (omega (arith, total_below-term n f k l, pos-same (sym whole ∙ e)))
 
     all : ((k : ℕ) → k < n → g k ≡ pos 0) → int_total_below n g ≡ pos 0
     all h = whole ∙ ap pos (total_below-none n f (λ k l. ap nat_abs (h k l)))

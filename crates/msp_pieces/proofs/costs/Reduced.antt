@@ -70,9 +70,8 @@ Divides-same num (negsuc d) s q g h = absurd (omega (arith, ints, h.positive))
 
 pub Divides-lowest : (num den s q : ℤ) (g : ℕ) → Divides num den s q g → IsGcd (unsigned_abs s) (unsigned_abs q) 1
 Divides-lowest num den s q g h =
-    let P : ℕ → Type 0 = λ v. IsGcd v (unsigned_abs q) 1 in
     let Q : ℤ → Type 0 = λ v. IsGcd (unsigned_abs num / g) (unsigned_abs v) 1 in
-    subst P (sym (size_with_sign num s _ h.above h.below)) (subst Q (sym h.whole) (reduced_of num den s q g h).lowest)
+    subst (λ (v : ℕ). IsGcd v (unsigned_abs q) 1) (sym (size_with_sign num s _ h.above h.below)) (subst Q (sym h.whole) (reduced_of num den s q g h).lowest)
 
 pub Divides-positive : (num den s q : ℤ) (g : ℕ) → Divides num den s q g → pos 1 ≤ℤ q
 Divides-positive num den s q g h =

@@ -15,7 +15,7 @@ use Rattle.msp_instance.specs.declared.Job.{Job}
 use Rattle.msp_instance.specs.declared.Step.{Step}
 use Rattle.msp_instance.specs.declared.Instance.{Instance}
 use Rattle.msp_class.specs.declared.class.Times.{Times}
-use Rattle.msp_class.specs.declared.class.Times.TheVariants.{General, Unit as UnitTimes, Equal}
+use Rattle.msp_class.specs.declared.class.Times.TheVariants.{Equal}
 use Rattle.msp_instance.specs.Instance.{no_curve, no_job, no_need, job_at, need_at}
 use Rattle.msp_instance.specs.Conditions.{LiesWithin, Limits, HasRelease, greatest_time, HasDue, HasWeight, IsCurve, HasCurve, IsJobOf, MeetsConditions, Inner, InClass, inner_limits, text_limits}
 use Rattle.msp_pieces.specs.declared.limits.TheConstants.{GREATEST_CARRIED_UNIT}
@@ -153,8 +153,7 @@ small_unit i s h w =
 pub small_costs : (i : Instance) (s : Schedule) → Inner i → Within i s → All (HasSmallCost s.unit) i.jobs
 small_costs i s h w =
     let (n, unit_is, has) = small_unit i s h w in
-    let P : ℤ → Type 0 = λ x. All (HasSmallCost x) i.jobs in
-    subst P (sym unit_is) (each_small has.limits has.most n i has.together has.unit has.conditions)
+    subst (λ (x : ℤ). All (HasSmallCost x) i.jobs) (sym unit_is) (each_small has.limits has.most n i has.together has.unit has.conditions)
 
 release_small : (l : Limits) (b : Bool) (r : ℕ) → l.greatest_release ≤ l.greatest_date → HasRelease l b r → LiesWithin l.greatest_date (pos r)
 release_small l true r le h = (omega (arith, ints), omega (arith, ints, h, le))
@@ -169,9 +168,8 @@ small_releases i s h w j l =
     (release_small has.limits i.class.heads (job_at i j).release has.together.releases (has.conditions.jobs j no_job l).release) has.together.dates)
 
 time_small : (l : Limits) (t : Times) (x : ℕ) → GREATEST_EQUAL_TIME ≤ l.greatest_time → x ≤ greatest_time l t → LiesWithin l.greatest_time (pos x)
-time_small l General x some h = (omega (arith, ints), omega (arith, ints, h))
-time_small l UnitTimes x some h = (omega (arith, ints), omega (arith, ints, h))
 time_small l Equal x some h = (omega (arith, ints), omega (arith, ints, h, some))
+time_small l _ x some h = (omega (arith, ints), omega (arith, ints, h))
 
 pub small_times : (i : Instance) (s : Schedule) → Inner i → Within i s → AreSmallTimes i s.unit
 small_times i s h w j o l inside =

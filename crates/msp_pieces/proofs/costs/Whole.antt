@@ -11,9 +11,7 @@ use Rattle.msp_pieces.proofs.costs.Costs.{job_costs-same}
 
 pub passed_small : (u unit : ℤ) (xs jobs : List Job) → u ≡ unit → xs ≡ jobs → All (HasSmallCost unit) jobs → All (HasSmallCost u) xs
 passed_small u unit xs jobs e f h =
-    let P : List Job → Type 0 = λ l. All (HasSmallCost u) l in
-    let Q : ℤ → Type 0 = λ v. All (HasSmallCost v) jobs in
-    subst P (sym f) (subst Q (sym e) h)
+    subst (λ (l : List Job). All (HasSmallCost u) l) (sym f) (subst (λ (v : ℤ). All (HasSmallCost v) jobs) (sym e) h)
 
 pub cost_is : (i : Instance) (s : Schedule) (num u : ℤ) (pieces : List Piece) (jobs : List Job) (ends : List ℤ) → length i.jobs ≤ MOST_JOBS → u ≡ s.unit → pieces ≡ s.pieces → jobs ≡ i.jobs →
     ((j : ℕ) → j < MOST_JOBS → slice_index_or ends j (pos 0) ≡ last_end pieces j) →

@@ -1,12 +1,8 @@
 -- Jobs back to back on machine 0 from moment 0, as a schedule: when it is feasible, and the form in which it is reported.
-use Rattle.std.proofs.Common.{◌≡◌, ℕ, ◌+◌, ◌*◌, ◌<◌, ◌≤◌, Bool, true, false, List, [], ◌∷◌, length, get_or, map, ℤ, pos, nat_abs, unsigned_abs, ◌-ℤ◌, ◌*ℤ◌, ◌≤ℤ◌, inl, All}
+use Rattle.std.proofs.Common.{◌≡◌, ℕ, ◌*◌, ◌<◌, ◌≤◌, Bool, true, false, List, [], ◌∷◌, length, get_or, map, ℤ, pos, ◌*ℤ◌, ◌≤ℤ◌, inl, All}
 use Rattle.std.proofs.Common.{AllPairs, MatchBool, refl, sym, ap, ◌∙◌, subst, arith}
 use Rattle.std.proofs.lemmas.Int.{ints}
 use Rattle.std.proofs.lemmas.List.Elements.{All-nil}
-use Rattle.std.specs.Int.{IsGcd}
-use Rattle.std.proofs.lemmas.Nat.Gcd.{dvd_refl}
-use Rattle.std.proofs.Math.Nat.{dvd-mul_left, eq-one_of_dvd-one}
-use Rattle.msp_class.proofs.IntegerRing.{natural, *ℤ-one}
 use Rattle.msp_class.specs.declared.environments.EnvKind.{EnvKind}
 use Rattle.msp_class.specs.declared.environments.EnvKind.TheVariants.{Identical}
 use Rattle.msp_class.specs.Env.{kind_of}
@@ -18,8 +14,6 @@ use Rattle.msp_instance.specs.declared.Arc.{Arc}
 use Rattle.msp_instance.specs.declared.Instance.{Instance}
 use Rattle.msp_instance.specs.Instance.{job_at}
 use Rattle.msp_pieces.specs.declared.Piece.{Piece}
-use Rattle.msp_pieces.specs.declared.Frac.{Frac}
-use Rattle.msp_pieces.specs.Fraction.{IsOver, IsLowest}
 use Rattle.msp_pieces.specs.Piece.{length_of, pieces_of, IsBefore, IsApart as AreApart, job_of, start, finish, IsTimed}
 use Rattle.msp_pieces.specs.Feasible.{Feasible, HasPlace, HasOperation, MayRun, FollowsRoute, IsWholeWork, GetsWork, total, whole_work, work_of as part_of}
 use Rattle.msp_pieces.proofs.feasible.OneMachine.{pieces_of-job, IsOneMachine}
@@ -88,10 +82,7 @@ module _ (i : Instance) (order : List ℕ) (o : OnceBelow (length i.jobs) order)
           ∙ back_to_back-filter piece (time_at i) piece_makes 0 order j (OnceBelow-distinct o) (OnceBelow-contains o j small)
 
       lasts : length_of (piece j begin end) ≡ pos 1 *ℤ pos (time_at i j)
-      lasts = by begin end (time_at i j) (end_in-begin (time_at i) 0 order j (OnceBelow-contains o j small))
-        where
-          by : (a b p : ℕ) → b ≡ a + p → (pos b -ℤ pos a) ≡ pos 1 *ℤ pos p
-          by a b p e = omega (arith, ints)
+      lasts = omega (arith, ints, end_in-begin (time_at i) 0 order j (OnceBelow-contains o j small))
 
       abbrev Gets : EnvKind → ℕ → Bool → Type 0
       Gets x n b = MatchBool b (total (map (part_of x i) (pieces_of (schedule_in_order i order) j n)) ≡ pos 1 *ℤ pos (whole_work x i j n))
@@ -104,9 +95,7 @@ module _ (i : Instance) (order : List ℕ) (o : OnceBelow (length i.jobs) order)
       works : (n : ℕ) → HasOperation (kind_of i.class.env) i j n → GetsWork i (schedule_in_order i order) j n
       works n h =
           let zero_op : n ≡ 0 = subst (λ x. HasOperation x i j n) m.kind h in
-          let P : ℕ → Type 0 = λ z. Gets Identical z i.class.cut in
-          let Q : EnvKind → Type 0 = λ x. Gets x n i.class.cut in
-          subst Q (sym m.kind) (subst P (sym zero_op) (gets_work i.class.cut))
+          subst (λ (x : EnvKind). Gets x n i.class.cut) (sym m.kind) (subst (λ (z : ℕ). Gets Identical z i.class.cut) (sym zero_op) (gets_work i.class.cut))
 
     pub back_to_back_is_feasible : Feasible i (schedule_in_order i order)
     back_to_back_is_feasible = record {
@@ -120,13 +109,3 @@ module _ (i : Instance) (order : List ℕ) (o : OnceBelow (length i.jobs) order)
       route = subst (λ x. FollowsRoute x pieces) (sym m.kind) tt;
       work = λ j n l h. works j l n h;
     }
-
--- ---- a whole cost over the unit 1: its fraction in lowest terms has the denominator 1
-pub whole_fraction : (f : Frac) (x : ℤ) (n : ℕ) → x ≡ pos n → IsOver f x (pos 1) → IsLowest f → (f.den ≡ pos 1) × (f.num ≡ pos n)
-whole_fraction f x n e over low =
-    let m = nat_abs f.den in
-    let den : f.den ≡ pos m = natural f.den (omega (arith, ints, f.positive)) in
-    let num : f.num ≡ pos (n * m) = sym (*ℤ-one f.num) ∙ over ∙ ap (λ y. y *ℤ f.den) e ∙ ap (λ d. pos n *ℤ d) den in
-    let sizes : IsGcd (n * m) m 1 = subst (λ y. IsGcd (unsigned_abs y) m 1) num (subst (λ y. IsGcd (unsigned_abs f.num) (unsigned_abs y) 1) den low) in
-    let one : m ≡ 1 = eq-one_of_dvd-one (sizes.2 m (dvd-mul_left m n) (dvd_refl m)) in
-    (den ∙ ap pos one, num ∙ ap (λ k. pos (n * k)) one ∙ ap pos (omega arith))

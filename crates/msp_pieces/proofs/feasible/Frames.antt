@@ -2,12 +2,13 @@
 use Rattle.std.proofs.Common.{◌≡◌, ◌≢◌, ℕ, zero, suc, ◌*◌, ◌/◌, ◌<◌, ◌≤◌, Bool, true, false, not, List, [], ◌∷◌, length, get_or, map, filter, fold, All, AllPairs, Any, Contains}
 use Rattle.std.proofs.Common.{MatchBool, ℤ, pos, ◌*ℤ◌, ◌≤ℤ◌, ◌<ℤ◌, slice_index_or, refl, sym, ap, ap₂, subst, ◌∙◌, arith}
 use Rattle.std.specs.Prelude.{◌==◌, ◌&&◌}
-use Rattle.std.proofs.Math.Nat.{mul-div_cancel}
+use Rattle.std.specs.Int.{◌∣◌}
+use Rattle.std.proofs.Math.Nat.{mul_comm, one-mul, mul-pos, mul-div_cancel, dvd-mul_right, pos_of_dvd_of_pos}
 use Rattle.std.proofs.lemmas.Bool.{eqb-true}
 use Rattle.std.proofs.lemmas.Int.{ints}
 use Rattle.std.proofs.lemmas.List.Elements.{All-head, All-tail, All-filter, filter_passes}
 use Rattle.msp_class.specs.declared.environments.EnvKind.{EnvKind}
-use Rattle.msp_class.specs.declared.environments.EnvKind.TheVariants.{Identical, Uniform, Unrelated, OpenShop, FlowShop, JobShop}
+use Rattle.msp_class.specs.declared.environments.EnvKind.TheVariants.{Identical, Uniform, Unrelated, FlowShop, JobShop}
 use Rattle.msp_class.specs.Env.{kind_of, is_mirror_kind}
 use Rattle.std.proofs.lemmas.List.{get_or_default, get_or-map}
 use Rattle.msp_class.proofs.Sums.{Contains-from_filter}
@@ -39,12 +40,9 @@ pub record Frame : Type 1 where
 
 -- on unrelated machines the rate is the product of the job's times on the other machines
 abbrev pub rate_on : EnvKind → Instance → ℕ → ℕ → ℕ
-rate_on Identical i j m = 1
 rate_on Uniform i j m = slice_index_or i.speeds m 0
 rate_on Unrelated i j m = product_of_times (job_at i j).needs / (need_at i j m).time
-rate_on OpenShop i j m = 1
-rate_on FlowShop i j m = 1
-rate_on JobShop i j m = 1
+rate_on _ i j m = 1
 
 abbrev pub frame_by : EnvKind → Instance → Frame
 frame_by k i = record {
@@ -109,55 +107,34 @@ pub record IsShaped (i : Instance) : Type 0 where
 
 times_from : (k : EnvKind) (l : Limits) (i : Instance) (j : Job) → k ≡ Unrelated
     → HasShape k i.class.env i.machines j.needs → HasTimes (least_time k i.class.times) (greatest_time l i.class.times) j.needs → HasTimePerMachine i.machines j
-times_from Identical l i j e s t = absurd (cc)
-times_from Uniform l i j e s t = absurd (cc)
 times_from Unrelated l i j e s t = (s.0, λ k d h. (t k d h).0)
-times_from OpenShop l i j e s t = absurd (cc)
-times_from FlowShop l i j e s t = absurd (cc)
-times_from JobShop l i j e s t = absurd (cc)
+times_from _ l i j e s t = absurd (cc)
 
 pub IsShaped-from_conditions : (l : Limits) (i : Instance) → MeetsConditions l i → IsShaped i
 IsShaped-from_conditions l i h = record { unrelated = λ e k d b. let n = (h.jobs k d b).needs in times_from (kind_of i.class.env) l i (get_or i.jobs k d) e n.shape n.times }
 
 pub IsShaped-from_identical : (i : Instance) → kind_of i.class.env ≡ Identical → IsShaped i
-IsShaped-from_identical i kind = record { unrelated = λ e. absurd (never (sym kind ∙ e)) }
-  where
-    never : Identical ≡ Unrelated → ⊥
-    never e = cc
+IsShaped-from_identical i kind = record { unrelated = λ e. absurd (let never : Identical ≡ Unrelated = sym kind ∙ e in cc) }
 
 -- a factor goes out of a product of times
 fold_times : (a : ℕ) (ns : List Need) → fold (λ b n. b * n.time) a ns ≡ a * product_of_times ns
 fold_times a [] = omega arith
-fold_times a (n ∷ ns) = fold_times (a * n.time) ns ∙ factors a n.time (product_of_times ns) ∙ ap (λ x. a * x) (sym (fold_times (1 * n.time) ns))
-  where
-    factors : (a t q : ℕ) → a * t * q ≡ a * (1 * t * q)
-    factors a t q = omega arith
+fold_times a (n ∷ ns) = fold_times (a * n.time) ns ∙ omega arith ∙ ap (λ x. a * x) (sym (fold_times (1 * n.time) ns))
 
 pub product_of_times-cons : (n : Need) (ns : List Need) → product_of_times (n ∷ ns) ≡ n.time * product_of_times ns
-product_of_times-cons n ns = fold_times (1 * n.time) ns ∙ ap (λ x. x * product_of_times ns) one
-  where
-    one : 1 * n.time ≡ n.time
-    one = omega arith
+product_of_times-cons n ns = fold_times (1 * n.time) ns ∙ ap (λ x. x * product_of_times ns) (one-mul n.time)
 
 pub product_of_times-positive : (ns : List Need) → All (λ n. 1 ≤ n.time) ns → 1 ≤ product_of_times ns
 product_of_times-positive [] h = omega arith
-product_of_times-positive (n ∷ ns) h = let e = product_of_times-cons n ns in
-    both n.time (product_of_times ns) (product_of_times (n ∷ ns)) (All-head (λ n. 1 ≤ n.time) n ns h) (product_of_times-positive ns (All-tail (λ n. 1 ≤ n.time) n ns h)) e
-  where
-    both : (a b c : ℕ) → 1 ≤ a → 1 ≤ b → c ≡ a * b → 1 ≤ c
-    both (suc a) (suc b) c h k e = omega arith
-    both zero b c h k e = absurd (omega arith)
-    both (suc a) zero c h k e = absurd (omega arith)
+product_of_times-positive (n ∷ ns) h =
+    subst (λ x. 1 ≤ x) (sym (product_of_times-cons n ns)) (mul-pos (All-head (λ n. 1 ≤ n.time) n ns h) (product_of_times-positive ns (All-tail (λ n. 1 ≤ n.time) n ns h)))
 
 time_divides : (ns : List Need) (m : ℕ) → m < length ns → (u : ℕ) × (product_of_times ns ≡ u * (slice_index_or ns m no_need).time)
 time_divides [] m l = absurd (omega arith)
 time_divides (n ∷ ns) zero l = (product_of_times ns, product_of_times-cons n ns ∙ omega arith)
 time_divides (n ∷ ns) (suc m) l =
     let (u, e) = time_divides ns m (omega arith) in
-    (n.time * u, product_of_times-cons n ns ∙ ap (λ x. n.time * x) e ∙ swapped n.time u (slice_index_or ns m no_need).time)
-  where
-    swapped : (a b c : ℕ) → a * (b * c) ≡ a * b * c
-    swapped a b c = omega arith
+    (n.time * u, product_of_times-cons n ns ∙ ap (λ x. n.time * x) e ∙ omega arith)
 
 quotient : (q t : ℕ) → 1 ≤ t → (u : ℕ) × (q ≡ u * t) → q / t * t ≡ q
 quotient q t h (u, e) = ap (λ x. x / t * t) e ∙ ap (λ x. x * t) (mul-div_cancel u h) ∙ sym e
@@ -172,53 +149,35 @@ rate_times i j m own inside on = let h = own j no_job inside in
 pub rate_positive : (i : Instance) (j m : ℕ) → All (HasTimePerMachine i.machines) i.jobs → j < length i.jobs → m < i.machines → 1 ≤ rate_on Unrelated i j m
 rate_positive i j m own inside on =
     let h = own j no_job inside in
-    some (rate_on Unrelated i j m) (need_at i j m).time (product_of_times (job_at i j).needs) (rate_times i j m own inside on) (product_of_times-positive (job_at i j).needs h.1)
-  where
-    some : (u t q : ℕ) → u * t ≡ q → 1 ≤ q → 1 ≤ u
-    some zero t q e h = absurd (omega arith)
-    some (suc u) t q e h = omega arith
+    pos_of_dvd_of_pos (subst (λ q. rate_on Unrelated i j m ∣ q) (rate_times i j m own inside on) (dvd-mul_right (rate_on Unrelated i j m) (need_at i j m).time))
+    (product_of_times-positive (job_at i j).needs h.1)
 
 -- ---- feasible, and fitting the frame
 part_is : (k : EnvKind) (i : Instance) (p : Piece) → work_of k i p ≡ length_of p *ℤ pos (rate_on k i p.job p.machine)
-part_is Identical i p = sym (*ℤ-one (length_of p))
 part_is Uniform i p = refl
 part_is Unrelated i p = refl
-part_is OpenShop i p = sym (*ℤ-one (length_of p))
-part_is FlowShop i p = sym (*ℤ-one (length_of p))
-part_is JobShop i p = sym (*ℤ-one (length_of p))
+part_is _ i p = sym (*ℤ-one (length_of p))
 
 -- a piece of the whole time is a piece of the whole work, and the other way round
 whole_to : (k : EnvKind) (i : Instance) → (k ≡ Unrelated → All (HasTimePerMachine i.machines) i.jobs) → (unit : ℤ) (p : Piece) → p.job < length i.jobs
     → MayRun k i p.job p.op p.machine → IsWholeWork k i unit p → length_of p *ℤ pos (rate_on k i p.job p.machine) ≡ unit *ℤ pos (whole_work k i p.job p.op)
-whole_to Identical i own unit p inside on h = *ℤ-one (length_of p) ∙ h
 whole_to Uniform i own unit p inside on h = h
 whole_to Unrelated i own unit p inside on h = grown (length_of p) unit _ _ _ (rate_times i p.job p.machine (own refl) inside on) h
   where
     grown : (x d : ℤ) (r t q : ℕ) → r * t ≡ q → x ≡ d *ℤ pos t → x *ℤ pos r ≡ d *ℤ pos q
-    grown x d r t q e h = ap (λ y. y *ℤ pos r) h ∙ *ℤ_assoc d (pos t) (pos r) ∙ ap (λ n. d *ℤ pos n) (turned r t q e)
-      where
-        turned : (r t q : ℕ) → r * t ≡ q → t * r ≡ q
-        turned r t q e = omega arith
-whole_to OpenShop i own unit p inside on h = *ℤ-one (length_of p) ∙ h
-whole_to FlowShop i own unit p inside on h = *ℤ-one (length_of p) ∙ h
-whole_to JobShop i own unit p inside on h = *ℤ-one (length_of p) ∙ h
+    grown x d r t q e h = ap (λ y. y *ℤ pos r) h ∙ *ℤ_assoc d (pos t) (pos r) ∙ ap (λ n. d *ℤ pos n) (mul_comm t r ∙ e)
+whole_to _ i own unit p inside on h = *ℤ-one (length_of p) ∙ h
 
 whole_from : (k : EnvKind) (i : Instance) → (k ≡ Unrelated → All (HasTimePerMachine i.machines) i.jobs) → (unit : ℤ) (p : Piece) → p.job < length i.jobs
     → MayRun k i p.job p.op p.machine → length_of p *ℤ pos (rate_on k i p.job p.machine) ≡ unit *ℤ pos (whole_work k i p.job p.op) → IsWholeWork k i unit p
-whole_from Identical i own unit p inside on h = sym (*ℤ-one (length_of p)) ∙ h
 whole_from Uniform i own unit p inside on h = h
 whole_from Unrelated i own unit p inside on h = shrunk (length_of p) unit _ _ _ (rate_positive i p.job p.machine (own refl) inside on) (rate_times i p.job p.machine (own refl) inside on) h
   where
     shrunk : (x d : ℤ) (r t q : ℕ) → 1 ≤ r → r * t ≡ q → x *ℤ pos r ≡ d *ℤ pos q → x ≡ d *ℤ pos t
-    shrunk x d r t q some e h = *ℤ-cancel_same r some (*ℤ_comm (pos r) x ∙ h ∙ ap (λ n. d *ℤ pos n) (sym e ∙ turned r t) ∙ sym (*ℤ_assoc d (pos t) (pos r)) ∙ *ℤ_comm (d *ℤ pos t) (pos r))
-      where
-        turned : (r t : ℕ) → r * t ≡ t * r
-        turned r t = omega arith
-whole_from OpenShop i own unit p inside on h = sym (*ℤ-one (length_of p)) ∙ h
-whole_from FlowShop i own unit p inside on h = sym (*ℤ-one (length_of p)) ∙ h
-whole_from JobShop i own unit p inside on h = sym (*ℤ-one (length_of p)) ∙ h
+    shrunk x d r t q some e h = *ℤ-cancel_same r some (*ℤ_comm (pos r) x ∙ h ∙ ap (λ n. d *ℤ pos n) (sym e ∙ mul_comm r t) ∙ sym (*ℤ_assoc d (pos t) (pos r)) ∙ *ℤ_comm (d *ℤ pos t) (pos r))
+whole_from _ i own unit p inside on h = sym (*ℤ-one (length_of p)) ∙ h
 
-pub map-same : {X : Type 0} (f g : X → ℤ) (xs : List X) → All (λ x. f x ≡ g x) xs → map f xs ≡ map g xs
+pub map-same : {X Y : Type 0} (f g : X → Y) (xs : List X) → All (λ x. f x ≡ g x) xs → map f xs ≡ map g xs
 map-same f g [] h = refl
 map-same f g (x ∷ xs) h = ap₂ (λ y ys. y ∷ ys) (All-head (λ x. f x ≡ g x) x xs h) (map-same f g xs (All-tail (λ x. f x ≡ g x) x xs h))
 
@@ -268,20 +227,14 @@ abbrev InOrder : List Piece → Type 0
 InOrder ps = All (λ p. All (λ q. p.job ≡ q.job → p.op < q.op → IsBefore p q) ps) ps
 
 route_to : (k : EnvKind) (ps : List Piece) → FollowsRoute k ps → not (is_mirror_kind k) ≡ true → InOrder ps
-route_to Identical ps h e = absurd (cc)
-route_to Uniform ps h e = absurd (cc)
-route_to Unrelated ps h e = absurd (cc)
-route_to OpenShop ps h e = absurd (cc)
 route_to FlowShop ps h e = h
 route_to JobShop ps h e = h
+route_to _ ps h e = absurd (cc)
 
 route_from : (k : EnvKind) (ps : List Piece) → (not (is_mirror_kind k) ≡ true → InOrder ps) → FollowsRoute k ps
-route_from Identical ps h = tt
-route_from Uniform ps h = tt
-route_from Unrelated ps h = tt
-route_from OpenShop ps h = tt
 route_from FlowShop ps h = h refl
 route_from JobShop ps h = h refl
+route_from _ ps h = tt
 
 pub Fits-from_feasible : (i : Instance) (s : Schedule) → IsShaped i → Feasible i s → Fits (frame_of i) s.unit s.pieces
 Fits-from_feasible i s own f = record {
@@ -290,9 +243,9 @@ Fits-from_feasible i s own f = record {
   place = λ a d l. let h = f.place a d l in record { job = h.job; operation = h.operation; machine = h.machine };
   machine = f.machine;
   job = f.job;
+  route = route_to (kind_of i.class.env) s.pieces f.route;
   release = f.release;
   arc = f.arc;
-  route = route_to (kind_of i.class.env) s.pieces f.route;
   work = λ j o l h. let g = gets_to (kind_of i.class.env) i own.unrelated s.unit s.pieces (λ a d b. let p = f.place a d b in (p.job, p.machine)) j o i.class.cut (f.work j o l h) in
       record { one = g.0; sum = g.1 };
 }
@@ -304,9 +257,9 @@ Feasible-from_fits i s own f = record {
   place = λ a d l. let h = f.place a d l in record { job = h.job; operation = h.operation; machine = h.machine };
   machine = f.machine;
   job = f.job;
+  route = route_from (kind_of i.class.env) s.pieces f.route;
   release = f.release;
   arc = f.arc;
-  route = route_from (kind_of i.class.env) s.pieces f.route;
   work = λ j o l h. let g = f.work j o l h in gets_from (kind_of i.class.env) i own.unrelated s.unit s.pieces (λ a d b. let p = f.place a d b in (p.job, p.machine)) j o i.class.cut g.one g.sum;
 }
 
@@ -319,19 +272,14 @@ shop_work : (needs : List Need) → Any (λ n. 1 ≤ n.time) needs → (o : ℕ)
 shop_work needs (k, x, l, e, p) =
     let is : slice_index_or needs k no_need ≡ x = get_or_default needs k no_need x l ∙ e in
     let some : 1 ≤ (slice_index_or needs k no_need).time = subst (λ n. 1 ≤ n.time) (sym is) p in
-    (k, (l, λ z. none _ z some), some)
-  where
-    none : (t : ℕ) → t ≡ 0 → 1 ≤ t → ⊥
-    none t z h = omega arith
+    (k, (l, λ z. absurd (omega (arith, z, some))), some)
 
 job_work : (k : EnvKind) (l : Limits) (i : Instance) (j : ℕ) → HasShape k i.class.env i.machines (job_at i j).needs
     → HasTimes (least_time k i.class.times) (greatest_time l i.class.times) (job_at i j).needs → Any (λ n. 1 ≤ n.time) (job_at i j).needs → (o : ℕ) × HasOperation k i j o × (1 ≤ whole_work k i j o)
 job_work Identical l i j s t a = (0, refl, (t 0 no_need (omega (arith, s.0))).0)
 job_work Uniform l i j s t a = (0, refl, (t 0 no_need (omega (arith, s.0))).0)
 job_work Unrelated l i j s t a = (0, refl, product_of_times-positive (job_at i j).needs (λ k d h. (t k d h).0))
-job_work OpenShop l i j s t a = shop_work (job_at i j).needs a
-job_work FlowShop l i j s t a = shop_work (job_at i j).needs a
-job_work JobShop l i j s t a = shop_work (job_at i j).needs a
+job_work _ l i j s t a = shop_work (job_at i j).needs a
 
 pub HasWork-from_conditions : (l : Limits) (i : Instance) → MeetsConditions l i → HasWork (frame_of i)
 HasWork-from_conditions l i h = record { some = λ j b. let n = (h.jobs j no_job b).needs in job_work (kind_of i.class.env) l i j n.shape n.times n.some }
@@ -348,10 +296,8 @@ piece_of f unit ps fits works j l = let (o, h, w) = works.some j l in by o (of_o
     by o [] e sum w = absurd (nothing unit (f.want j o) fits.unit_from w (ap (λ l. total (map (part f) l)) (sym e) ∙ sum))
       where
         nothing : (u : ℤ) (n : ℕ) → pos 1 ≤ℤ u → 1 ≤ n → pos 0 ≡ u *ℤ pos n → ⊥
-        nothing u n h k z = let (m, e) = natural_some u (omega (arith, ints)) in none m n (omega (arith, ints, e)) k (pos-same (z ∙ ap (λ x. x *ℤ pos n) e))
-          where
-            none : (m n : ℕ) → 1 ≤ m → 1 ≤ n → 0 ≡ m * n → ⊥
-            none m n h k e = grind arith
+        nothing u n h k z = let (m, e) = natural_some u (omega (arith, ints)) in
+            let some : 1 ≤ m = omega (arith, ints, e) in omega (arith, mul-pos some k, pos-same (z ∙ ap (λ x. x *ℤ pos n) e))
     by o (q ∷ qs) e sum w =
         let found : Contains (of_operation ps j o) q = subst (λ l. Contains l q) (sym e) (0, omega arith, refl) in
         let (c, t) = Contains-from_filter (λ p. (p.job == j) && (p.op == o)) ps q found in

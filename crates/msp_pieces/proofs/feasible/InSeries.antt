@@ -1,12 +1,13 @@
 -- An instance without release dates and routes has a feasible schedule that ends when the times of all jobs are over, so a best one costs little.
-use Rattle.std.proofs.Common.{◌≡◌, ◌≢◌, ℕ, zero, suc, ◌+◌, ◌*◌, ◌^◌, ◌<◌, ◌≤◌, ◌⊎◌, Bool, true, false, not, List, [], ◌∷◌, length, get_or, filter, All, AllPairs, Contains, sum_by}
+use Rattle.std.proofs.Common.{◌≡◌, ◌≢◌, ℕ, ◌+◌, ◌*◌, ◌^◌, ◌<◌, ◌≤◌, ◌⊎◌, Bool, true, false, not, List, [], ◌∷◌, length, get_or, filter, All, AllPairs, Contains, sum_by}
 use Rattle.std.proofs.Common.{ℤ, pos, neg_ℤ, ◌-ℤ◌, ◌*ℤ◌, ◌≤ℤ◌, unsigned_abs, slice_index_or, Some, inl, inr, refl, sym, ap, subst, subst₂, ◌∙◌, arith, lit≤, le_trans}
 use Rattle.std.specs.Prelude.{◌==◌}
 use Rattle.std.specs.List.{range_with_len}
-use Rattle.std.proofs.lemmas.Bool.{ne_eqb, eq-eqb}
+use Rattle.std.proofs.Math.Nat.{mul_comm, one-mul, pos_of_ne-zero}
+use Rattle.std.proofs.lemmas.Bool.{ne_eqb, eq-eqb, false≢true}
 use Rattle.std.proofs.lemmas.Int.{ints}
 use Rattle.std.proofs.lemmas.List.{length-map}
-use Rattle.std.proofs.lemmas.List.Elements.{All-nil, All-cons, All-filter, All-map, All-contains, filter_passes}
+use Rattle.std.proofs.lemmas.List.Elements.{All-nil, All-filter, All-map, All-contains, filter_passes}
 use Rattle.std.proofs.lemmas.List.Kept.{AllPairs-filter}
 use Rattle.std.proofs.lemmas.List.Filters.{length-filter_both}
 use Rattle.std.proofs.lemmas.Nat.{mul-le}
@@ -16,7 +17,7 @@ use Rattle.msp_class.specs.declared.class.Crit.TheVariants.{Cmax, Lmax}
 use Rattle.msp_class.specs.declared.environments.EnvKind.{EnvKind}
 use Rattle.msp_class.specs.declared.environments.EnvKind.TheVariants.{Identical, Uniform, Unrelated, OpenShop, FlowShop, JobShop}
 use Rattle.msp_class.specs.declared.class.Times.{Times}
-use Rattle.msp_class.specs.declared.class.Times.TheVariants.{General, Unit as UnitTimes, Equal}
+use Rattle.msp_class.specs.declared.class.Times.TheVariants.{Equal}
 use Rattle.msp_class.specs.Crit.{is_greatest, uses_due}
 use Rattle.msp_class.specs.Env.{kind_of, is_mirror, is_mirror_kind}
 use Rattle.msp_class.proofs.Sums.{Contains-filter, sum_by-mono, sum_by-constant, OnceBelow-range, OnceBelow-distinct, OnceBelow-contains, length-OnceBelow}
@@ -34,43 +35,29 @@ use Rattle.msp_pieces.proofs.feasible.LastEnds.{last_end-least}
 use Rattle.msp_pieces.proofs.costs.Charges.{charge_of, cost_of-least}
 use Rattle.msp_pieces.proofs.feasible.Frames.{frame_by, frame_of, IsShaped-from_conditions, HasTimePerMachine, rate_on, rate_times, no_heads, Feasible-from_fits}
 use Rattle.msp_pieces.proofs.costs.Small.{due_within}
-use Rattle.msp_pieces.proofs.feasible.Series.{IsSerial, MayPrecede, task, tasks_of, tasks-sum, one_by_one, series-to, Fits-series}
+use Rattle.msp_pieces.proofs.feasible.Series.{IsSerial, MayPrecede, zero_only, task, tasks_of, tasks-sum, one_by_one, series-to, Fits-series}
 
 -- ---- the operations of a job, where each runs, and the unit over which it runs as a whole for its time
 abbrev has_time : Instance → ℕ → ℕ → Bool
 has_time i j o = not ((need_at i j o).time == 0)
 
 abbrev ops_by : EnvKind → Instance → ℕ → List ℕ
-ops_by Identical i j = 0 ∷ []
-ops_by Uniform i j = 0 ∷ []
-ops_by Unrelated i j = 0 ∷ []
 ops_by OpenShop i j = filter (has_time i j) (range_with_len 0 (length (job_at i j).needs))
 ops_by FlowShop i j = []
 ops_by JobShop i j = []
+ops_by _ i j = 0 ∷ []
 
 abbrev machine_by : EnvKind → Instance → ℕ → ℕ → ℕ
-machine_by Identical i j o = 0
-machine_by Uniform i j o = 0
-machine_by Unrelated i j o = 0
 machine_by OpenShop i j o = (need_at i j o).machine
-machine_by FlowShop i j o = 0
-machine_by JobShop i j o = 0
+machine_by _ i j o = 0
 
 abbrev unit_by : EnvKind → Instance → ℕ
-unit_by Identical i = 1
 unit_by Uniform i = slice_index_or i.speeds 0 0
-unit_by Unrelated i = 1
-unit_by OpenShop i = 1
-unit_by FlowShop i = 1
-unit_by JobShop i = 1
+unit_by _ i = 1
 
 abbrev most_by : EnvKind → ℕ
-most_by Identical = 1
-most_by Uniform = 1
-most_by Unrelated = 1
 most_by OpenShop = MOST_MACHINES
-most_by FlowShop = 1
-most_by JobShop = 1
+most_by _ = 1
 
 abbrev time_at : Instance → ℕ → ℕ → ℕ
 time_at i j o = (need_at i j o).time
@@ -84,20 +71,8 @@ record Facts (k : EnvKind) (T : ℕ) (i : Instance) : Type 0 where
   times : (j : ℕ) → j < length i.jobs → HasTimes (least_time k i.class.times) T (job_at i j).needs
   heads : (j : ℕ) → j < length i.jobs → (job_at i j).release ≡ 0
 
-only : (P : ℕ → Type 0) → P 0 → All P (0 ∷ [])
-only P p = All-cons P 0 [] p (All-nil P)
-
 alone : (R : ℕ → ℕ → Type 0) → AllPairs R (0 ∷ [])
 alone R i j d a b = absurd (omega arith)
-
-first : (o : ℕ) → o ≡ 0 → Contains (0 ∷ []) o
-first o e = (0, omega arith, sym e)
-
-same_product : (a b : ℕ) → a * b ≡ b * a
-same_product a b = omega arith
-
-time_only : (t : ℕ) → t * 1 ≡ 1 * t
-time_only t = omega arith
 
 -- in shops, the operations with a time
 module _ (i : Instance) (j : ℕ) where
@@ -110,14 +85,8 @@ module _ (i : Instance) (j : ℕ) where
   shop_has : All (λ o. (o < length (job_at i j).needs) × ((need_at i j o).time ≢ 0)) busy
   shop_has a d l = (
     All-filter (has_time i j) (λ o. o < length (job_at i j).needs) numbers (OnceBelow-range (length (job_at i j).needs)).within a d l,
-    timed (need_at i j (get_or busy a d)).time (filter_passes (has_time i j) numbers a d l),
+    λ z. false≢true (sym (ap not (eq-eqb _ 0 z)) ∙ filter_passes (has_time i j) numbers a d l),
   )
-    where
-      timed : (t : ℕ) → not (t == 0) ≡ true → t ≢ 0
-      timed t e z = absurd (never (t == 0) (eq-eqb t 0 z) e)
-        where
-          never : (b : Bool) → b ≡ true → not b ≡ true → ⊥
-          never b p q = absurd (cc)
 
   shop_all : (o : ℕ) → (o < length (job_at i j).needs) × ((need_at i j o).time ≢ 0) → Contains busy o
   shop_all o h = Contains-filter (has_time i j) numbers o (OnceBelow-contains (OnceBelow-range (length (job_at i j).needs)) o h.0) (ap not (ne_eqb _ _ h.1))
@@ -125,61 +94,40 @@ module _ (i : Instance) (j : ℕ) where
   shop_few : length busy ≤ length (job_at i j).needs
   shop_few = omega (arith, length-filter_both (has_time i j) (λ o. not (has_time i j o)) (λ o. refl) numbers, length-OnceBelow (OnceBelow-range (length (job_at i j).needs)))
 
-positive : (t : ℕ) → t ≢ 0 → 0 < t
-positive zero h = absurd (h refl)
-positive (suc t) h = omega arith
+unit_positive : (k : EnvKind) (T : ℕ) (i : Instance) → Facts k T i → 1 ≤ unit_by k i
+unit_positive Uniform T i h = (h.speeds.1 0 0 (omega (arith, h.speeds.0, h.machines))).0
+unit_positive _ T i h = omega arith
+
+-- on machines of one need, the rate on the first of them
+rate_first : (k : EnvKind) (T : ℕ) (i : Instance) → Facts k T i → (j : ℕ) → j < length i.jobs → time_at i j 0 * rate_on k i j 0 ≡ unit_by k i * whole_work k i j 0
+rate_first Unrelated T i h j l = mul_comm (time_at i j 0) (rate_on Unrelated i j 0) ∙ rate_times i j 0 (h.own refl) l (omega (arith, h.machines)) ∙ sym (one-mul _)
+rate_first _ T i h j l = mul_comm (time_at i j 0) _
 
 serial_by : (k : EnvKind) (T : ℕ) (i : Instance) → is_mirror_kind k ≡ true → Facts k T i → IsSerial (frame_by k i) (unit_by k i) (ops_by k i) (machine_by k i) (time_at i)
-serial_by Identical T i m h = record {
-  unit = omega arith;
-  has = λ j l. only (λ o. o ≡ 0) refl;
-  all = λ j o l e. first o e;
-  once = λ j l. alone (λ x y. x ≢ y);
-  may = λ j l. only (λ o. 0 < i.machines) (omega (arith, h.machines));
-  some = λ j l. only (λ o. 0 < time_at i j o) (h.times j l 0 no_need (omega (arith, (h.shape j l).0))).0;
-  rate = λ j l. only (λ o. time_at i j o * 1 ≡ 1 * time_at i j o) (time_only (time_at i j 0));
-  heads = h.heads;
-  unrouted = refl;
-}
-serial_by Uniform T i m h = record {
-  unit = (h.speeds.1 0 0 (omega (arith, h.speeds.0, h.machines))).0;
-  has = λ j l. only (λ o. o ≡ 0) refl;
-  all = λ j o l e. first o e;
-  once = λ j l. alone (λ x y. x ≢ y);
-  may = λ j l. only (λ o. 0 < i.machines) (omega (arith, h.machines));
-  some = λ j l. only (λ o. 0 < time_at i j o) (h.times j l 0 no_need (omega (arith, (h.shape j l).0))).0;
-  rate = λ j l. only (λ o. time_at i j o * slice_index_or i.speeds 0 0 ≡ slice_index_or i.speeds 0 0 * time_at i j o) (same_product (time_at i j 0) (slice_index_or i.speeds 0 0));
-  heads = h.heads;
-  unrouted = refl;
-}
-serial_by Unrelated T i m h = record {
-  unit = omega arith;
-  has = λ j l. only (λ o. o ≡ 0) refl;
-  all = λ j o l e. first o e;
-  once = λ j l. alone (λ x y. x ≢ y);
-  may = λ j l. only (λ o. 0 < i.machines) (omega (arith, h.machines));
-  some = λ j l. only (λ o. 0 < time_at i j o) (h.times j l 0 no_need (omega (arith, (h.shape j l).0, h.machines))).0;
-  rate = λ j l. only (λ o. time_at i j o * rate_on Unrelated i j 0 ≡ 1 * whole_work Unrelated i j o)
-      (same_product (time_at i j 0) (rate_on Unrelated i j 0) ∙ rate_times i j 0 (h.own refl) l (omega (arith, h.machines)) ∙ once (whole_work Unrelated i j 0));
-  heads = h.heads;
-  unrouted = refl;
-}
-  where
-    once : (q : ℕ) → q ≡ 1 * q
-    once q = omega arith
 serial_by OpenShop T i m h = record {
   unit = omega arith;
   has = λ j l. shop_has i j;
   all = λ j o l e. shop_all i j o e;
   once = λ j l. AllPairs-filter (λ x y. x ≢ y) (has_time i j) (numbers i j) (OnceBelow-distinct (OnceBelow-range (length (job_at i j).needs)));
   may = λ j l a d b. refl;
-  some = λ j l a d b. positive _ (shop_has i j a d b).1;
-  rate = λ j l a d b. time_only (time_at i j (get_or (busy i j) a d));
+  some = λ j l a d b. pos_of_ne-zero (shop_has i j a d b).1;
+  rate = λ j l a d b. mul_comm (time_at i j (get_or (busy i j) a d)) 1;
   heads = h.heads;
   unrouted = refl;
 }
 serial_by FlowShop T i m h = absurd (cc)
 serial_by JobShop T i m h = absurd (cc)
+serial_by k T i m h = record {
+  unit = unit_positive k T i h;
+  has = λ j l. zero_only (λ o. o ≡ 0) refl;
+  all = λ j o l e. (0, omega arith, sym e);
+  once = λ j l. alone (λ x y. x ≢ y);
+  may = λ j l. zero_only (λ o. 0 < i.machines) (omega (arith, h.machines));
+  some = λ j l. zero_only (λ o. 0 < time_at i j o) (h.times j l 0 no_need (omega (arith, (h.shape j l).0, h.machines))).0;
+  rate = λ j l. zero_only (λ o. time_at i j o * rate_on k i j 0 ≡ unit_by k i * whole_work k i j o) (rate_first k T i h j l);
+  heads = h.heads;
+  unrouted = refl;
+}
 
 -- the operations of a job take at most so often the greatest time
 job_sum : (k : EnvKind) (T : ℕ) (i : Instance) → Facts k T i → (j : ℕ) → j < length i.jobs → sum_by (λ x. time_at i x.job x.op) (tasks_of (ops_by k i) j) ≤ most_by k * T
@@ -194,24 +142,18 @@ job_sum k T i h j l = times_most (length (ops_by k i j)) (most_by k) T _ (few k 
     times_most a b t n h k = omega (arith, mul-le a t b t h (omega arith), k)
 
     few : (k : EnvKind) → Facts k T i → length (ops_by k i j) ≤ most_by k
-    few Identical h = omega arith
-    few Uniform h = omega arith
-    few Unrelated h = omega arith
     few OpenShop h = omega (arith, shop_few i j, (h.shape j l).0, h.machines)
-    few FlowShop h = omega arith
-    few JobShop h = omega arith
+    few _ h = omega arith
 
     short : (k : EnvKind) → Facts k T i → All (λ o. time_at i j o ≤ T) (ops_by k i j)
-    short Identical h = only (λ o. time_at i j o ≤ T) (h.times j l 0 no_need (omega (arith, (h.shape j l).0))).1
-    short Uniform h = only (λ o. time_at i j o ≤ T) (h.times j l 0 no_need (omega (arith, (h.shape j l).0))).1
-    short Unrelated h = only (λ o. time_at i j o ≤ T) (h.times j l 0 no_need (omega (arith, (h.shape j l).0, h.machines))).1
     short OpenShop h = λ a d b. (h.times j l (get_or (busy i j) a d) no_need (shop_has i j a d b).0).1
     short FlowShop h = All-nil (λ o. time_at i j o ≤ T)
     short JobShop h = All-nil (λ o. time_at i j o ≤ T)
+    short _ h = zero_only (λ o. time_at i j o ≤ T) (h.times j l 0 no_need (omega (arith, (h.shape j l).0, h.machines))).1
 
 -- ---- the order of the jobs
 module _ (i : Instance) (order : List ℕ) (q : IsSequence i order) (ends : All (λ a. (a.before < length i.jobs) × (a.after < length i.jobs)) i.arcs) (forward : All (GoesForward order) i.arcs) where
-  may_precede : AllPairs (MayPrecede i.arcs) order
+  pub may_precede : AllPairs (MayPrecede i.arcs) order
   may_precede a b d h k arc c e f =
       let (m, n, less, at, to) = All-contains (GoesForward order) i.arcs arc forward c in
       let w = All-contains (λ x. (x.before < length i.jobs) × (x.after < length i.jobs)) i.arcs arc ends c in
@@ -283,10 +225,7 @@ module _ (i : Instance) (s : Schedule) (time d u : ℕ) (early : IsEarly i time 
   end_small x h = ≤ℤ_trans h (pos-le (omega (arith, room time u unit_some)))
 
   late_small : (x y : ℤ) → x ≤ℤ pos time → neg_ℤ (pos d) ≤ℤ y → (x -ℤ (pos u *ℤ y)) ≤ℤ (pos u *ℤ pos (time + d))
-  late_small x y h k = ≤ℤ_trans (both x (pos u *ℤ y) time (u * d) h (subst (λ z. z ≤ℤ (pos u *ℤ y)) (*ℤ-neg (pos u) (pos d)) (*ℤ-mono u k))) (pos-le (room time u unit_some))
-    where
-      both : (x z : ℤ) (n m : ℕ) → x ≤ℤ pos n → neg_ℤ (pos m) ≤ℤ z → (x -ℤ z) ≤ℤ pos (n + m)
-      both x z n m h k = omega (arith, ints)
+  late_small x y h k = ≤ℤ_trans (omega (arith, ints, subst (λ z. z ≤ℤ (pos u *ℤ y)) (*ℤ-neg (pos u) (pos d)) (*ℤ-mono u k))) (pos-le (room time u unit_some))
 
   charge_small : (i.class.crit ≡ Cmax) ⊎ (i.class.crit ≡ Lmax) → (j : ℕ) → j < length i.jobs → charge_of i s j ≤ℤ (s.unit *ℤ pos (time + d))
   charge_small c j l = subst (λ v. job_cost i.class.crit v (job_at i j) (end_of s j) ≤ℤ (v *ℤ pos (time + d))) (sym is) (elim c [
@@ -315,25 +254,17 @@ best_is_cheap i s t bound f h b =
 -- ---- in numbers, within the limits that carried instances keep
 -- the units with which a best schedule ends by early_end
 abbrev pub unit_limit : EnvKind → ℕ
-unit_limit Identical = unsigned_abs GREATEST_UNIT
-unit_limit Uniform = unsigned_abs GREATEST_UNIT
 unit_limit Unrelated = unsigned_abs GREATEST_CARRIED_UNIT
 unit_limit OpenShop = GREATEST
-unit_limit FlowShop = unsigned_abs GREATEST_UNIT
-unit_limit JobShop = unsigned_abs GREATEST_UNIT
+unit_limit _ = unsigned_abs GREATEST_UNIT
 
 time_limit : (l : Limits) (times : Times) → GREATEST_EQUAL_TIME ≤ l.greatest_time → greatest_time l times ≤ l.greatest_time
-time_limit l General h = omega arith
-time_limit l UnitTimes h = omega arith
 time_limit l Equal h = h
+time_limit l _ h = omega arith
 
 equal_time_small : (k : EnvKind) → GREATEST_EQUAL_TIME ≤ (inner_limits k).greatest_time
 equal_time_small Identical = lit≤ tt
-equal_time_small Uniform = lit≤ tt
-equal_time_small Unrelated = lit≤ tt
-equal_time_small OpenShop = lit≤ tt
-equal_time_small FlowShop = lit≤ tt
-equal_time_small JobShop = lit≤ tt
+equal_time_small _ = lit≤ tt
 
 -- times at most T on c operations a job, due dates from -d, and a unit of at most u
 in_numbers : (u c T G d : ℕ) → T ≤ G → u * (MOST_JOBS * (c * G) + d) ≤ early_end → u * (MOST_JOBS * (c * T) + d) ≤ early_end
@@ -344,8 +275,7 @@ limits_small Identical T m h = in_numbers (unit_limit Identical) (most_by Identi
 limits_small Uniform T m h = in_numbers (unit_limit Uniform) (most_by Uniform) T _ _ h (lit≤ tt)
 limits_small Unrelated T m h = in_numbers (unit_limit Unrelated) (most_by Unrelated) T _ _ h (lit≤ tt)
 limits_small OpenShop T m h = in_numbers (unit_limit OpenShop) (most_by OpenShop) T _ _ h (lit≤ tt)
-limits_small FlowShop T m h = absurd (cc)
-limits_small JobShop T m h = absurd (cc)
+limits_small _ T m h = absurd (cc)
 
 pub best_ends_early : (i : Instance) (t : Schedule) → Inner i → is_mirror i.class.env ≡ true → i.class.heads ≡ false
     → (i.class.crit ≡ Cmax) ⊎ (i.class.crit ≡ Lmax) → Best i t → t.unit ≤ℤ pos (unit_limit (kind_of i.class.env)) → cost_of i t ≤ℤ pos early_end

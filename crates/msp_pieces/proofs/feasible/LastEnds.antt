@@ -1,5 +1,5 @@
 -- The end of a job: no piece of it ends later, and where it has a piece, one ends then.
-use Rattle.std.proofs.Common.{◌≡◌, ℕ, ◌<◌, List, length, get_or, map, filter, All, Contains, inl, inr, ℤ, pos, ◌*ℤ◌, ◌≤ℤ◌, ◌<ℤ◌, refl, sym, ap, subst, ◌∙◌, arith}
+use Rattle.std.proofs.Common.{◌≡◌, ℕ, ◌<◌, List, length, get_or, map, filter, All, Contains, inl, inr, ℤ, pos, ◌≤ℤ◌, ◌<ℤ◌, refl, sym, ap, subst, ◌∙◌, arith}
 use Rattle.std.specs.Prelude.{◌==◌}
 use Rattle.std.proofs.lemmas.Bool.{eqb-true, eq-eqb}
 use Rattle.std.proofs.lemmas.List.{length-map, get_or-map}
@@ -52,13 +52,3 @@ last_end-reached f unit ps fits works j l =
   where
     never : (a b z : ℤ) → (pos 0 ≤ℤ a) × (a <ℤ b) → b ≤ℤ z → z ≡ pos 0 → ⊥
     never a b z h k e = omega (arith, ints, h.0, h.1)
-
--- and it lies after the head
-pub last_end-after_head : (f : Frame) (unit : ℤ) (ps : List Piece) → Fits f unit ps → HasWork f → (j : ℕ) → j < f.jobs → (unit *ℤ pos (f.head j)) <ℤ last_end ps j
-last_end-after_head f unit ps fits works j l =
-    let (p, c, e) = piece_of f unit ps fits works j l in
-    subst (λ x. (unit *ℤ pos (f.head x)) <ℤ last_end ps x) e (after (unit *ℤ pos (f.head p.job)) p.from p.to (last_end ps p.job)
-    (All-contains (λ q. (unit *ℤ pos (f.head q.job)) ≤ℤ q.from) ps p fits.release c) (All-contains Lasts ps p fits.span c).1 (last_end-contains ps p c))
-  where
-    after : (h a b z : ℤ) → h ≤ℤ a → a <ℤ b → b ≤ℤ z → h <ℤ z
-    after h a b z p q r = omega (arith, ints)

@@ -1,6 +1,6 @@
 -- Feasible schedules on one machine, as lemmas on pieces in ℕ want them: begins and ends, work, and the sum of costs.
 use Rattle.std.proofs.Common.{◌≡◌, ℕ, zero, suc, ◌+◌, ◌*◌, ◌-◌, ◌<◌, ◌≤◌, max, Bool, true, false, cond, eqb, List, [], ◌∷◌, length, get_or, take, map, filter, fold, ℤ, pos}
-use Rattle.std.proofs.Common.{nat_abs, ◌+ℤ◌, ◌-ℤ◌, ◌*ℤ◌, ◌≤ℤ◌, ◌<ℤ◌, inl, inr, All, AllPairs, sum_by, MatchBool, MatchOption, refl, sym, ap, ◌∙◌, subst, arith, zero-add}
+use Rattle.std.proofs.Common.{nat_abs, ◌+ℤ◌, ◌-ℤ◌, ◌*ℤ◌, ◌≤ℤ◌, ◌<ℤ◌, inl, inr, All, AllPairs, sum_by, MatchBool, MatchOption, refl, sym, ap, ap₂, ◌∙◌, subst, arith, zero-add, add-one}
 use Rattle.std.specs.Prelude.{◌==◌, ◌&&◌, ⊤}
 use Rattle.std.specs.Int.{int_max}
 use Rattle.std.proofs.lemmas.Bool.{eqb-true, eq-eqb}
@@ -14,18 +14,19 @@ use Rattle.msp_class.specs.declared.class.Env.TheVariants.{One}
 use Rattle.msp_class.specs.declared.class.Crit.{Crit}
 use Rattle.msp_class.specs.declared.class.Crit.TheVariants.{SumWC}
 use Rattle.msp_class.specs.Env.{fixed_machines, kind_of}
-use Rattle.msp_class.proofs.IntegerRing.{natural, pos-same}
+use Rattle.msp_class.proofs.IntegerRing.{natural, pos-same, +ℤ_assoc, +ℤ_idl, +ℤ_idr}
 use Rattle.msp_pieces.specs.Intervals.{IsApart, IsApartOn, size_of, work_of}
 use Rattle.msp_pieces.proofs.lists.Intervals.{apart_from_one, last_of, greatest_by}
 use Rattle.msp_class.specs.Sums.{total_below, int_total_below}
 use Rattle.msp_class.proofs.Sums.{int_total_below-same, int_total_below-natural}
 use Rattle.msp_instance.specs.declared.Instance.{Instance}
-use Rattle.msp_instance.specs.Instance.{no_job, job_at, need_at}
-use Rattle.msp_instance.specs.Conditions.{Limits, MeetsConditions}
+use Rattle.msp_instance.specs.Instance.{no_need, no_job, job_at, need_at}
+use Rattle.msp_instance.specs.Conditions.{Limits, MeetsConditions, HasShape, HasTimes, least_time, greatest_time}
 use Rattle.msp_pieces.specs.declared.Piece.{Piece}
 use Rattle.msp_pieces.specs.declared.Schedule.{Schedule}
 use Rattle.msp_pieces.specs.Piece.{length_of, pieces_of, IsApart as AreApart, job_of, start, finish, IsTimed}
 use Rattle.msp_pieces.specs.Feasible.{Feasible, HasOperation, MayRun, IsWholeWork, total, whole_work, work_of as part_of}
+use Rattle.msp_pieces.specs.BackToBack.{time_at}
 use Rattle.msp_pieces.specs.Cost.{last_end, end_of, job_cost, job_costs, combined, cost_of}
 use Rattle.msp_pieces.proofs.costs.Costs.{length-job_costs, get_or-job_costs}
 
@@ -39,6 +40,27 @@ apart_in_nat p q t u h = elim h [ inl a ↦ inl (omega (arith, ints, a, t.to, u.
 
 pub apart_in_int : (p q : Piece) → IsTimed p → IsTimed q → IsApart start finish p q → AreApart p q
 apart_in_int p q t u h = elim h [ inl a ↦ inl (omega (arith, ints, a, t.to, u.from)) | inr a ↦ inr (omega (arith, ints, a, t.from, u.to)) ]
+
+-- how long a piece lasts
+pub length-timed : (p : Piece) → IsTimed p → length_of p ≡ pos (finish p - start p)
+length-timed p t = by p.from p.to (start p) (finish p) t.from t.to t.lasts
+  where
+    by : (x y : ℤ) (a b : ℕ) → x ≡ pos a → y ≡ pos b → a < b → y -ℤ x ≡ pos (b - a)
+    by x y a b e f h = omega (arith, ints)
+
+-- the pieces and the unit of a feasible schedule
+module _ (i : Instance) (s : Schedule) (f : Feasible i s) where
+  pub unit_in_parts : s.unit ≡ pos (nat_abs s.unit)
+  unit_in_parts = natural s.unit (omega (arith, ints, f.unit))
+
+  pub pieces_timed : All IsTimed s.pieces
+  pieces_timed k d l = IsTimed-from_span _ (f.span k d l)
+
+  pub machines_apart : AllPairs (IsApartOn (λ p. p.machine) start finish) s.pieces
+  machines_apart a b d h k e = apart_in_nat _ _ (pieces_timed a d (omega arith)) (pieces_timed b d k) (f.machine a b d h k e)
+
+  pub jobs_apart : AllPairs (IsApartOn job_of start finish) s.pieces
+  jobs_apart a b d h k e = apart_in_nat _ _ (pieces_timed a d (omega arith)) (pieces_timed b d k) (f.job a b d h k e)
 
 -- ---- lists
 pub filter-same : {X : Type 0} (f g : X → Bool) (xs : List X) → All (λ x. f x ≡ g x) xs → filter f xs ≡ filter g xs
@@ -68,30 +90,29 @@ fold-ends a [] h = ap pos (omega arith)
 fold-ends a (p ∷ ps) h =
     ap (λ x. fold int_max x (map (λ q. q.to) ps)) (ap (int_max (pos a)) (All-head IsTimed p ps h).to ∙ int_max-pos a (finish p))
     ∙ fold-ends (max a (finish p)) ps (All-tail IsTimed p ps h)
-    ∙ ap pos (max_assoc a (finish p) (greatest_by finish ps))
-  where
-    max_assoc : (a b c : ℕ) → max (max a b) c ≡ max a (max b c)
-    max_assoc a b c = omega arith
+    ∙ ap pos (omega arith)
 
 -- the end of a job is the greatest end of its pieces in ℕ
 pub last_end-is : (xs : List Piece) (j : ℕ) → All IsTimed xs → last_end xs j ≡ pos (last_of job_of finish xs j)
 last_end-is xs j h = fold-ends 0 (filter (λ p. p.job == j) xs) (All-filter (λ p. p.job == j) IsTimed xs h) ∙ ap pos (omega arith)
 
 -- ---- work
-fold-lengths : (a : ℕ) (xs : List Piece) → All IsTimed xs → fold ◌+ℤ◌ (pos a) (map length_of xs) ≡ pos (a + sum_by (size_of start finish) xs)
-fold-lengths a [] h = ap pos (omega arith)
-fold-lengths a (p ∷ ps) h =
-    let t = All-head IsTimed p ps h in
-    let one : pos a +ℤ length_of p ≡ pos (a + (finish p - start p)) = longer a (finish p) (start p) p.to p.from t.to t.from t.lasts in
-    ap (λ x. fold ◌+ℤ◌ x (map length_of ps)) one
-    ∙ fold-lengths (a + (finish p - start p)) ps (All-tail IsTimed p ps h)
-    ∙ ap pos (omega (arith, sum_by-cons (size_of start finish) p ps))
-  where
-    longer : (a m n : ℕ) (x y : ℤ) → x ≡ pos m → y ≡ pos n → n < m → pos a +ℤ (x -ℤ y) ≡ pos (a + (m - n))
-    longer a m n x y e f h = omega (arith, ints)
+total_from : (a : ℤ) (xs : List ℤ) → fold ◌+ℤ◌ a xs ≡ a +ℤ total xs
+total_from a [] = sym (+ℤ_idr a)
+total_from a (x ∷ xs) = total_from (a +ℤ x) xs ∙ +ℤ_assoc a x (total xs) ∙ ap (λ z. a +ℤ z) (sym (total_from (pos 0 +ℤ x) xs ∙ ap (λ z. z +ℤ total xs) (+ℤ_idl x)))
+
+pub total-cons : (x : ℤ) (xs : List ℤ) → total (x ∷ xs) ≡ x +ℤ total xs
+total-cons x xs = total_from (pos 0 +ℤ x) xs ∙ ap (λ z. z +ℤ total xs) (+ℤ_idl x)
+
+-- a total of integers that are natural numbers is their sum
+pub total_in_nat : {X : Type 0} (f : X → ℤ) (g : X → ℕ) (xs : List X) → All (λ x. f x ≡ pos (g x)) xs → total (map f xs) ≡ pos (sum_by g xs)
+total_in_nat f g [] h = refl
+total_in_nat f g (x ∷ xs) h =
+    total-cons (f x) (map f xs)
+    ∙ ap₂ ◌+ℤ◌ (All-head (λ y. f y ≡ pos (g y)) x xs h) (total_in_nat f g xs (All-tail (λ y. f y ≡ pos (g y)) x xs h)) ∙ ap pos (sym (sum_by-cons g x xs))
 
 pub total_lengths : (xs : List Piece) → All IsTimed xs → total (map length_of xs) ≡ pos (sum_by (size_of start finish) xs)
-total_lengths xs h = fold-lengths 0 xs h ∙ ap pos (zero-add (sum_by (size_of start finish) xs))
+total_lengths xs h = total_in_nat length_of (size_of start finish) xs (λ k d l. length-timed _ (h k d l))
 
 -- ---- the one machine
 pub record IsOneMachine (i : Instance) : Type 0 where
@@ -103,6 +124,15 @@ IsOneMachine-from_env l i e h = record {
   kind = ap kind_of e;
   one = subst (λ env. MatchOption (fixed_machines env) ⊤ (λ m. i.machines ≡ m)) e h.machines.2;
 }
+
+-- on one machine, as on any of the same speed, each job takes time
+pub takes_time : (l : Limits) (i : Instance) → kind_of i.class.env ≡ Identical → MeetsConditions l i → (j : ℕ) → j < length i.jobs → 0 < time_at i j
+takes_time l i kind h j less = let n = (h.jobs j no_job less).needs in by (kind_of i.class.env) kind n.shape n.times
+  where
+    by : (k : EnvKind) → k ≡ Identical → HasShape k i.class.env i.machines (job_at i j).needs
+        → HasTimes (least_time k i.class.times) (greatest_time l i.class.times) (job_at i j).needs → 0 < time_at i j
+    by Identical e s t = (t 0 no_need (omega (arith, s.0))).0
+    by _ e s t = absurd (cc)
 
 -- a schedule's pieces as the lemmas on intervals take them: D is the unit, and `time` says how long each job takes
 pub record IsPlan (i : Instance) (s : Schedule) : Type 0 where
@@ -116,7 +146,7 @@ pub record IsPlan (i : Instance) (s : Schedule) : Type 0 where
 -- on identical machines
 module _ (i : Instance) (kind : kind_of i.class.env ≡ Identical) (s : Schedule) (f : Feasible i s) where
   pub timed_pieces : All IsTimed s.pieces
-  timed_pieces k d l = IsTimed-from_span _ (f.span k d l)
+  timed_pieces = pieces_timed i s f
 
   operations : All (λ p. p.op ≡ 0) s.pieces
   operations k d l = subst (λ x. HasOperation x i (get_or s.pieces k d).job (get_or s.pieces k d).op) kind (f.place k d l).operation
@@ -125,7 +155,7 @@ module _ (i : Instance) (kind : kind_of i.class.env ≡ Identical) (s : Schedule
   machines_below k d l = subst (λ x. MayRun x i (get_or s.pieces k d).job (get_or s.pieces k d).op (get_or s.pieces k d).machine) kind (f.place k d l).machine
 
   pub apart_on_machines : AllPairs (IsApartOn (λ p. p.machine) start finish) s.pieces
-  apart_on_machines a b d h k e = apart_in_nat _ _ (timed_pieces a d (omega arith)) (timed_pieces b d k) (f.machine a b d h k e)
+  apart_on_machines = machines_apart i s f
 
   module _ (j : ℕ) (small : j < length i.jobs) where
     abbrev mine : List Piece
@@ -145,7 +175,7 @@ module _ (i : Instance) (kind : kind_of i.class.env ≡ Identical) (s : Schedule
     whole = nat_abs s.unit * (need_at i j 0).time
 
     unit_times : s.unit *ℤ pos (need_at i j 0).time ≡ pos whole
-    unit_times = ap (λ u. u *ℤ pos (need_at i j 0).time) (natural s.unit (omega (arith, ints, f.unit)))
+    unit_times = ap (λ u. u *ℤ pos (need_at i j 0).time) (unit_in_parts i s f)
 
     same_pieces : pieces_of s j 0 ≡ mine
     same_pieces = pieces_of-job s j operations
@@ -160,11 +190,8 @@ module _ (i : Instance) (kind : kind_of i.class.env ≡ Identical) (s : Schedule
         let passes = both_true
         _ _ (All-head (λ q. ((q.job == j) && (q.op == 0)) ≡ true) p [] (subst (All (λ q. ((q.job == j) && (q.op == 0)) ≡ true)) e (filter_passes (λ q. (q.job == j) && (q.op == 0)) s.pieces))) in
         let same : need_at i p.job p.op ≡ need_at i j 0 = ap (λ x. need_at i x p.op) (eqb-true _ _ passes.0) ∙ ap (need_at i j) (eqb-true _ _ passes.1) in
-        let size : pos (finish p - start p) ≡ pos whole = sym (lasts (finish p) (start p) p.to p.from t.to t.from t.lasts) ∙ h ∙ ap (λ n. s.unit *ℤ pos n.time) same ∙ unit_times in
+        let size : pos (finish p - start p) ≡ pos whole = sym (length-timed p t) ∙ h ∙ ap (λ n. s.unit *ℤ pos n.time) same ∙ unit_times in
         ap (sum_by (size_of start finish)) is ∙ zero-add (finish p - start p) ∙ pos-same size
-      where
-        lasts : (m n : ℕ) (x y : ℤ) → x ≡ pos m → y ≡ pos n → n < m → x -ℤ y ≡ pos (m - n)
-        lasts m n x y e f h = omega (arith, ints)
 
     pub full_work : work_of job_of start finish s.pieces j ≡ whole
     full_work = by i.class.cut gets
@@ -181,7 +208,7 @@ module _ (i : Instance) (m : IsOneMachine i) (s : Schedule) (f : Feasible i s) w
   -- a feasible schedule on one machine is a plan
   pub IsPlan-from_feasible : IsPlan i s
   IsPlan-from_feasible = record {
-    unit = natural s.unit (omega (arith, ints, f.unit));
+    unit = unit_in_parts i s f;
     some = omega (arith, ints, f.unit);
     timed = timed_pieces i m.kind s f;
     jobs = λ k d l. (f.place k d l).job;
@@ -193,11 +220,8 @@ module _ (i : Instance) (m : IsOneMachine i) (s : Schedule) (f : Feasible i s) w
 total-take : (xs : List ℤ) (k : ℕ) → k ≤ length xs → fold ◌+ℤ◌ (pos 0) (take k xs) ≡ int_total_below k (λ j. get_or xs j (pos 0))
 total-take xs zero h = refl
 total-take xs (suc k) h =
-    ap (λ n. fold ◌+ℤ◌ (pos 0) (take n xs)) same_suc ∙ fold_more ◌+ℤ◌ (pos 0) xs k (pos 0) (omega arith)
+    ap (λ n. fold ◌+ℤ◌ (pos 0) (take n xs)) (sym (add-one k)) ∙ fold_more ◌+ℤ◌ (pos 0) xs k (pos 0) (omega arith)
     ∙ ap (λ x. x +ℤ get_or xs k (pos 0)) (total-take xs k (omega arith))
-  where
-    same_suc : suc k ≡ k + 1
-    same_suc = omega arith
 
 pub total-below : (xs : List ℤ) → total xs ≡ int_total_below (length xs) (λ j. get_or xs j (pos 0))
 total-below xs = ap total (sym (take_all (length xs) xs (omega arith))) ∙ total-take xs (length xs) (omega arith)

@@ -1,20 +1,21 @@
 -- All operations one after another: in a frame without heads and routes it is feasible, and all ends when the times are over.
 use Rattle.std.proofs.Common.{◌≡◌, ◌≢◌, ℕ, zero, suc, ◌+◌, ◌*◌, ◌<◌, ◌≤◌, Bool, true, false, cond, List, [], ◌∷◌, ◌++◌, length, get_or, map, filter, All, AllPairs, Contains}
-use Rattle.std.proofs.Common.{sum_by, ℤ, pos, ◌-ℤ◌, ◌*ℤ◌, ◌≤ℤ◌, inl, refl, sym, ap, ap₂, subst, ◌∙◌, arith}
+use Rattle.std.proofs.Common.{sum_by, ℤ, pos, ◌*ℤ◌, ◌≤ℤ◌, inl, refl, sym, ap, ap₂, subst, ◌∙◌, arith}
 use Rattle.std.specs.Prelude.{◌==◌, ◌&&◌}
-use Rattle.std.proofs.lemmas.Bool.{eqb-true, eq-eqb}
+use Rattle.std.proofs.lemmas.Bool.{eqb-true, eq-eqb, false≢true}
 use Rattle.std.proofs.lemmas.Int.{ints}
 use Rattle.std.proofs.lemmas.List.Sums.{sum_by-append}
-use Rattle.std.proofs.lemmas.List.Elements.{All-nil, All-head, All-tail, All-map, All-append, All-contains, Contains-append_left, Contains-append_right, Contains-get_or}
+use Rattle.std.proofs.lemmas.List.Elements.{All-nil, All-cons, All-head, All-tail, All-map, All-append, All-contains, Contains-append_left, Contains-append_right, Contains-get_or}
 use Rattle.std.proofs.lemmas.List.Kept.{AllPairs-cons}
 use Rattle.msp_class.proofs.Sums.{AllPairs-head, AllPairs-tail, Contains-tail, OnceBelow, OnceBelow-distinct, OnceBelow-contains}
 use Rattle.msp_class.proofs.IntegerRing.{+ℤ_idl, *ℤ-zero}
 use Rattle.msp_instance.specs.declared.Arc.{Arc}
+use Rattle.msp_instance.proofs.ArcLemmas.{filter_none}
 use Rattle.msp_pieces.specs.declared.Piece.{Piece}
 use Rattle.msp_pieces.specs.Piece.{IsBefore, start, finish, IsTimed}
 use Rattle.msp_pieces.specs.Feasible.{total}
-use Rattle.msp_pieces.proofs.feasible.OneMachine.{both_true}
-use Rattle.msp_pieces.proofs.changes.Moves.{AllPairs-map, Contains-map, filter-map}
+use Rattle.msp_pieces.proofs.feasible.OneMachine.{both_true, length-timed}
+use Rattle.msp_pieces.proofs.changes.Moves.{AllPairs-map, Contains-map, filter-map, one_from_map}
 use Rattle.msp_pieces.proofs.feasible.Frames.{Frame, Lasts, Stands, Gets, Fits, of_operation, of_one, named_one, part}
 use Rattle.msp_pieces.specs.BackToBack.{back_to_back}
 use Rattle.msp_pieces.proofs.lists.BackToBack.{Makes, back_to_back-jobs, back_to_back-All, back_to_back-made, back_to_back-sizes, back_to_back-to, back_to_back-positive}
@@ -26,29 +27,20 @@ AllPairs-append R [] ys h k across = k
 AllPairs-append R (x ∷ xs) ys h k across = AllPairs-cons R x (xs ++ ys) (All-append (R x) xs ys (AllPairs-head R x xs h) (All-head (λ z. All (R z) ys) x xs across))
     (AllPairs-append R xs ys (AllPairs-tail R x xs h) k (All-tail (λ z. All (R z) ys) x xs across))
 
-filter_none : {X : Type 0} (test : X → Bool) (xs : List X) → All (λ x. test x ≡ false) xs → filter test xs ≡ []
-filter_none test [] h = refl
-filter_none test (x ∷ xs) h = ap (λ b. cond b (x ∷ filter test xs) (filter test xs)) (All-head (λ z. test z ≡ false) x xs h) ∙ filter_none test xs (All-tail (λ z. test z ≡ false) x xs h)
-
 -- of a list in which no two pass a test, the test keeps the one that does
 filter_one : {X : Type 0} (test : X → Bool) (xs : List X) (x : X) → AllPairs (λ a b. test a ≡ true → test b ≡ false) xs → Contains xs x → test x ≡ true → filter test xs ≡ x ∷ []
 filter_one test [] x u c e = absurd (omega (arith, c.1))
 filter_one {X} test (y ∷ ys) x u c e = by (test y) refl c (λ d. filter_one test ys x (AllPairs-tail (λ a b. test a ≡ true → test b ≡ false) y ys u) d e)
   where
-    never : (b : Bool) → b ≡ false → b ≡ true → ⊥
-    never b p q = absurd (cc)
-
     by : (b : Bool) → test y ≡ b → Contains (y ∷ ys) x → (Contains ys x → filter test ys ≡ x ∷ []) → cond b (y ∷ filter test ys) (filter test ys) ≡ x ∷ []
     by true k (zero, l, s) later = ap (λ z. z ∷ filter test ys) s ∙ ap (λ l. x ∷ l) (filter_none test ys (λ i d b. AllPairs-head (λ a b. test a ≡ true → test b ≡ false) y ys u i d b k))
-    by true k (suc n, l, s) later = absurd
-        (never (test x) (All-contains (λ b. test y ≡ true → test b ≡ false) ys x (AllPairs-head (λ a b. test a ≡ true → test b ≡ false) y ys u) (n, omega arith, s) k) e)
-    by false k c later = later (Contains-tail y ys x c (λ s. never (test x) (sym (ap test s) ∙ k) e))
+    by true k (suc n, l, s) later = absurd (false≢true
+        (sym (All-contains (λ b. test y ≡ true → test b ≡ false) ys x (AllPairs-head (λ a b. test a ≡ true → test b ≡ false) y ys u) (n, omega arith, s) k) ∙ e))
+    by false k c later = later (Contains-tail y ys x c (λ s. false≢true (sym k ∙ ap test s ∙ e)))
 
--- a list of which a map makes one element has one
-one_from_map : {X Y : Type 0} (f : X → Y) (xs : List X) (y : Y) → map f xs ≡ y ∷ [] → (x : X) × (xs ≡ x ∷ [])
-one_from_map f [] y e = absurd (cc)
-one_from_map f (x ∷ []) y e = (x, refl)
-one_from_map f (x ∷ z ∷ zs) y e = absurd (cc)
+-- what holds of 0 holds of all of the list of 0 alone
+pub zero_only : (P : ℕ → Type 0) → P 0 → All P (0 ∷ [])
+zero_only P p = All-cons P 0 [] p (All-nil P)
 
 -- ---- tasks: the operations of jobs
 pub record Task : Type 0 where
@@ -180,18 +172,13 @@ module _ (f : Frame) (D : ℕ) (ops : ℕ → List ℕ) (machine time : ℕ → 
       let p = get_or series k d in
       let t = timed k d l in
       ap₂ (λ x m. x *ℤ pos (f.rate p.job m))
-      (lasts_for (start p) (finish p) (time p.job p.op) p.from p.to t.from t.to (back_to_back-sizes (piece_on machine) time_of makes 0 all_tasks k d l)) (ap (λ q. q.machine) (made k d l))
+      (length-timed p t ∙ ap pos (omega (arith, back_to_back-sizes (piece_on machine) time_of makes 0 all_tasks k d l))) (ap (λ q. q.machine) (made k d l))
       ∙ ap pos (pieces (λ j n. time j n * f.rate j (machine j n) ≡ D * f.want j n) s.rate k d l)
-    where
-      lasts_for : (a b t : ℕ) (x y : ℤ) → x ≡ pos a → y ≡ pos b → b ≡ a + t → y -ℤ x ≡ pos t
-      lasts_for a b t x y e h s = omega (arith, ints)
 
   -- no two tasks have the same numbers
   distinct : AllPairs (λ x y. x.job ≡ y.job → x.op ≡ y.op → ⊥) all_tasks
-  distinct = tasks-AllPairs ops (λ x y. x.job ≡ y.job → x.op ≡ y.op → ⊥) order (λ a b d h k m n e q. OnceBelow-distinct o a b d h k e) (λ a d l. own (get_or order a d) (o.within a d l))
-    where
-      own : (j : ℕ) → j < f.jobs → AllPairs (λ m n. j ≡ j → m ≡ n → ⊥) (ops j)
-      own j l a b d h k e q = s.once j l a b d h k q
+  distinct = tasks-AllPairs ops (λ x y. x.job ≡ y.job → x.op ≡ y.op → ⊥) order (λ a b d h k m n e q. OnceBelow-distinct o a b d h k e)
+      (λ a d l b c e h k _ q. s.once (get_or order a d) (o.within a d l) b c e h k q)
 
   module _ (j n : ℕ) (inside : j < f.jobs) (has : f.Has j n) where
     abbrev test : Task → Bool
@@ -208,7 +195,7 @@ module _ (f : Frame) (D : ℕ) (ops : ℕ → List ℕ) (machine time : ℕ → 
     gets : Gets f (pos D) series j n
     gets =
         let back = sym (filter-map task_of test (λ p. (p.job == j) && (p.op == n)) series (λ a d l. refl)) ∙ ap (filter test) (back_to_back-jobs (piece_on machine) time_of makes 0 all_tasks) ∙ only in
-        let (p, e) = one_from_map task_of (of_operation series j n) (task j n) back in
+        let (p, e, _) = one_from_map task_of (of_operation series j n) (task j n) back in
         let named = named_one series j n p e in
         record {
           one = λ c. (p, e);
@@ -227,13 +214,10 @@ module _ (f : Frame) (D : ℕ) (ops : ℕ → List ℕ) (machine time : ℕ → 
       release = λ k d l. subst (λ h. (pos D *ℤ pos h) ≤ℤ (get_or series k d).from) (sym (pieces (λ j n. f.head j ≡ 0) (λ j h a e m. s.heads j h) k d l))
           (subst (λ z. z ≤ℤ (get_or series k d).from) (sym (*ℤ-zero (pos D))) (lasts k d l).0);
       arc = λ a d l. in_order (get_or f.arcs a d) (Contains-get_or f.arcs a d l) (loose a d l);
-      route = λ e. absurd (never f.routed s.unrouted e);
+      route = λ e. absurd (false≢true (sym s.unrouted ∙ e));
       work = gets;
     }
       where
-        never : (b : Bool) → b ≡ false → b ≡ true → ⊥
-        never b p q = absurd (cc)
-
         in_order : (a : Arc) → Contains f.arcs a → a.before ≢ a.after → All (λ p. All (λ q. p.job ≡ a.before → q.job ≡ a.after → IsBefore p q) series) series
         in_order a c apart k d l m e n h i =
             let p = get_or series k d in

@@ -1,9 +1,8 @@
 -- Jobs that may not be cut, on machines of any kind: each has one piece, and the pieces of one machine are apart.
-use Rattle.std.proofs.Common.{◌≡◌, ℕ, ◌*◌, ◌-◌, ◌≤◌, ◌<◌, false, ◌≢◌, ◌⊎◌, inl, inr, List, [], ◌∷◌, length, get_or, map, Contains, ℤ, pos, nat_abs, ◌-ℤ◌, ◌*ℤ◌, ◌≤ℤ◌, ◌<ℤ◌}
+use Rattle.std.proofs.Common.{◌≡◌, ℕ, ◌*◌, ◌-◌, ◌≤◌, ◌<◌, false, ◌≢◌, inl, inr, [], ◌∷◌, length, get_or, map, Contains, ℤ, pos, nat_abs, ◌-ℤ◌, ◌*ℤ◌, ◌≤ℤ◌, ◌<ℤ◌}
 use Rattle.std.proofs.Common.{MatchBool, arith, refl, sym, ap, subst, subst₂, ◌∙◌}
 use Rattle.std.specs.Prelude.{◌==◌, ◌&&◌}
 use Rattle.std.proofs.lemmas.Bool.{eqb-true}
-use Rattle.std.proofs.lemmas.Int.{ints}
 use Rattle.std.proofs.lemmas.List.Elements.{All-contains}
 use Rattle.msp_class.specs.declared.class.Crit.TheVariants.{SumC}
 use Rattle.msp_class.specs.Env.{kind_of}
@@ -19,7 +18,7 @@ use Rattle.msp_pieces.specs.Piece.{pieces_of, IsApart as AreApart, start, finish
 use Rattle.msp_pieces.specs.Feasible.{Feasible, HasPlace, HasOperation, IsWholeWork, total, work_of, whole_work}
 use Rattle.msp_pieces.specs.Cost.{end_of, job_cost, cost_of}
 use Rattle.msp_pieces.specs.Intervals.{IsApart}
-use Rattle.msp_pieces.proofs.feasible.OneMachine.{IsTimed-from_span, apart_in_nat, both_true}
+use Rattle.msp_pieces.proofs.feasible.OneMachine.{IsTimed-from_span, apart_in_nat, length-timed, both_true}
 use Rattle.msp_pieces.proofs.feasible.LastEnds.{last_end-contains}
 use Rattle.msp_pieces.proofs.costs.Charges.{cost_of-sum, charge_of}
 
@@ -29,10 +28,7 @@ only_piece s j = get_or (pieces_of s j 0) 0 no_piece
 
 -- how long a piece lasts, in ℕ
 pub length_in_nat : (p : Piece) (u : ℤ) (t : ℕ) → IsTimed p → pos 0 ≤ℤ u → p.to -ℤ p.from ≡ u *ℤ pos t → finish p - start p ≡ nat_abs u * t
-length_in_nat p u t h k e = pos-same (sym (lasts (finish p) (start p) p.to p.from h.to h.from h.lasts) ∙ e ∙ ap (λ x. x *ℤ pos t) (natural u k))
-  where
-    lasts : (m n : ℕ) (x y : ℤ) → x ≡ pos m → y ≡ pos n → n < m → x -ℤ y ≡ pos (m - n)
-    lasts m n x y e f h = omega (arith, ints)
+length_in_nat p u t h k e = pos-same (sym (length-timed p h) ∙ e ∙ ap (λ x. x *ℤ pos t) (natural u k))
 
 module _ (i : Instance) (s : Schedule) (whole : i.class.cut ≡ false) (works : (j : ℕ) → j < length i.jobs → HasOperation (kind_of i.class.env) i j 0) (f : Feasible i s) where
   pub record IsOnly (j : ℕ) (p : Piece) : Type 0 where
@@ -41,14 +37,12 @@ module _ (i : Instance) (s : Schedule) (whole : i.class.cut ≡ false) (works : 
     pub op : p.op ≡ 0
     pub work : IsWholeWork (kind_of i.class.env) i s.unit p
 
-  abbrev works_of : ℕ → List ℤ
-  works_of j = map (work_of (kind_of i.class.env) i) (pieces_of s j 0)
-
   abbrev HasOne : ℕ → Type 0
   HasOne j = (p : Piece) × (pieces_of s j 0 ≡ p ∷ []) × IsWholeWork (kind_of i.class.env) i s.unit p
 
   pub is_only : (j : ℕ) → j < length i.jobs → IsOnly j (only_piece s j)
-  is_only j l = by (subst (λ b. MatchBool b (total (works_of j) ≡ s.unit *ℤ pos (whole_work (kind_of i.class.env) i j 0)) (HasOne j)) whole (f.work j 0 l (works j l)))
+  is_only j l = let k = kind_of i.class.env in
+      by (subst (λ b. MatchBool b (total (map (work_of k i) (pieces_of s j 0)) ≡ s.unit *ℤ pos (whole_work k i j 0)) (HasOne j)) whole (f.work j 0 l (works j l)))
     where
       by : HasOne j → IsOnly j (only_piece s j)
       by (p, e, w) =
@@ -68,12 +62,9 @@ module _ (i : Instance) (s : Schedule) (whole : i.class.cut ≡ false) (works : 
     | inl r ↦ apart_in_nat (only_piece s a) (only_piece s b) (only_timed a l) (only_timed b m) (r on)
     | inr o ↦ elim o [
       | inl e ↦ absurd (ne (sym (is_only a l).job ∙ ap (λ p. p.job) e ∙ (is_only b m).job))
-      | inr r ↦ turned (apart_in_nat (only_piece s b) (only_piece s a) (only_timed b m) (only_timed a l) (r (sym on)))
+      | inr r ↦ apart_in_nat (only_piece s a) (only_piece s b) (only_timed a l) (only_timed b m) (elim (r (sym on)) [ inl x ↦ inr x | inr x ↦ inl x ])
     ]
   ]
-    where
-      turned : {w x y z : ℕ} → (w ≤ x) ⊎ (y ≤ z) → (y ≤ z) ⊎ (w ≤ x)
-      turned h = elim h [ inl a ↦ inr a | inr a ↦ inl a ]
 
   pub only_end : (j : ℕ) → j < length i.jobs → pos (finish (only_piece s j)) ≤ℤ end_of s j
   only_end j l =

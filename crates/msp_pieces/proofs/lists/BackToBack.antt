@@ -1,14 +1,13 @@
 -- The pieces of jobs that are laid one after another: `make j a b` is the piece of job j from a to b.
 use Rattle.std.proofs.Common.{◌≡◌, ℕ, suc, ◌+◌, ◌*◌, ◌-◌, ◌≤◌, ◌<◌, max, Bool, true, false, cond, eqb, ◌≢◌, inl, inr, List, [], ◌∷◌, ◌++◌, map, length, get_or, All, AllPairs}
-use Rattle.std.proofs.Common.{Contains, filter, sum_by, count_by, arith, refl, sym, ap, ap₂, subst, ◌∙◌}
+use Rattle.std.proofs.Common.{Contains, filter, sum_by, arith, refl, sym, ap, ap₂, subst, ◌∙◌}
 use Rattle.std.proofs.lemmas.List.Sums.{sum_by-cons}
 use Rattle.std.proofs.lemmas.List.Elements.{All-nil, All-cons, All-head, All-tail, Contains-append_right}
 use Rattle.std.proofs.lemmas.List.Kept.{AllPairs-cons}
 use Rattle.std.proofs.lemmas.Bool.{eqb-true, eqb-false, eq-eqb, ne_eqb}
 use Rattle.msp_class.specs.Sums.{total_below}
-use Rattle.msp_class.proofs.Sums.{sum_by-same, sum_by-scale, sum_by-OnceBelow, sum_by-filter, sum_by-map, total_below-same, OnceBelow, OnceBelow-distinct, OnceBelow-contains}
+use Rattle.msp_class.proofs.Sums.{sum_by-same, sum_by-OnceBelow, total_below-same, OnceBelow, OnceBelow-distinct, OnceBelow-contains}
 use Rattle.msp_class.proofs.Sums.{AllPairs-head, AllPairs-tail, AllPairs-contains, Contains-tail}
-use Rattle.msp_pieces.specs.Intervals.{IsApart, size_of, work_of}
 use Rattle.msp_pieces.proofs.lists.Intervals.{last_of, greatest_by}
 use Rattle.msp_pieces.specs.BackToBack.{weighted_ends, back_to_back}
 
@@ -90,9 +89,6 @@ module _ {X P : Type 0} (make : X → ℕ → ℕ → P) (p : X → ℕ) where
     back_to_back-in_order t (j ∷ js) = AllPairs-cons (λ q r. to q ≤ from r) (make j t (t + p j)) (back_to_back make p (t + p j) js)
         (λ k d l. omega (arith, makes.to_is j t (t + p j), back_to_back-from (t + p j) js k d l)) (back_to_back-in_order (t + p j) js)
 
-    pub back_to_back-apart : (t : ℕ) (js : List X) → AllPairs (IsApart from to) (back_to_back make p t js)
-    back_to_back-apart t js i j d a b = inl (back_to_back-in_order t js i j d a b)
-
     -- where no job of the list must wait for a later one, the pieces come in the order of the arcs
     pub back_to_back-arcs : (Arc : X → X → Type 0) (t : ℕ) (js : List X) → ((j : X) → ¬ (Arc j j)) → AllPairs (λ x y. ¬ (Arc y x)) js
         → (q r : P) → Contains (back_to_back make p t js) q → Contains (back_to_back make p t js) r → Arc (job q) (job r) → to q ≤ from r
@@ -103,22 +99,6 @@ module _ {X P : Type 0} (make : X → ℕ → ℕ → P) (p : X → ℕ) where
 
 -- ---- any list of jobs
 module _ {P : Type 0} (make : ℕ → ℕ → ℕ → P) (p : ℕ → ℕ) {job from to : P → ℕ} (makes : Makes make job from to) where
-  -- a job's pieces together last its time, as often as it stands in the list
-  pub back_to_back-work : (t : ℕ) (js : List ℕ) (j : ℕ) → work_of job from to (back_to_back make p t js) j ≡ p j * count_by (λ i. eqb i j) js
-  back_to_back-work t js j =
-      sum_by-filter (size_of from to) (λ q. eqb (job q) j) (back_to_back make p t js)
-      ∙ sum_by-same _ _ (back_to_back make p t js) (λ k d l. term (from (get_or (back_to_back make p t js) k d)) (to (get_or (back_to_back make p t js) k d))
-      (job (get_or (back_to_back make p t js) k d)) (eqb (job (get_or (back_to_back make p t js) k d)) j) refl (back_to_back-sizes make p makes t js k d l))
-      ∙ sum_by-scale (p j) (λ q. cond (eqb (job q) j) 1 0) (back_to_back make p t js)
-      ∙ ap (λ n. p j * n) (sym (sum_by-map (λ i. cond (eqb i j) 1 0) job (back_to_back make p t js)) ∙ ap (count_by (λ i. eqb i j)) (back_to_back-jobs make p makes t js))
-    where
-      term : (u v i : ℕ) (b : Bool) → eqb i j ≡ b → v ≡ u + p i → cond b (v - u) 0 ≡ p j * cond b 1 0
-      term u v i true e s = omega (arith, s, ap p (eqb-true i j e))
-      term u v i false e s = omega arith
-
-  pub back_to_back-work_once : (n t : ℕ) (js : List ℕ) → OnceBelow n js → (j : ℕ) → j < n → work_of job from to (back_to_back make p t js) j ≡ p j
-  back_to_back-work_once n t js o j l = back_to_back-work t js j ∙ ap (λ m. p j * m) (o.once j l) ∙ omega arith
-
   -- a job that is not in the list has no piece
   pub back_to_back-filter_none : (t : ℕ) (js : List ℕ) (j : ℕ) → All (λ i. i ≢ j) js → filter (λ q. eqb (job q) j) (back_to_back make p t js) ≡ []
   back_to_back-filter_none t [] j h = refl

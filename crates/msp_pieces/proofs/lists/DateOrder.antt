@@ -35,10 +35,7 @@ not_less x y a b h = by (int_lt x y) refl (int_lt y x) refl h
   where
     by : (s : Bool) → int_lt x y ≡ s → (t : Bool) → int_lt y x ≡ t → (y <ℤ x) ⊎ ((y ≡ x) × (b ≤ a)) → is_lt (ordering_then (cond s Less (cond t Greater Equal)) (nat_cmp a b)) ≡ false
     by true e t f (inl k) = absurd (omega (arith, ints))
-    by true e t f (inr k) = absurd (never x y e k.0)
-      where
-        never : (x y : ℤ) → int_lt x y ≡ true → y ≡ x → ⊥
-        never x y e k = omega (arith, ints)
+    by true e t f (inr k) = absurd (omega (arith, ints, k.0))
     by false e true f k = refl
     by false e false f (inl k) = absurd (omega (arith, ints))
     by false e false f (inr k) = not_number a b k.1

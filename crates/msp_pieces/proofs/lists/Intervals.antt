@@ -1,5 +1,5 @@
 -- Pieces of time [from, to) on machines: how much of an interval they fill.
-use Rattle.std.proofs.Common.{◌≡◌, ℕ, zero, suc, ◌+◌, ◌*◌, ◌-◌, ◌≤◌, ◌<◌, min, max, Bool, true, false, cond, eqb, leb, ◌≢◌, ◌⊎◌, List, [], ◌∷◌, length, get_or, All, AllPairs}
+use Rattle.std.proofs.Common.{◌≡◌, ℕ, zero, suc, ◌+◌, ◌*◌, ◌-◌, ◌≤◌, ◌<◌, min, max, Bool, true, false, cond, eqb, leb, ◌≢◌, List, [], ◌∷◌, length, get_or, All, AllPairs}
 use Rattle.std.proofs.Common.{Contains, filter, sum_by, le_trans, arith, refl, sym, ap, subst, ◌∙◌}
 use Rattle.std.proofs.lemmas.List.Sums.{sum_by-cons}
 use Rattle.std.proofs.lemmas.List.Elements.{All-filter, filter_passes, All-nil, All-cons, All-head, All-tail, All-contains, Contains-get_or}
@@ -21,34 +21,8 @@ overlap-add u v {a} {b} {c} h k = omega arith
 pub overlap-inside : {u v a b : ℕ} → a ≤ u → v ≤ b → overlap u v a b ≡ v - u
 overlap-inside {u} {v} {a} {b} h k = omega arith
 
-pub overlap-size : (u v a b : ℕ) → overlap u v a b ≤ v - u
-overlap-size u v a b = omega arith
-
-pub overlap-room : (u v a b : ℕ) → overlap u v a b ≤ b - a
-overlap-room u v a b = omega arith
-
-pub overlap-before : (u : ℕ) {v a : ℕ} (b : ℕ) → v ≤ a → overlap u v a b ≡ 0
-overlap-before u {v} {a} b h = omega arith
-
-pub overlap-after : {u : ℕ} (v a : ℕ) {b : ℕ} → b ≤ u → overlap u v a b ≡ 0
-overlap-after {u} v a {b} h = omega arith
-
--- with room before and after, the whole
-pub overlap-all : (u v : ℕ) → overlap u v 0 v ≡ v - u
-overlap-all u v = omega arith
-
-pub overlap_mono : (u v : ℕ) {a b c d : ℕ} → c ≤ a → b ≤ d → overlap u v a b ≤ overlap u v c d
-overlap_mono u v {a} {b} {c} {d} h k = omega arith
-
--- what lies before x or after y
-around : (x y u v a b : ℕ) → (y ≤ u) ⊎ (v ≤ x) → overlap u v a b ≤ overlap u v a (min b x) + overlap u v (max a y) b
-around x y u v a b h = omega arith
-
 fills : (x y a b s t : ℕ) → x ≤ y → s ≤ min b x - a → t ≤ b - max a y → overlap x y a b + (s + t) ≤ b - a
 fills x y a b s t h k l = omega arith
-
-empty : (x y a b s : ℕ) → y < x → s ≤ b - a → overlap x y a b + s ≤ b - a
-empty x y a b s h k = omega arith
 
 -- ---- pieces: elements of any type with the moments at which they begin and end
 -- how much of [a, b) a piece fills
@@ -65,7 +39,7 @@ packing {X} from to a b (x ∷ xs) h = by (leb (from x) (to x)) refl (packing fr
 
     parts : sum_by (overlap_of from to a b) xs ≤ sum_by (λ q. overlap_of from to a (min b (from x)) q + overlap_of from to (max a (to x)) b q) xs
     parts = sum_by-mono (overlap_of from to a b) (λ q. overlap_of from to a (min b (from x)) q + overlap_of from to (max a (to x)) b q)
-        xs (λ k d l. around (from x) (to x) (from (get_or xs k d)) (to (get_or xs k d)) a b (AllPairs-head (IsApart from to) x xs h k d l))
+        xs (λ k d l. omega (arith, AllPairs-head (IsApart from to) x xs h k d l))
 
     by : (t : Bool) → leb (from x) (to x) ≡ t → sum_by (overlap_of from to a b) xs ≤ b - a → sum_by (overlap_of from to a (min b (from x))) xs ≤ min b (from x) - a
         → sum_by (overlap_of from to (max a (to x)) b) xs ≤ b - max a (to x) → sum_by (overlap_of from to a b) (x ∷ xs) ≤ b - a
@@ -77,7 +51,7 @@ packing {X} from to a b (x ∷ xs) h = by (leb (from x) (to x)) refl (packing fr
       where
         along : (o s t u v w m : ℕ) → s ≡ o + t → t ≤ u → u ≡ v + w → o + (v + w) ≤ m → s ≤ m
         along o s t u v w m e h f k = omega arith
-    by false e whole before after = le_of_same (sum_by-cons (overlap_of from to a b) x xs) (empty (from x) (to x) a b _ (leb-false (from x) (to x) e) whole)
+    by false e whole before after = le_of_same (sum_by-cons (overlap_of from to a b) x xs) (omega (arith, leb-false (from x) (to x) e))
       where
         le_of_same : {m n k : ℕ} → m ≡ n → n ≤ k → m ≤ k
         le_of_same {m} {n} {k} e h = omega arith
@@ -161,14 +135,8 @@ greatest_by-reached {X} f (x ∷ []) h = (x, (0, omega arith, refl), omega arith
 greatest_by-reached {X} f (x ∷ y ∷ ys) h = by (leb (greatest_by f (y ∷ ys)) (f x)) refl (greatest_by-reached f (y ∷ ys) (omega arith))
   where
     by : (b : Bool) → leb (greatest_by f (y ∷ ys)) (f x) ≡ b → (z : X) × Contains (y ∷ ys) z × (f z ≡ greatest_by f (y ∷ ys)) → (z : X) × Contains (x ∷ y ∷ ys) z × (f z ≡ greatest_by f (x ∷ y ∷ ys))
-    by true e later = (x, (0, omega arith, refl), greater_left (f x) (greatest_by f (y ∷ ys)) (leb-true _ _ e))
-      where
-        greater_left : (m n : ℕ) → n ≤ m → m ≡ max m n
-        greater_left m n l = omega arith
-    by false e later = let (z, c, p) = later in (z, (suc c.0, omega (arith, c.1), c.2), p ∙ greater_right (f x) (greatest_by f (y ∷ ys)) (leb-false _ _ e))
-      where
-        greater_right : (m n : ℕ) → m < n → n ≡ max m n
-        greater_right m n l = omega arith
+    by true e later = (x, (0, omega arith, refl), omega (arith, leb-true _ _ e))
+    by false e later = let (z, c, p) = later in (z, (suc c.0, omega (arith, c.1), c.2), p ∙ omega (arith, leb-false _ _ e))
 
 -- the moment by which job j is complete: the greatest end of its pieces
 abbrev pub last_of : {X : Type 0} → (X → ℕ) → (X → ℕ) → List X → ℕ → ℕ
@@ -219,10 +187,6 @@ greatest_below-bound (suc n) f i l = by (eqb i n) refl (greatest_below-bound n f
     by true e later = omega (arith, ap f (eqb-true i n e))
     by false e later = let ne : i ≢ n = eqb-false i n e in omega (arith, later (omega arith))
 
-pub greatest_below-least : (n b : ℕ) (f : ℕ → ℕ) → ((i : ℕ) → i < n → f i ≤ b) → greatest_below n f ≤ b
-greatest_below-least zero b f h = omega arith
-greatest_below-least (suc n) b f h = omega (arith, h n (omega arith), greatest_below-least n b f (λ i l. h i (omega arith)))
-
 pub greatest_below-reached : (n : ℕ) (f : ℕ → ℕ) → 0 < n → (i : ℕ) × (i < n) × (f i ≡ greatest_below n f)
 greatest_below-reached zero f h = absurd (omega arith)
 greatest_below-reached (suc zero) f h = (0, omega arith, omega arith)
@@ -230,14 +194,8 @@ greatest_below-reached (suc (suc n)) f h = by (leb (greatest_below (suc n) f) (f
   where
     by : (b : Bool) → leb (greatest_below (suc n) f) (f (suc n)) ≡ b
         → (i : ℕ) × (i < suc n) × (f i ≡ greatest_below (suc n) f) → (i : ℕ) × (i < suc (suc n)) × (f i ≡ max (greatest_below (suc n) f) (f (suc n)))
-    by true e later = (suc n, omega arith, right (greatest_below (suc n) f) (f (suc n)) (leb-true _ _ e))
-      where
-        right : (a b : ℕ) → a ≤ b → b ≡ max a b
-        right a b l = omega arith
-    by false e later = let (i, l, s) = later in (i, omega arith, s ∙ left (greatest_below (suc n) f) (f (suc n)) (leb-false _ _ e))
-      where
-        left : (a b : ℕ) → b < a → a ≡ max a b
-        left a b l = omega arith
+    by true e later = (suc n, omega arith, omega (arith, leb-true _ _ e))
+    by false e later = let (i, l, s) = later in (i, omega arith, s ∙ omega (arith, leb-false _ _ e))
 
 -- ---- the law of ends
 -- where no piece of the jobs that pass a test begins before a, and they have work: one of them ends last, after a, and the work is at most m times as long as from a to there

@@ -10,7 +10,7 @@ use Rattle.std.proofs.lemmas.List.Kept.{AllPairs-cons}
 use Rattle.std.proofs.lemmas.List.Sorted.{IsPermutation-refl, IsPermutation-trans, IsPermutation-cons, IsPermutation-swap, IsPermutation-keeps, All-permutation, length_permutation}
 use Rattle.msp_class.proofs.Sums.{AllPairs-head, AllPairs-tail}
 use Rattle.msp_class.specs.declared.environments.EnvKind.{EnvKind}
-use Rattle.msp_class.specs.declared.environments.EnvKind.TheVariants.{Identical, Uniform, Unrelated, OpenShop, FlowShop, JobShop}
+use Rattle.msp_class.specs.declared.environments.EnvKind.TheVariants.{FlowShop, JobShop}
 use Rattle.msp_class.specs.Env.{kind_of}
 use Rattle.msp_instance.specs.declared.Instance.{Instance}
 use Rattle.msp_instance.specs.Instance.{job_at}
@@ -122,12 +122,9 @@ apart_both : (p q : Piece) → IsApart p q → IsApart q p
 apart_both p q a = elim a [ inl b ↦ inr b | inr b ↦ inl b ]
 
 route_permuted : (k : EnvKind) (ps qs : List Piece) → IsPermutation ps qs → FollowsRoute k ps → FollowsRoute k qs
-route_permuted Identical ps qs h r = r
-route_permuted Uniform ps qs h r = r
-route_permuted Unrelated ps qs h r = r
-route_permuted OpenShop ps qs h r = r
 route_permuted FlowShop ps qs h r = twice (λ p q. p.job ≡ q.job → p.op < q.op → IsBefore p q) ps qs h r
 route_permuted JobShop ps qs h r = twice (λ p q. p.job ≡ q.job → p.op < q.op → IsBefore p q) ps qs h r
+route_permuted _ ps qs h r = r
 
 module _ (i : Instance) (s t : Schedule) (units : s.unit ≡ t.unit) (h : IsPermutation s.pieces t.pieces) where
   mine : (j o : ℕ) → IsPermutation (pieces_of s j o) (pieces_of t j o)

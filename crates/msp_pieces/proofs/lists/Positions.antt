@@ -6,6 +6,7 @@ use Rattle.std.proofs.lemmas.Bool.{eqb-true, eqb-false, eq-eqb, leb-true, leb-fa
 use Rattle.std.proofs.lemmas.List.Elements.{filter_passes}
 use Rattle.std.proofs.lemmas.List.Kept.{AllPairs-filter}
 use Rattle.std.proofs.lemmas.List.FromFn.{length-range_with_len, get_or-range_with_len}
+use native.Mathlib.Nat.{mul-le-mul_left}
 use Rattle.msp_class.specs.Sums.{total_below}
 use Rattle.msp_class.proofs.Sums.{cond-yes, cond-no, cond-le, cond-count, sum_by-filter, total_below-mono, total_below-same, total_below-scale, total_below-none, total_below-bound}
 use Rattle.msp_class.proofs.Sums.{total_below-term, total_below-tight, total_below-only, total_below-exchange, total_below-range}
@@ -74,13 +75,10 @@ distinct_pairs n rows columns x y f inside once =
         let q = both_true _ _ g in
         once a b l h (eqb-true _ _ p.0 ∙ sym (eqb-true _ _ q.0)) (eqb-true _ _ p.1 ∙ sym (eqb-true _ _ q.1))
 
-    at_most : (w c : ℕ) → c ≤ 1 → w * c ≤ w
-    at_most w c h = grind arith
-
     term : (m k : ℕ) → total_below n (λ a. cond (hit m k a) (f m k) 0) ≤ f m k
     term m k =
         subst (λ t. t ≤ f m k) (sym (total_below-same n _ (λ a. f m k * cond (hit m k a) 1 0) (λ a l. cond-count (hit m k a) (f m k)) ∙ total_below-scale n (f m k) (λ a. cond (hit m k a) 1 0)))
-        (at_most (f m k) _ (count_at_most_one n (hit m k) (λ a b. same m k a b)))
+        (omega (arith, mul-le-mul_left (f m k) (count_at_most_one n (hit m k) (λ a b. same m k a b))))
 
 -- ---- jobs on machines, each in one piece
 module _ (n : ℕ) (machine finish : ℕ → ℕ) where
@@ -136,14 +134,14 @@ module _ (n : ℕ) (machine finish : ℕ → ℕ) where
     pub ends_after : (b : ℕ) → b < n → total_below n (λ a. cond (holds_up a b) (finish a - start a) 0) ≤ finish b
     ends_after b h =
         subst (λ t. t ≤ finish b) (sum_by-filter (size_of start finish) test (range_with_len 0 n) ∙ total_below-range n (λ a. cond (holds_up a b) (finish a - start a) 0))
-        (no_less (packed start finish 0 (finish b) chosen
-        (apart_from_one machine start finish (machine b) chosen on (AllPairs-filter (IsApartOn machine start finish) test (range_with_len 0 n) each)) inside))
+        (omega (
+          arith,
+          packed start finish 0 (finish b) chosen
+              (apart_from_one machine start finish (machine b) chosen on (AllPairs-filter (IsApartOn machine start finish) test (range_with_len 0 n) each)) inside,
+        ))
       where
         test : ℕ → Bool
         test a = holds_up a b
-
-        no_less : {t u : ℕ} → t ≤ u - 0 → t ≤ u
-        no_less {t} {u} k = omega arith
 
         chosen : List ℕ
         chosen = filter test (range_with_len 0 n)

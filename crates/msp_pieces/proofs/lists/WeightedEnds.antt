@@ -1,14 +1,13 @@
 -- Jobs back to back, each begun when the one before it ends: the weighted sum of their ends, and orders that no packing of pieces beats.
-use Rattle.std.proofs.Common.{◌≡◌, ℕ, ◌+◌, ◌*◌, ◌-◌, ◌≤◌, ◌<◌, Bool, true, false, cond, leb, List, [], ◌∷◌, ◌++◌, length, get_or, All, AllPairs, sum_by, IsPermutation, ℤ, pos}
-use Rattle.std.proofs.Common.{◌*ℤ◌, ◌≤ℤ◌, le_trans, arith, refl, sym, ap, subst, ◌∙◌}
-use Rattle.std.specs.List.{range_with_len, AllAdjacentBelow}
+use Rattle.std.proofs.Common.{◌≡◌, ℕ, ◌+◌, ◌*◌, ◌-◌, ◌≤◌, ◌<◌, Bool, true, false, cond, leb, List, [], ◌∷◌, ◌++◌, get_or, All, AllPairs, sum_by, IsPermutation}
+use Rattle.std.proofs.Common.{le_trans, arith, refl, sym, ap, subst, ◌∙◌}
+use Rattle.std.specs.List.{range_with_len}
 use Rattle.std.proofs.lemmas.List.Sums.{sum_by-cons}
 use Rattle.std.proofs.lemmas.Bool.{leb-false, le-leb, false≢true}
-use native.Mathlib.Nat.{le_of_mul-le-mul_left, mul-le-mul_left}
-use Rattle.msp_class.specs.Sums.{total_below, int_total_below}
+use native.Mathlib.Nat.{mul-le-mul_left}
+use Rattle.msp_class.specs.Sums.{total_below}
 use Rattle.msp_class.proofs.Sums.{sum_by-mono, sum_by-agree, sum_by-add, sum_by-scale, sum_by-scale_right, sum_by-OnceBelow, total_below-same, total_below-scale, cond-scale}
-use Rattle.msp_class.proofs.Sums.{cond-yes, OnceBelow, OnceBelow-from_permutation, int_total_below-natural, AllPairs-head, AllPairs-tail, AllPairs-from_adjacent}
-use Rattle.msp_class.proofs.IntegerRing.{pos-le}
+use Rattle.msp_class.proofs.Sums.{cond-yes, OnceBelow, OnceBelow-from_permutation, AllPairs-head, AllPairs-tail}
 use Rattle.msp_pieces.specs.Intervals.{IsApart, work_of}
 use Rattle.msp_pieces.proofs.lists.Intervals.{earlier_ends, last_of, last_of-bound}
 use Rattle.msp_pieces.specs.BackToBack.{weighted_ends}
@@ -24,12 +23,6 @@ module _ {X : Type 0} (p w : X → ℕ) where
   weighted_ends-later t s (j ∷ xs) =
       let move : t + s + p j ≡ t + p j + s = omega arith in
       omega (arith, ap (λ u. weighted_ends p w u xs) move, weighted_ends-later (t + p j) s xs, ap (λ n. s * n) (sum_by-cons w j xs))
-
-  pub weighted_ends-from : (t : ℕ) (xs : List X) → weighted_ends p w t xs ≡ weighted_ends p w 0 xs + t * sum_by w xs
-  weighted_ends-from t xs = ap (λ u. weighted_ends p w u xs) (omega arith) ∙ weighted_ends-later 0 t xs
-
-  pub weighted_ends-mono : {s t : ℕ} (xs : List X) → s ≤ t → weighted_ends p w s xs ≤ weighted_ends p w t xs
-  weighted_ends-mono {s} {t} xs h = let later : t ≡ s + (t - s) = omega arith in omega (arith, ap (λ u. weighted_ends p w u xs) later, weighted_ends-later s (t - s) xs)
 
   pub weighted_ends-append : (t : ℕ) (xs ys : List X) → weighted_ends p w t (xs ++ ys) ≡ weighted_ends p w t xs + weighted_ends p w (t + sum_by p xs) ys
   weighted_ends-append t [] ys = let same : t + 0 ≡ t = omega arith in omega (arith, ap (λ u. weighted_ends p w u ys) same)
@@ -49,14 +42,6 @@ module _ {X : Type 0} (p w : X → ℕ) where
   abbrev pub SmithBefore : X → X → Type 0
   SmithBefore a i = w i * p a ≤ w a * p i
 
-  -- it goes on past a job that takes time
-  pub SmithBefore_trans : (a b c : X) → 0 < p b → SmithBefore a b → SmithBefore b c → SmithBefore a c
-  SmithBefore_trans a b c positive h k = le_of_mul-le-mul_left {k = p b} (omega (arith, mul-le-mul_left (p c) h, mul-le-mul_left (p a) k)) positive
-
-  -- a list of which each job and the next stand so has each pair so
-  pub smith_from_adjacent : (xs : List X) → All (λ j. 0 < p j) xs → AllAdjacentBelow SmithBefore xs (length xs) → AllPairs SmithBefore xs
-  smith_from_adjacent xs h k = AllPairs-from_adjacent SmithBefore (λ j. 0 < p j) SmithBefore_trans xs h k
-
   pub Covers-from_smith : (c : X → ℕ) (a i : X) → SmithBefore a i → Covers c a i
   Covers-from_smith c a i h = by (w i) (w a) (p i) (p a) (leb (c a) (c i)) (leb (c i) (c a)) h (λ e. le-leb (c i) (c a) (omega (arith, leb-false (c a) (c i) e)))
     where
@@ -64,13 +49,6 @@ module _ {X : Type 0} (p w : X → ℕ) where
       by v u q r true d h k = omega arith
       by v u q r false true h k = omega arith
       by v u q r false false h k = absurd (false≢true (k refl))
-
-  pub Covers-from_ends : (c : X → ℕ) (a i : X) → c a ≤ c i → Covers c a i
-  Covers-from_ends c a i h = by (cond (leb (c i) (c a)) (p i) 0) (leb (c a) (c i)) (le-leb (c a) (c i) h)
-    where
-      by : (n : ℕ) (b : Bool) → b ≡ true → w i * p a ≤ w a * n + w i * cond b (p a) 0
-      by n true e = omega arith
-      by n false e = absurd (false≢true e)
 
   done_by-cons : (c : X → ℕ) (a : X) (xs : List X) (j : X) → done_by p c (a ∷ xs) j ≡ cond (leb (c a) (c j)) (p a) 0 + done_by p c xs j
   done_by-cons c a xs j = sum_by-cons (λ i. cond (leb (c i) (c j)) (p i) 0) a xs
@@ -100,22 +78,12 @@ module _ {X : Type 0} (p w : X → ℕ) where
       let later : weighted_ends p w (0 + p a) xs ≡ weighted_ends p w 0 xs + p a * sum_by w xs = weighted_ends-later 0 (p a) xs in
       omega (arith, cross, sum_by-scale_right (p a) w xs, weighted_done-cons c a xs, later, weighted_ends-le-weighted_done c xs (AllPairs-tail (Covers c) a xs h))
 
-  -- where each job ends no sooner than D times what ends no later takes, D times the row costs no more than the ends
-  pub covered_is_best : (D : ℕ) (c : X → ℕ) (xs : List X) → AllPairs (Covers c) xs → All (λ j. D * done_by p c xs j ≤ c j) xs → D * weighted_ends p w 0 xs ≤ sum_by (λ j. w j * c j) xs
-  covered_is_best D c xs h ends =
-      le_trans (mul-le-mul_left D (weighted_ends-le-weighted_done c xs h))
+  -- Smith's rule is best: where each job ends no sooner than D times what ends no later takes, D times the row costs no more than the ends
+  pub smith_is_best : (D : ℕ) (c : X → ℕ) (xs : List X) → AllPairs SmithBefore xs → All (λ j. D * done_by p c xs j ≤ c j) xs → D * weighted_ends p w 0 xs ≤ sum_by (λ j. w j * c j) xs
+  smith_is_best D c xs h ends =
+      le_trans (mul-le-mul_left D (weighted_ends-le-weighted_done c xs (λ i j d a b. Covers-from_smith c _ _ (h i j d a b))))
       (subst (λ n. n ≤ sum_by (λ j. w j * c j) xs) (sum_by-scale D (λ j. w j * done_by p c xs j) xs)
       (sum_by-mono (λ j. D * (w j * done_by p c xs j)) (λ j. w j * c j) xs (λ k d l. omega (arith, mul-le-mul_left (w (get_or xs k d)) (ends k d l)))))
-
-  AllPairs-weaker : (R S : X → X → Type 0) (xs : List X) → ((a i : X) → R a i → S a i) → AllPairs R xs → AllPairs S xs
-  AllPairs-weaker R S xs f h i j d a b = f _ _ (h i j d a b)
-
-  -- Smith's rule is best, and so is the order of the ends themselves
-  pub smith_is_best : (D : ℕ) (c : X → ℕ) (xs : List X) → AllPairs SmithBefore xs → All (λ j. D * done_by p c xs j ≤ c j) xs → D * weighted_ends p w 0 xs ≤ sum_by (λ j. w j * c j) xs
-  smith_is_best D c xs h = covered_is_best D c xs (AllPairs-weaker SmithBefore (Covers c) xs (Covers-from_smith c) h)
-
-  pub order_of_ends_is_best : (D : ℕ) (c : X → ℕ) (xs : List X) → AllPairs (λ a i. c a ≤ c i) xs → All (λ j. D * done_by p c xs j ≤ c j) xs → D * weighted_ends p w 0 xs ≤ sum_by (λ j. w j * c j) xs
-  order_of_ends_is_best D c xs h = covered_is_best D c xs (AllPairs-weaker (λ a i. c a ≤ c i) (Covers c) xs (Covers-from_ends c) h)
 
 -- ---- against any pieces on one machine. xs: pieces of the jobs below n; `last j` bounds the ends of the pieces of j
 module _ {X : Type 0} (job from to : X → ℕ) (n : ℕ) (xs : List X) where
@@ -133,34 +101,10 @@ module _ {X : Type 0} (job from to : X → ℕ) (n : ℕ) (xs : List X) where
           ∙ total_below-same n _ _ (λ i l. sym (cond-scale (leb (last i) (last j)) D (p i)) ∙ ap (λ m. cond (leb (last i) (last j)) m 0) (sym (full i l)))
 
   -- Smith: no pieces end, weighted, sooner than D times an order of the jobs by Smith's rule
-  pub smith_beats_pieces : (D : ℕ) (p w last : ℕ → ℕ) (order : List ℕ) → OnceBelow n order → AllPairs (SmithBefore p w) order
-      → All (λ q. job q < n) xs → AllPairs (IsApart from to) xs → ((j : ℕ) → j < n → work_of job from to xs j ≡ D * p j)
-      → All (λ q. to q ≤ last (job q)) xs → D * weighted_ends p w 0 order ≤ total_below n (λ j. w j * last j)
-  smith_beats_pieces D p w last order o smith jobs apart full ends =
-      subst (λ m. D * weighted_ends p w 0 order ≤ m) (sum_by-OnceBelow (λ j. w j * last j) o)
-      (smith_is_best p w D last order smith (λ k d l. ends_cover_work D p last order o jobs apart full ends (get_or order k d)))
-
-  -- the same of the order of the ends
-  pub order_of_ends_beats_pieces : (D : ℕ) (p w last : ℕ → ℕ) (order : List ℕ) → OnceBelow n order → AllPairs (λ a i. last a ≤ last i) order
-      → All (λ q. job q < n) xs → AllPairs (IsApart from to) xs → ((j : ℕ) → j < n → work_of job from to xs j ≡ D * p j)
-      → All (λ q. to q ≤ last (job q)) xs → D * weighted_ends p w 0 order ≤ total_below n (λ j. w j * last j)
-  order_of_ends_beats_pieces D p w last order o rises jobs apart full ends =
-      subst (λ m. D * weighted_ends p w 0 order ≤ m) (sum_by-OnceBelow (λ j. w j * last j) o)
-      (order_of_ends_is_best p w D last order rises (λ k d l. ends_cover_work D p last order o jobs apart full ends (get_or order k d)))
-
-  -- with the greatest end of each job's pieces, and an order that is a permutation of the jobs
   pub smith_beats_last : (D : ℕ) (p w : ℕ → ℕ) (order : List ℕ) → IsPermutation (range_with_len 0 n) order → AllPairs (SmithBefore p w) order
       → All (λ q. job q < n) xs → AllPairs (IsApart from to) xs → ((j : ℕ) → j < n → work_of job from to xs j ≡ D * p j)
       → D * weighted_ends p w 0 order ≤ total_below n (λ j. w j * last_of job to xs j)
   smith_beats_last D p w order perm smith jobs apart full =
-      smith_beats_pieces D p w (last_of job to xs) order (OnceBelow-from_permutation perm) smith jobs apart full (last_of-bound job to xs)
-
-  -- the same in ℤ, where the ends are the integers e
-  pub smith_beats_integers : (D : ℕ) (p w last : ℕ → ℕ) (e : ℕ → ℤ) (order : List ℕ) → OnceBelow n order → AllPairs (SmithBefore p w) order
-      → All (λ q. job q < n) xs → AllPairs (IsApart from to) xs → ((j : ℕ) → j < n → work_of job from to xs j ≡ D * p j)
-      → All (λ q. to q ≤ last (job q)) xs → ((j : ℕ) → j < n → e j ≡ pos (last j))
-      → (pos D *ℤ pos (weighted_ends p w 0 order)) ≤ℤ int_total_below n (λ j. pos (w j) *ℤ e j)
-  smith_beats_integers D p w last e order o smith jobs apart full ends is =
-      subst (λ z. pos (D * weighted_ends p w 0 order) ≤ℤ z)
-      (sym (int_total_below-natural n (λ j. pos (w j) *ℤ e j) (λ j. w j * last j) (λ j l. ap (λ z. pos (w j) *ℤ z) (is j l))))
-      (pos-le (smith_beats_pieces D p w last order o smith jobs apart full ends))
+      let o = OnceBelow-from_permutation perm in
+      subst (λ m. D * weighted_ends p w 0 order ≤ m) (sum_by-OnceBelow (λ j. w j * last_of job to xs j) o)
+      (smith_is_best p w D (last_of job to xs) order smith (λ k d l. ends_cover_work D p (last_of job to xs) order o jobs apart full (last_of-bound job to xs) (get_or order k d)))

@@ -9,10 +9,8 @@ divided_from : (num den s q u v : ℤ) (n w g : ℕ) → u ≡ num → v ≡ den
 divided_from num den s q u v n w g eu ev one en ew common whole above below =
     let num_size : n ≡ unsigned_abs num = en ∙ ap unsigned_abs eu in
     let den_size : w ≡ unsigned_abs den = ew ∙ ap unsigned_abs ev in
-    let P : ℕ → Type 0 = λ k. IsGcd k (unsigned_abs den) g in
-    let Q : ℕ → Type 0 = λ k. IsGcd n k g in
     record {
-      common = subst P num_size (subst Q den_size common);
+      common = subst (λ (k : ℕ). IsGcd k (unsigned_abs den) g) num_size (subst (λ (k : ℕ). IsGcd n k g) den_size common);
       positive = one;
       whole = whole ∙ ap (λ k. pos (k / g)) den_size;
       above = λ h. above (omega (arith, ints, h, eu)) ∙ ap (λ k. pos (k / g)) num_size;
@@ -27,9 +25,7 @@ same_again num den s q u v eu ev e = ap (λ k. num *ℤ k) ev ∙ e ∙ sym (ap 
 
 lowest_again : (s q u v : ℤ) → u ≡ s → v ≡ q → IsGcd (unsigned_abs s) (unsigned_abs q) 1 → IsGcd (unsigned_abs u) (unsigned_abs v) 1
 lowest_again s q u v eu ev h =
-    let P : ℤ → Type 0 = λ k. IsGcd (unsigned_abs k) (unsigned_abs v) 1 in
-    let Q : ℤ → Type 0 = λ k. IsGcd (unsigned_abs s) (unsigned_abs k) 1 in
-    subst P (sym eu) (subst Q (sym ev) h)
+    subst (λ (k : ℤ). IsGcd (unsigned_abs k) (unsigned_abs v) 1) (sym eu) (subst (λ (k : ℤ). IsGcd (unsigned_abs s) (unsigned_abs k) 1) (sym ev) h)
 
 pub invariant_of-result : goal.invariant_of-result
 invariant_of-result c =

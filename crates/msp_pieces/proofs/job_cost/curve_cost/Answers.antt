@@ -13,11 +13,10 @@ passed_small : (unit u base b end x : ℤ) (c : Curve) (adds : ℕ) → u ≡ un
     ((adds : ℕ) → adds ≤ sum_by (λ s. s.add) c.steps → LiesWithin greatest_level (unit *ℤ (base +ℤ pos adds))) →
     LiesWithin greatest_level (u *ℤ (b +ℤ pos adds))
 passed_small unit u base b end x c adds eu eb ea h =
-    let P : ℤ → Type 0 = λ k. LiesWithin greatest_level (k *ℤ (b +ℤ pos adds)) in
     let Q : ℤ → Type 0 = λ k. LiesWithin greatest_level (unit *ℤ (k +ℤ pos adds)) in
     let small = jumps_le x end c.steps in
     let R : ℕ → Type 0 = λ k. k ≤ sum_by (λ s. s.add) c.steps in
-    subst P (sym eu) (subst Q (sym eb) (h adds (subst R (sym ea) small)))
+    subst (λ (k : ℤ). LiesWithin greatest_level (k *ℤ (b +ℤ pos adds))) (sym eu) (subst Q (sym eb) (h adds (subst R (sym ea) small)))
 
 passed_level : (unit u base b end x : ℤ) (c : Curve) (r : ℤ) (adds : ℕ) → u ≡ unit → b ≡ base → x ≡ end → adds ≡ jumps u c x → r ≡ u *ℤ (b +ℤ pos adds) → r ≡ unit *ℤ (base +ℤ pos (jumps unit c end))
 passed_level unit u base b end x c r adds eu eb ex ea e =

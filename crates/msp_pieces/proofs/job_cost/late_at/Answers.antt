@@ -1,4 +1,4 @@
-use Rattle.std.proofs.Common.{true, false, pos, sym, ap, subst, ◌∙◌, arith, rules}
+use Rattle.std.proofs.Common.{pos, sym, ap, subst, ◌∙◌, arith, rules}
 use Rattle.std.specs.Int.{w64, w128}
 use Rattle.std.proofs.lemmas.Int.{ints, to_z-of_z}
 use Rattle.std.specs.Prelude.{if◌then◌else◌}
