@@ -1,7 +1,7 @@
 -- What the number of a row says of what comes back over it.
 use Rattle.std.proofs.Common.{if◌then◌else◌, ◌≡◌, ℕ, ◌≤◌, Bool, true, false, length, Some, IsSome, ℤ, ◌+ℤ◌, refl, sym, ap, subst, ◌∙◌, arith}
 use Rattle.std.specs.Prelude.{◌==◌, ◌||◌, not}
-use Rattle.std.proofs.lemmas.Bool.{eqb-true}
+use Rattle.std.proofs.lemmas.Bool.{eqb-true, false≢true}
 use Rattle.msp_class.specs.declared.class.Class.{Class}
 use Rattle.msp_class.specs.declared.class.Env.TheVariants.{Q2, Q}
 use Rattle.msp_class.specs.declared.environments.EnvKind.TheVariants.{Uniform}
@@ -61,11 +61,8 @@ KeepsBounds-unraised row i j before after low plain same unit few sized ends = r
   unit = unit;
   sized = sized;
   ends = λ moment e. subst (λ m. EndsBy m after) (sym (unraised row moment low)) (ends moment e);
-  dates = λ trades. absurd (apart (sym plain ∙ trades));
+  dates = λ trades. absurd (false≢true (sym plain ∙ trades));
 }
-  where
-    apart : false ≡ true → ⊥
-    apart h = cc
 
 -- what a row owes that keeps the schedule
 pub KeepsBounds-kept : (row : ℕ) (i j : Instance) (s : Schedule) → keeps_schedule row ≡ true → IsSized i s → KeepsBounds row i j s s

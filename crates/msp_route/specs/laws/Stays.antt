@@ -1,7 +1,7 @@
 -- Rows over which schedules stay as they are: both halves of the law, and costs by the table of rates.
 use Rattle.std.proofs.Common.{if◌then◌else◌, ◌≡◌, ℕ, Bool, true, false, pos, ◌+ℤ◌, ◌*ℤ◌, refl, sym, ap, ◌∙◌, arith}
 use Rattle.std.specs.Prelude.{◌==◌, ◌&&◌, ◌||◌, nat_le}
-use Rattle.std.proofs.lemmas.Bool.{and_parts, eqb-true, leb-true}
+use Rattle.std.proofs.lemmas.Bool.{and_parts, eqb-true, leb-true, false≢true}
 use Rattle.msp_class.proofs.IntegerRing.{≤ℤ_of_same, zero-*ℤ, +ℤ_idr}
 use Rattle.msp_instance.specs.declared.Instance.{Instance}
 use Rattle.msp_instance.specs.Conditions.{Inner}
@@ -24,10 +24,7 @@ pub other_row : (test : ℕ → Bool) (row n : ℕ) → test n ≡ false → tes
 other_row test row n fails passes = by (row == n) refl
   where
     by : (b : Bool) → (row == n) ≡ b → (row == n) ≡ false
-    by true e = absurd (apart (sym (ap test (eqb-true row n e) ∙ fails) ∙ passes))
-      where
-        apart : false ≡ true → ⊥
-        apart h = cc
+    by true e = absurd (false≢true (sym (ap test (eqb-true row n e) ∙ fails) ∙ passes))
     by false e = e
 
 -- where the schedule is kept, costs stay
