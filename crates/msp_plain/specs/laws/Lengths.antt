@@ -6,7 +6,7 @@ use Rattle.std.proofs.lemmas.Int.{ints}
 use Rattle.std.proofs.lemmas.Nat.{mul-le}
 use Rattle.std.proofs.lemmas.List.Elements.{All-head, All-tail, All-filter}
 use Rattle.msp_class.specs.declared.class.Env.{Env}
-use Rattle.msp_class.specs.declared.class.Env.TheVariants.{One, P2, P3, P as Parallel, Q2, Q, R2, R, O2, O3, O, F2, F3, F, J2Short, JShort, J2, J}
+use Rattle.msp_class.specs.declared.class.Env.TheVariants.{One}
 use Rattle.msp_class.specs.declared.class.Times.TheVariants.{Unit as UnitTimes}
 use Rattle.msp_class.specs.declared.environments.EnvKind.{EnvKind}
 use Rattle.msp_class.specs.declared.environments.EnvKind.TheVariants.{Identical, Uniform, Unrelated, OpenShop, FlowShop, JobShop}
@@ -106,23 +106,7 @@ module _ (f : Frame) (unit : ℤ) (ps : List Piece) (w : ℕ) (fits : Fits f uni
 -- ---- an instance of unit times
 few_operations : (e : Env) → most_operations e ≤ MOST_OPERATIONS
 few_operations One = omega arith
-few_operations P2 = omega arith
-few_operations P3 = omega arith
-few_operations Parallel = omega arith
-few_operations Q2 = omega arith
-few_operations Q = omega arith
-few_operations R2 = omega arith
-few_operations R = omega arith
-few_operations O2 = omega arith
-few_operations O3 = omega arith
-few_operations O = omega arith
-few_operations F2 = omega arith
-few_operations F3 = omega arith
-few_operations F = omega arith
-few_operations J2Short = omega arith
-few_operations JShort = omega arith
-few_operations J2 = omega arith
-few_operations J = omega arith
+few_operations _ = omega arith
 
 product_of_ones : (ns : List Need) → All (λ n. n.time ≡ 1) ns → product_of_times ns ≡ 1
 product_of_ones [] h = refl
@@ -136,28 +120,21 @@ module _ (l : Limits) (i : Instance) (h : MeetsConditions l i) (unit_times : i.c
   time_is o k = ones o no_need k
 
   few_by : (k : EnvKind) → HasShape k i.class.env i.machines (job_at i j).needs → (o : ℕ) → HasOperation k i j o → o < MOST_OPERATIONS
-  few_by Identical s o e = omega (arith, e)
-  few_by Uniform s o e = omega (arith, e)
-  few_by Unrelated s o e = omega (arith, e)
   few_by OpenShop s o e = omega (arith, s.0, e.0, h.machines.1)
   few_by FlowShop s o e = omega (arith, s.0, e.0, h.machines.1)
   few_by JobShop s o e = omega (arith, s.few, e.0, few_operations i.class.env)
+  few_by _ s o e = omega (arith, e)
 
   want_by : (k : EnvKind) → HasShape k i.class.env i.machines (job_at i j).needs → (o : ℕ) → HasOperation k i j o → whole_work k i j o ≡ 1
   want_by Identical s o e = time_is o (omega (arith, s.0, e))
   want_by Uniform s o e = time_is o (omega (arith, s.0, e))
   want_by Unrelated s o e = product_of_ones (job_at i j).needs ones
-  want_by OpenShop s o e = time_is o e.0
-  want_by FlowShop s o e = time_is o e.0
-  want_by JobShop s o e = time_is o e.0
+  want_by _ s o e = time_is o e.0
 
   rate_by : (k : EnvKind) → HasSpeeds k i.machines i.speeds → (k ≡ Unrelated → All (HasTimePerMachine i.machines) i.jobs) → (o m : ℕ) → MayRun k i j o m → 1 ≤ rate_on k i j m
-  rate_by Identical s own o m r = omega arith
   rate_by Uniform s own o m r = (s.1 m 0 (omega (arith, s.0, r))).0
   rate_by Unrelated s own o m r = rate_positive i j m (own refl) inside r
-  rate_by OpenShop s own o m r = omega arith
-  rate_by FlowShop s own o m r = omega arith
-  rate_by JobShop s own o m r = omega arith
+  rate_by _ s own o m r = omega arith
 
 wants_one : (l : Limits) (i : Instance) → MeetsConditions l i → i.class.times ≡ UnitTimes → WantsOne (frame_by (kind_of i.class.env) i) MOST_OPERATIONS
 wants_one l i h e = record {
