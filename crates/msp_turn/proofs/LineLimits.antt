@@ -3,11 +3,11 @@ use Rattle.std.proofs.Common.{◌≡◌, ℕ, ◌*◌, ◌<◌, ◌≤◌, List,
 use Rattle.std.specs.List.{range_with_len}
 use Rattle.std.proofs.lemmas.Int.{ints}
 use Rattle.msp_class.specs.declared.sizes.TheConstants.{MOST_JOBS, GREATEST, GREATEST_UNIT}
-use Rattle.msp_class.specs.declared.environments.EnvKind.TheVariants.{Identical, Unrelated}
+use Rattle.msp_class.specs.declared.environments.EnvKind.TheVariants.{Identical}
 use Rattle.msp_class.specs.declared.class.Env.{Env}
 use Rattle.msp_class.specs.declared.class.Env.TheVariants.{One}
 use Rattle.msp_class.specs.declared.class.Times.{Times}
-use Rattle.msp_class.specs.declared.class.Times.TheVariants.{General, Unit as UnitTimes, Equal}
+use Rattle.msp_class.specs.declared.class.Times.TheVariants.{General}
 use Rattle.msp_class.specs.Env.{kind_of}
 use Rattle.msp_class.proofs.Sums.{sum_by-mono, sum_by-constant, OnceBelow, OnceBelow-from_permutation, length-OnceBelow}
 use Rattle.msp_instance.specs.declared.Instance.{Instance}
@@ -28,8 +28,7 @@ use Rattle.msp_route.proofs.BackToBackSteps.{short_length, greatest_length}
 module _ (i : Instance) (one : i.class.env ≡ One) (inner : Inner i) where
   in_time : (t : Times) → greatest_time (inner_limits Identical) t ≤ GREATEST
   in_time General = omega arith
-  in_time UnitTimes = omega arith
-  in_time Equal = omega arith
+  in_time _ = omega arith
 
   pub short_needs : All (λ a. (0 < length a.needs) × ((slice_index_or a.needs 0 no_need).time ≤ GREATEST)) i.jobs
   short_needs k d l =
@@ -81,14 +80,11 @@ module _ (i : Instance) (one : i.class.env ≡ One) (inner : Inner i) where
         unit = (f.unit, small);
         few = omega (arith, few_pieces);
         moments = λ k d l. moments_of (get_or pieces k d) (timed k d l) (line_ends k d l);
-        scaled = λ u. absurd (not_unrelated (sym (ap kind_of one) ∙ u));
+        scaled = λ u. absurd (cc (sym (ap kind_of one) ∙ u));
       }
         where
           moments_of : (p : Piece) → IsTimed p → p.to ≤ℤ GREATEST_LINED_UP → IsMoment p.from × IsMoment p.to
           moments_of p t h = ((omega (arith, ints, t.from), omega (arith, ints, t.from, t.to, t.lasts, h)), (omega (arith, ints, t.to), omega (arith, ints, h)))
-
-          not_unrelated : Identical ≡ Unrelated → ⊥
-          not_unrelated h = cc
 
 -- the pieces as a schedule
 pub as_line : (i : Instance) (D : ℕ) (order : List ℕ) (unit : ℤ) (made : List Piece)
