@@ -41,12 +41,10 @@ IsSpreading-next n m row old now k size lr lk h v e = record {
     here = h.size ∙ size
 
     other : (r c : ℕ) → (r ≢ row) ⊎ (k + 1 ≤ c) → (r ≢ row) ⊎ (c ≢ k)
-    other r c (inl q) = inl q
-    other r c (inr q) = inr (λ e. omega arith)
+    other r c q = grind arith
 
     weaker : (r c : ℕ) → (r ≢ row) ⊎ (k + 1 ≤ c) → (r ≢ row) ⊎ (k ≤ c)
-    weaker r c (inl q) = inl q
-    weaker r c (inr q) = inr (omega arith)
+    weaker r c q = grind arith
 
 pub cell-abs : (m : Matrix) (r c : ℕ) → IsMatrix m → r < m.rows → c < m.columns → pos (nat_abs (cell m r c)) ≡ cell m r c
 cell-abs m r c h lr lc = abs-is (cell m r c) (h.cells r c lr lc)
@@ -71,12 +69,10 @@ IsSpreadBelow-next n m now next k a b lk h s = record {
 }
   where
     other : (r c : ℕ) → (k + 1 ≤ r) ⊎ (m.columns ≤ c) → (r ≢ k) ⊎ (m.columns ≤ c)
-    other r c (inl q) = inl (λ e. omega arith)
-    other r c (inr q) = inr q
+    other r c q = grind arith
 
     weaker : (r c : ℕ) → (k + 1 ≤ r) ⊎ (m.columns ≤ c) → (k ≤ r) ⊎ (m.columns ≤ c)
-    weaker r c (inl q) = inl (omega arith)
-    weaker r c (inr q) = inr q
+    weaker r c q = grind arith
 
 -- ---- lines
 pub total_below-part : (n k : ℕ) (f : ℕ → ℕ) → k < n → total_below k f + f k ≤ total_below n f
@@ -110,26 +106,16 @@ module _ (n : ℕ) (m : Matrix) (given : List ℕ) (a : m.rows ≤ n) (b : m.col
   pub column-none : (c : ℕ) → m.columns ≤ c → c < n → column_total n given c ≡ 0
   column-none c l ln = total_below-none n (λ r. cell_at n given r c) (λ r lr. h.outside r c lr ln (inr l))
 
-  below_or_not : (x k : ℕ) → (x < k) ⊎ (k ≤ x)
-  below_or_not x zero = inr (omega arith)
-  below_or_not x (suc k) = elim (below_or_not x k) [
-    | inl l ↦ inl (omega arith)
-    | inr l ↦ elim (same_or_not x k) [
-      | inl e ↦ inl (omega arith)
-      | inr e ↦ inr (omega arith)
-    ]
-  ]
-
   natural_most : (x : ℕ) (z : ℤ) (g : ℕ) → z ≡ pos x → z ≤ℤ pos g → x ≤ g
   natural_most x z g e l = omega (arith, ints)
 
   pub HasSmallLines-matrix : IsMatrix m → HasSmallLines n given
   HasSmallLines-matrix q = record {
-    rows = λ r l. elim (below_or_not r m.rows) [
+    rows = λ r l. elim (less_or_not r m.rows) [
       | inl s ↦ natural_most (row_total n given r) (row_sum m r) greatest_sum (row-is r s) (q.row_sums r s)
       | inr s ↦ let z = row-none r s l in omega (arith, z)
     ];
-    columns = λ c l. elim (below_or_not c m.columns) [
+    columns = λ c l. elim (less_or_not c m.columns) [
       | inl s ↦ natural_most (column_total n given c) (column_sum m c) greatest_sum (column-is c s) (q.column_sums c s)
       | inr s ↦ let z = column-none c s l in omega (arith, z)
     ];
@@ -191,8 +177,7 @@ module _ (n : ℕ) (rows columns : List ℕ) where
     only false k l = total_below-none n (λ c. 0) (λ c lc. refl)
 
     turn : (b c : Bool) → cond b (cond c s.both 0) 0 ≡ cond c (cond b s.both 0) 0
-    turn true true = refl
-    turn true false = refl
+    turn true c = refl
     turn false true = refl
     turn false false = refl
 
