@@ -13,8 +13,8 @@ use Rattle.msp_instance.specs.declared.Job.{Job}
 use Rattle.msp_instance.specs.declared.Instance.{Instance}
 use Rattle.msp_instance.specs.Instance.{no_need, job_at, common_time}
 use Rattle.msp_pieces.proofs.feasible.Frames.{job_at-map}
-use Rattle.msp_instance.specs.Conditions.{Limits, HasMachines, HasSpeeds, HasSmallMultiple, IsJobOf, HasNeeds, HasShape, HasTimes, HasSameTimes, HasRelease, HasDue, HasWeight, HasCurve, HasArcs, HasDegree}
-use Rattle.msp_instance.specs.Conditions.{HasNearDues, Inner, inner_limits, inner_factor, least_time, greatest_time}
+use Rattle.msp_instance.specs.Conditions.{Limits, HasMachines, HasSpeeds, HasSmallMultiple, IsJobOf, HasNeeds, HasShape, HasTimes, HasSameTimes, HasRelease, HasDue, HasWeight, HasCurve, HasArcs}
+use Rattle.msp_instance.specs.Conditions.{HasDegree, HasNearDues, Inner, inner_limits, inner_factor, least_time, greatest_time}
 
 -- the instance with another class, other machines and other jobs
 abbrev pub remade : Instance → Class → ℕ → List ℕ → List Job → Instance
