@@ -2,6 +2,7 @@
 use Rattle.std.proofs.Common.{◌≡◌, ◌≢◌, ℕ, zero, suc, ◌+◌, ◌-◌, ◌*◌, ◌<◌, ◌≤◌, ◌⊎◌, inl, inr, refl, List, Bool, true, false, eqb, ltb, length, set, cond, ℤ, pos, nat_abs, ◌≤ℤ◌}
 use Rattle.std.proofs.Common.{sym, ap, subst, ◌∙◌, arith}
 use Rattle.std.proofs.lemmas.Bool.{eq-eqb, ne_eqb}
+use Rattle.std.proofs.lemmas.Bool.Decides.{nat_tests}
 use Rattle.std.proofs.lemmas.Int.{ints}
 use Rattle.std.proofs.lemmas.List.{get_or-set_same, get_or-set_other, length-set}
 use Rattle.msp_class.specs.declared.sizes.TheConstants.{MOST_JOBS}
@@ -152,25 +153,8 @@ module _ (n : ℕ) (rows columns : List ℕ) where
     x = s.both
 
     cells : (r c : ℕ) → r < n → c < n → cell_at n padding2 r c ≡ cell_at n padding r c + cond (eqb i r) (cond (eqb j c) s.both 0) 0
-    cells r c lr lc = subst (λ xs. cell_at n xs r c ≡ cell_at n padding r c + cond (eqb i r) (cond (eqb j c) s.both 0) 0) (sym s.padding) (elim (same_or_not r i) [
-      | inl p ↦ subst (λ y. cell_at n (set padding (i * n + j) (cell_at n padding i j + s.both)) y c ≡ cell_at n padding y c + cond (eqb i y) (cond (eqb j c) s.both 0) 0)
-          (sym p) (elim (same_or_not c j) [
-            | inl q ↦ subst (λ y. cell_at n (set padding (i * n + j) (cell_at n padding i j + s.both)) i y ≡ cell_at n padding i y + cond (eqb i i) (cond (eqb j y) s.both 0) 0) (sym q)
-                (omega (
-                  arith,
-                  cell-same n padding i j (cell_at n padding i j + s.both) h.size li lj,
-                  ap (λ v. cond v (cond (eqb j j) s.both 0) 0) (eq-eqb i i refl),
-                  ap (λ v. cond v s.both 0) (eq-eqb j j refl),
-                ))
-            | inr q ↦ omega (
-              arith,
-              cell-other n padding i j (cell_at n padding i j + s.both) h.size li lj i c lc (inr q),
-              ap (λ v. cond v (cond (eqb j c) s.both 0) 0) (eq-eqb i i refl),
-              ap (λ v. cond v s.both 0) (ne_eqb j c (λ y. q (sym y))),
-            )
-          ])
-      | inr p ↦ omega (arith, cell-other n padding i j (cell_at n padding i j + s.both) h.size li lj r c lc (inl p), ap (λ v. cond v (cond (eqb j c) s.both 0) 0) (ne_eqb i r (λ y. p (sym y))))
-    ])
+    cells r c lr lc = rw s.padding
+        (grind (arith, nat_tests, cell-same n padding i j (cell_at n padding i j + s.both) h.size li lj, cell-other n padding i j (cell_at n padding i j + s.both) h.size li lj r c lc))
 
     only : (b : Bool) (k : ℕ) → k < n → total_below n (λ c. cond b (cond (eqb k c) s.both 0) 0) ≡ cond b s.both 0
     only true k l = total_below-only n (λ _. s.both) k l
@@ -193,11 +177,8 @@ module _ (n : ℕ) (rows columns : List ℕ) where
         ∙ ap (λ k. column_total n padding c + k) (only (eqb j c) i li)
 
     lowered : (xs ys : List ℕ) (k : ℕ) → k < n → length xs ≡ n → ys ≡ set xs k (at xs k - s.both) → s.both ≤ at xs k → (r : ℕ) → at ys r + cond (eqb k r) s.both 0 ≡ at xs r
-    lowered xs ys k l size q low r = subst (λ zs. at zs r + cond (eqb k r) s.both 0 ≡ at xs r) (sym q) (elim (same_or_not r k) [
-      | inl p ↦ subst (λ y. at (set xs k (at xs k - s.both)) y + cond (eqb k y) s.both 0 ≡ at xs y)
-          (sym p) (omega (arith, get_or-set_same xs k (at xs k - s.both) 0 (omega (arith, size)), ap (λ v. cond v s.both 0) (eq-eqb k k refl), low))
-      | inr p ↦ omega (arith, get_or-set_other xs k r (at xs k - s.both) 0 p, ap (λ v. cond v s.both 0) (ne_eqb k r (λ y. p (sym y))))
-    ])
+    lowered xs ys k l size q low r = rw q
+        (grind (arith, nat_tests, low, get_or-set_same xs k (at xs k - s.both) 0 (omega (arith, size)), get_or-set_other xs k r (at xs k - s.both) 0))
 
     lowered_total : (xs ys : List ℕ) (k : ℕ) → k < n → ((r : ℕ) → at ys r + cond (eqb k r) s.both 0 ≡ at xs r) → total_below n (λ r. at ys r) + s.both ≡ total_below n (λ r. at xs r)
     lowered_total xs ys k l q =

@@ -1,7 +1,8 @@
 -- The search grows, and never runs dry: Hall's count.
 use Rattle.std.proofs.Common.{◌≡◌, ◌≢◌, ℕ, zero, suc, ◌+◌, ◌*◌, ◌<◌, ◌≤◌, ◌⊎◌, inl, inr, refl, List, [], ◌∷◌, ◌++◌, Bool, true, false, eqb, ltb, length, set, map, Contains, All}
 use Rattle.std.proofs.Common.{cond, count_by, sum_by, get_or, sym, ap, subst, ◌∙◌, arith}
-use Rattle.std.proofs.lemmas.Bool.{ltb-true, eq-eqb, false≢true}
+use Rattle.std.proofs.lemmas.Bool.{ltb-true, eq-eqb}
+use Rattle.std.proofs.lemmas.Bool.Decides.{nat_tests}
 use Rattle.std.proofs.lemmas.List.{get_or-set_same, get_or-set_other, length-set, get_or_append_left, length-append, get_or-map, length-map, get_or_default}
 use Rattle.std.proofs.Math.Seq.{get_or-append_seam}
 use Rattle.std.proofs.lemmas.List.Elements.{Contains-get_or}
@@ -33,15 +34,7 @@ module _ (n : ℕ) (f : ℕ → ℕ → ℕ) (left : ℕ) (b : IsBalanced n f le
     held c = cond (test c) (sum_by (λ r. f r c) tree) 0
 
     all_in : (r c : ℕ) → (0 < f r c → test c ≡ true) → f r c ≤ cond (test c) (f r c) 0
-    all_in r c h = by (test c) h
-      where
-        by : (v : Bool) → (0 < f r c → v ≡ true) → f r c ≤ cond v (f r c) 0
-        by true q = omega arith
-        by false q = none (f r c) q
-          where
-            none : (m : ℕ) → (0 < m → false ≡ true) → m ≤ 0
-            none zero w = omega arith
-            none (suc m) w = absurd (false≢true (w (omega arith)))
+    all_in r c h = grind (arith, nat_tests)
 
     -- a row of the tree adds up to what it holds there
     row_in : (k : ℕ) → k < length tree → left ≤ total_below n (λ c. cond (test c) (f (at tree k) c) 0)
