@@ -1,5 +1,5 @@
 -- How long all pieces are together where all times are 1, and how late a schedule of them ends without its idle stretches.
-use Rattle.std.proofs.Common.{◌≡◌, ℕ, ◌*◌, ◌<◌, ◌≤◌, Bool, true, false, cond, eqb, List, [], ◌∷◌, length, get_or, map, filter, All, ℤ, pos, negsuc, nat_abs, ◌+ℤ◌, ◌*ℤ◌, ◌≤ℤ◌}
+use Rattle.std.proofs.Common.{◌≡◌, ℕ, ◌*◌, ◌<◌, ◌≤◌, Bool, eqb, List, [], ◌∷◌, length, get_or, map, filter, All, ℤ, pos, negsuc, nat_abs, ◌+ℤ◌, ◌*ℤ◌, ◌≤ℤ◌}
 use Rattle.std.proofs.Common.{sum_by, refl, sym, ap, ap₂, subst, ◌∙◌, arith}
 use Rattle.std.specs.Prelude.{◌==◌, ◌&&◌}
 use Rattle.std.proofs.lemmas.Int.{ints}
@@ -18,6 +18,7 @@ use Rattle.msp_instance.specs.declared.Need.{Need}
 use Rattle.msp_instance.specs.declared.Instance.{Instance}
 use Rattle.msp_instance.specs.Instance.{no_need, no_job, job_at, need_at}
 use Rattle.msp_instance.specs.Conditions.{Limits, MeetsConditions, HasShape, HasSpeeds, HasSameTimes}
+use Rattle.msp_pieces.proofs.lists.Places.{filter-both}
 use Rattle.msp_pieces.specs.declared.Piece.{Piece}
 use Rattle.msp_pieces.specs.declared.Schedule.{Schedule}
 use Rattle.msp_pieces.specs.Piece.{length_of, start, finish, IsTimed}
@@ -29,16 +30,6 @@ use Rattle.msp_pieces.proofs.feasible.Frames.{of_operation, of_operation-named, 
 use Rattle.msp_pieces.proofs.changes.Moves.{total-cons}
 
 -- ---- a sum by two keys
-module _ {X : Type 0} (p q : X → Bool) where
-  filter_both : (xs : List X) → filter q (filter p xs) ≡ filter (λ x. p x && q x) xs
-  filter_both [] = refl
-  filter_both (x ∷ xs) = by (p x) (q x) (filter_both xs)
-    where
-      by : (a b : Bool) → filter q (filter p xs) ≡ filter (λ x. p x && q x) xs
-          → filter q (cond a (x ∷ filter p xs) (filter p xs)) ≡ cond (a && q x) (x ∷ filter (λ x. p x && q x) xs) (filter (λ x. p x && q x) xs)
-      by true b e = ap (λ l. cond (q x) (x ∷ l) l) e
-      by false b e = e
-
 sum_by-two_keys : {X : Type 0} (a b f : X → ℕ) (n w most : ℕ) (xs : List X) → All (λ x. (a x < n) × (b x < w)) xs
     → ((i o : ℕ) → i < n → o < w → sum_by f (filter (λ x. eqb (a x) i && eqb (b x) o) xs) ≤ most) → sum_by f xs ≤ n * (w * most)
 sum_by-two_keys a b f n w most xs keys each =
@@ -47,7 +38,7 @@ sum_by-two_keys a b f n w most xs keys each =
     let mine = filter (λ x. eqb (a x) i) xs in
     subst (λ m. m ≤ w * most) (sym (sum_by-by_key_filter b f w mine (All-filter (λ x. eqb (a x) i) (λ x. b x < w) xs (λ k d h. (keys k d h).1))))
     (total_below-bound w most (λ o. sum_by f (filter (λ x. eqb (b x) o) mine)) (λ o h.
-    subst (λ ys. sum_by f ys ≤ most) (sym (filter_both (λ x. eqb (a x) i) (λ x. eqb (b x) o) xs)) (each i o l h)))))
+    subst (λ ys. sum_by f ys ≤ most) (sym (filter-both (λ x. eqb (a x) i) (λ x. eqb (b x) o) xs)) (each i o l h)))))
 
 -- ---- over a frame
 total-mono : (f g : Piece → ℤ) (ps : List Piece) → All (λ p. f p ≤ℤ g p) ps → total (map f ps) ≤ℤ total (map g ps)
