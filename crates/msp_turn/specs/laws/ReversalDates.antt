@@ -1,12 +1,11 @@
 -- The rows that read schedules from their end, and in which release dates and due dates take each other's places.
-use Rattle.std.proofs.Common.{◌≡◌, ℕ, suc, ◌*◌, ◌<◌, ◌≤◌, Bool, true, false, List, [], ◌∷◌, length, get_or, map, fold, All, Contains, inl, inr, ℤ, pos, negsuc, neg_ℤ, ◌+ℤ◌, ◌-ℤ◌}
+use Rattle.std.proofs.Common.{◌≡◌, ℕ, ◌*◌, ◌<◌, ◌≤◌, Bool, true, false, List, length, get_or, map, All, ℤ, pos, negsuc, neg_ℤ, ◌+ℤ◌, ◌-ℤ◌}
 use Rattle.std.proofs.Common.{◌*ℤ◌, ◌≤ℤ◌, Some, unwrap_or, refl, sym, ap, subst, ◌∙◌, arith}
 use Rattle.std.specs.Prelude.{unsigned_abs}
-use Rattle.std.specs.Int.{int_max}
 use Rattle.std.proofs.lemmas.Bool.{eqb-true, and_parts}
-use Rattle.std.proofs.lemmas.Int.{ints, fold-int_max_bounds, fold-int_max_reached}
+use Rattle.std.proofs.lemmas.Int.{ints}
 use Rattle.std.proofs.lemmas.List.{length-map, get_or-map, get_or_default}
-use Rattle.std.proofs.lemmas.List.Elements.{All-map, All-nil, All-cons}
+use Rattle.std.proofs.lemmas.List.Elements.{All-map}
 use Rattle.msp_class.specs.declared.class.Crit.{Crit}
 use Rattle.msp_class.specs.declared.class.Crit.TheVariants.{Cmax, Lmax}
 use Rattle.msp_class.specs.declared.environments.EnvKind.{EnvKind}
@@ -22,6 +21,7 @@ use Rattle.msp_instance.specs.declared.Instance.{Instance}
 use Rattle.msp_instance.specs.Instance.{no_job, job_at}
 use Rattle.msp_instance.specs.Conditions.{Limits, LiesWithin, IsJobOf, HasSameTimes, HasRelease, HasDue, HasWeight, HasCurve, Inner, inner_limits, inner_factor}
 use Rattle.msp_pieces.specs.Cost.{job_cost, greatest}
+use Rattle.msp_pieces.proofs.costs.Charges.{greatest-bound, greatest-reached}
 use Rattle.msp_pieces.proofs.feasible.Frames.{no_heads, job_at-map}
 use Rattle.msp_pieces.proofs.changes.Serves.{SameNeeds-from_map}
 use Rattle.msp_pieces.proofs.changes.Mirror.{turned_arcs as arcs_turned, turned_back}
@@ -145,15 +145,6 @@ releases_fit i inner k d l = release_fits (kind_of i.class.env) i.class.heads (g
 pub size_of_natural : (z : ℤ) → pos 0 ≤ℤ z → pos (unsigned_abs z) ≡ z
 size_of_natural (pos n) h = refl
 size_of_natural (negsuc n) h = absurd (omega (arith, ints))
-
--- the greatest due date is one, and none is greater
-greatest-bound : (xs : List ℤ) → All (λ x. x ≤ℤ greatest xs) xs
-greatest-bound [] = All-nil (λ x. x ≤ℤ pos 0)
-greatest-bound (x ∷ xs) = let h = fold-int_max_bounds x xs (fold int_max x xs) refl in All-cons (λ y. y ≤ℤ fold int_max x xs) x xs h.0 h.1
-
-greatest-reached : (xs : List ℤ) → 0 < length xs → Contains xs (greatest xs)
-greatest-reached [] h = absurd (omega arith)
-greatest-reached (x ∷ xs) h = elim (fold-int_max_reached x xs (fold int_max x xs) refl) [ inl e ↦ (0, omega arith, sym e) | inr c ↦ (suc c.0, omega (arith, c.1), c.2) ]
 
 latest : (i : Instance) (k : ℕ) → k < length i.jobs → (job_at i k).due ≤ℤ greatest_due i
 latest i k l = subst (λ x. x ≤ℤ greatest_due i) (get_or-map (λ j. j.due) i.jobs k no_job (pos 0) l) (greatest-bound (map (λ j. j.due) i.jobs) k (pos 0) (omega (arith, length-map i.jobs (λ j. j.due))))
