@@ -5,8 +5,6 @@ use Rattle.std.proofs.lemmas.Int.{ints}
 use Rattle.std.proofs.lemmas.Nat.{mul-le}
 use Rattle.std.proofs.lemmas.List.Sorted.{IsPermutation-refl}
 use Rattle.std.specs.List.Sorted.{IsPermutation}
-use Rattle.msp_class.specs.declared.environments.EnvKind.TheVariants.{Uniform, Unrelated}
-use Rattle.msp_class.specs.Env.{kind_of}
 use Rattle.msp_class.proofs.IntegerRing.{pos-le, le-pos}
 use Rattle.msp_class.specs.declared.sizes.TheConstants.{GREATEST_MULTIPLE}
 use Rattle.msp_instance.specs.declared.Instance.{Instance}
@@ -49,18 +47,12 @@ module _ {row : ℕ} {i j : Instance} (h : IsLedBySpeeds row i j) (t : Schedule)
   unit_is : IsUnit (t.unit *ℤ pos (least_common_multiple i.speeds))
   unit_is = unit_fits t.unit (least_common_multiple i.speeds) unit_small.0 unit_small.1 h.some h.small
 
-  other_kind : (kind_of i.class.env ≡ Unrelated) → ⊥
-  other_kind e = apart (sym h.from ∙ e)
-    where
-      apart : Uniform ≡ Unrelated → ⊥
-      apart e = cc
-
   pub Within-after : Within i after
   Within-after = record {
     unit = unit_is;
     few = b.sized.few;
     moments = λ k d l. let s = f.span k d l in moment _ _ s.0 s.1 (b.ends k d l);
-    scaled = λ e. absurd (other_kind e);
+    scaled = λ e. absurd (cc (sym h.from ∙ e));
   }
 
   pub feasible_after : Feasible i after

@@ -190,12 +190,7 @@ impl Reduction for Row39 {
         without_empty_operations(alloc, inst, self.row())
     }
 
-    fn back(
-        &self,
-        _alloc: Global,
-        _inst: &Instance,
-        lower: Solution,
-    ) -> Result<Solution, NoMemory> {
+    fn back(&self, _: Global, _inst: &Instance, lower: Solution) -> Result<Solution, NoMemory> {
         Ok(numbered_by_machine(lower))
     }
 
@@ -233,12 +228,7 @@ impl Reduction for Row40 {
         without_empty_operations(alloc, inst, self.row())
     }
 
-    fn back(
-        &self,
-        _alloc: Global,
-        _inst: &Instance,
-        lower: Solution,
-    ) -> Result<Solution, NoMemory> {
+    fn back(&self, _: Global, _inst: &Instance, lower: Solution) -> Result<Solution, NoMemory> {
         Ok(numbered_by_machine(lower))
     }
 

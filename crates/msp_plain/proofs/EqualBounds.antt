@@ -3,17 +3,15 @@ use Rattle.std.proofs.Common.{◌≤◌, length, get_or, inr, pos, ◌≤ℤ◌,
 use Rattle.std.proofs.lemmas.Int.{ints}
 use Rattle.std.proofs.lemmas.List.{length-map}
 use Rattle.std.proofs.lemmas.List.Sorted.{All-permutation, length_permutation}
-use Rattle.msp_class.specs.declared.environments.EnvKind.{EnvKind}
-use Rattle.msp_class.specs.declared.environments.EnvKind.TheVariants.{Identical, Uniform, Unrelated, OpenShop, FlowShop, JobShop}
 use Rattle.msp_class.specs.Env.{kind_of}
-use Rattle.msp_class.proofs.IntegerRing.{≤ℤ_refl, ≤ℤ_trans}
+use Rattle.msp_class.proofs.IntegerRing.{≤ℤ_trans}
 use Rattle.msp_instance.specs.declared.Instance.{Instance}
 use Rattle.msp_instance.specs.Instance.{common_time}
 use Rattle.msp_instance.specs.Conditions.{Inner}
 use Rattle.msp_pieces.specs.declared.Piece.{Piece}
 use Rattle.msp_pieces.specs.declared.Frac.{Frac}
 use Rattle.msp_pieces.specs.declared.Schedule.{Schedule}
-use Rattle.msp_class.specs.declared.sizes.TheConstants.{MOST_PIECES, GREATEST_UNIT}
+use Rattle.msp_class.specs.declared.sizes.TheConstants.{MOST_PIECES}
 use Rattle.msp_pieces.specs.Feasible.{Feasible}
 use Rattle.msp_pieces.specs.Fraction.{IsOver}
 use Rattle.msp_pieces.specs.Cost.{cost_of, IsSolution}
@@ -22,25 +20,17 @@ use Rattle.msp_route.specs.Law.{Applies, IsBack, IsReordered}
 use Rattle.msp_route.specs.Bounds.{EndsBy, IsBounded, KeepsBounds, greatest_unit}
 use Rattle.msp_route.specs.declared.bounds.TheConstants.{GREATEST_CLOSED_UP}
 use Rattle.msp_plain.specs.Equal.{moved, led_to_unit, closed, closed_up}
+use Rattle.msp_route.proofs.KindLimits.{greatest_unit-most}
 use Rattle.msp_route.specs.Rates.{by_common_time}
 use Rattle.msp_plain.specs.laws.EqualTimes.{led_is, leads_54, reordered_54, early_54}
 use Rattle.msp_pieces.specs.Busy.{busy_moment}
-
--- no kind has a greater unit than the greatest
-most_unit : (k : EnvKind) → greatest_unit k ≤ℤ GREATEST_UNIT
-most_unit Identical = ≤ℤ_refl _
-most_unit Uniform = ≤ℤ_refl _
-most_unit Unrelated = omega (arith, ints)
-most_unit OpenShop = ≤ℤ_refl _
-most_unit FlowShop = ≤ℤ_refl _
-most_unit JobShop = ≤ℤ_refl _
 
 module _ (i : Instance) (inner : Inner i) (applies : Applies 54 i) (t : Schedule) (f : Feasible (led_to_unit i) t) (b : IsBounded (led_to_unit i) t) where
   small : t.unit ≤ℤ greatest_unit (kind_of i.class.env)
   small = subst (λ j. t.unit ≤ℤ greatest_unit (kind_of j.class.env)) (led_is i (leads_54 i applies)) b.sized.unit
 
   pub early : EndsBy GREATEST_CLOSED_UP (closed_up (common_time i) t)
-  early = early_54 i t inner applies f (≤ℤ_trans small (most_unit (kind_of i.class.env)))
+  early = early_54 i t inner applies f (≤ℤ_trans small (greatest_unit-most (kind_of i.class.env)))
 
   module _ (s : Schedule) (h : IsReordered (closed_up (common_time i) t) s) where
     law : IsBack (by_common_time i) i (led_to_unit i) t s
@@ -63,7 +53,7 @@ module _ (i : Instance) (inner : Inner i) (applies : Applies 54 i) (t : Schedule
 
     pub within_back : Within i s
     within_back = record {
-      unit = (feasible_back.unit, ≤ℤ_trans unit_back (most_unit (kind_of i.class.env)));
+      unit = (feasible_back.unit, ≤ℤ_trans unit_back (greatest_unit-most (kind_of i.class.env)));
       few = few;
       moments = λ k d l. moments_of (get_or s.pieces k d) (feasible_back.span k d l) (ends k d l);
       scaled = λ e. inr (subst (λ k. s.unit ≤ℤ greatest_unit k) e unit_back);

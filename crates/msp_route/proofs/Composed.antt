@@ -5,7 +5,7 @@ use Rattle.std.proofs.lemmas.Int.{ints}
 use Rattle.msp_class.proofs.IntegerRing.{≤ℤ_refl, ≤ℤ_trans}
 use Rattle.msp_class.specs.declared.NoMemory.{NoMemory}
 use Rattle.msp_class.specs.declared.environments.EnvKind.{EnvKind}
-use Rattle.msp_class.specs.declared.environments.EnvKind.TheVariants.{Identical, Uniform, Unrelated, OpenShop, FlowShop, JobShop}
+use Rattle.msp_class.specs.declared.environments.EnvKind.TheVariants.{OpenShop}
 use Rattle.msp_class.specs.Env.{kind_of}
 use Rattle.msp_instance.specs.declared.Instance.{Instance}
 use Rattle.msp_pieces.specs.declared.Schedule.{Schedule}
@@ -21,12 +21,8 @@ use Rattle.msp_route.proofs.BestBack.{Best-from_back}
 
 -- the unit of an answer is one that a way back takes
 unit-wider : (k : EnvKind) → answer_unit k ≤ℤ greatest_unit k
-unit-wider Identical = ≤ℤ_refl _
-unit-wider Uniform = ≤ℤ_refl _
-unit-wider Unrelated = ≤ℤ_refl _
 unit-wider OpenShop = omega (arith, ints)
-unit-wider FlowShop = ≤ℤ_refl _
-unit-wider JobShop = ≤ℤ_refl _
+unit-wider _ = ≤ℤ_refl _
 
 EndsBy-later : (a b : ℤ) (s : Schedule) → a ≤ℤ b → EndsBy a s → EndsBy b s
 EndsBy-later a b s h ends = λ k d l. ≤ℤ_trans (ends k d l) h
@@ -59,23 +55,16 @@ ends-composed row upper lower t s keeps ends low = by (row == 47) refl
 
 -- in open shops the unit stays
 unit-composed : (k l : EnvKind) (before after : ℤ) → (k ≡ OpenShop → l ≡ OpenShop) → (k ≡ OpenShop → after ≡ before) → after ≤ℤ greatest_unit k → before ≤ℤ answer_unit l → after ≤ℤ answer_unit k
-unit-composed Identical l before after stays same h a = h
-unit-composed Uniform l before after stays same h a = h
-unit-composed Unrelated l before after stays same h a = h
-unit-composed FlowShop l before after stays same h a = h
-unit-composed JobShop l before after stays same h a = h
 unit-composed OpenShop l before after stays same h a =
     subst (λ x. x ≤ℤ GREATEST_OPEN_UNIT) (sym (same refl)) (subst (λ x. before ≤ℤ answer_unit x) (stays refl) a)
+unit-composed _ l before after stays same h a = h
 
 open_unit : (row : ℕ) (upper lower : Instance) (t s : Schedule) → IsLower row upper lower → KeepsBounds row upper lower t s → kind_of upper.class.env ≡ OpenShop → s.unit ≡ t.unit
 open_unit row upper lower t s led keeps open_shop = by (keeps_size row) refl
   where
     by : (b : Bool) → keeps_size row ≡ b → s.unit ≡ t.unit
     by true e = keeps.unit e
-    by false e = absurd (apart (sym open_shop ∙ from_uniform row upper.class lower.class led.class e))
-      where
-        apart : OpenShop ≡ Uniform → ⊥
-        apart f = cc
+    by false e = absurd (cc (sym open_shop ∙ from_uniform row upper.class lower.class led.class e))
 
 IsAnswer-composed : (row : ℕ) (upper lower : Instance) (t s : Schedule) → IsLower row upper lower
     → IsAnswer lower t → KeepsBounds row upper lower t s → (turns_dates row ≡ true → cost_of lower t ≤ℤ GREATEST_ANSWER_MOMENT) → IsAnswer upper s

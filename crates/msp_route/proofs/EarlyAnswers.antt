@@ -4,7 +4,7 @@ use Rattle.std.proofs.lemmas.Bool.{eqb-true}
 use Rattle.msp_class.specs.declared.class.Class.{Class}
 use Rattle.msp_class.specs.declared.class.Crit.TheVariants.{Cmax, Lmax}
 use Rattle.msp_class.specs.declared.environments.EnvKind.{EnvKind}
-use Rattle.msp_class.specs.declared.environments.EnvKind.TheVariants.{Identical, Uniform, Unrelated, OpenShop, FlowShop, JobShop}
+use Rattle.msp_class.specs.declared.environments.EnvKind.TheVariants.{Identical}
 use Rattle.msp_class.specs.Env.{kind_of, is_mirror}
 use Rattle.msp_class.specs.Order.{turned}
 use Rattle.msp_instance.specs.declared.Instance.{Instance}
@@ -34,11 +34,7 @@ row_47_leads a c e = by (has_all a (HeadsIs true ∷ CritIs Cmax ∷ [])) (is_mi
 
 unit_is : (k : EnvKind) → answer_unit k ≡ pos (unit_limit k)
 unit_is Identical = refl
-unit_is Uniform = refl
-unit_is Unrelated = refl
-unit_is OpenShop = refl
-unit_is FlowShop = refl
-unit_is JobShop = refl
+unit_is _ = refl
 
 pub turned_cost : (row : ℕ) (upper lower : Instance) (t : Schedule) → turns_dates row ≡ true
     → IsLower row upper lower → Best lower t → t.unit ≤ℤ answer_unit (kind_of lower.class.env) → cost_of lower t ≤ℤ GREATEST_ANSWER_MOMENT

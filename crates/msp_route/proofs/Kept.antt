@@ -1,7 +1,7 @@
 -- What the number of a row says of what comes back over it.
-use Rattle.std.proofs.Common.{if◌then◌else◌, ◌≡◌, ℕ, ◌≤◌, Bool, true, false, length, Some, IsSome, ℤ, ◌+ℤ◌, refl, sym, ap, subst, ◌∙◌, arith}
+use Rattle.std.proofs.Common.{◌≡◌, ℕ, ◌≤◌, Bool, true, false, length, Some, IsSome, ℤ, refl, sym, ap, subst, ◌∙◌, arith}
 use Rattle.std.specs.Prelude.{◌==◌, ◌||◌, not}
-use Rattle.std.proofs.lemmas.Bool.{eqb-true}
+use Rattle.std.proofs.lemmas.Bool.{eqb-true, false≢true}
 use Rattle.msp_class.specs.declared.class.Class.{Class}
 use Rattle.msp_class.specs.declared.class.Env.TheVariants.{Q2, Q}
 use Rattle.msp_class.specs.declared.environments.EnvKind.TheVariants.{Uniform}
@@ -11,8 +11,7 @@ use Rattle.msp_instance.specs.declared.Instance.{Instance}
 use Rattle.msp_pieces.specs.declared.Schedule.{Schedule}
 use Rattle.msp_table.specs.Rows.{table, goes_of, keeps_size}
 use Rattle.msp_route.specs.Bounds.{EndsBy, IsSized, KeepsBounds, keeps_schedule, trades_dates, moment_after}
-use Rattle.msp_route.specs.declared.bounds.TheConstants.{GREATEST_RAISE, GREATEST_LINED_UP, GREATEST_CLOSED_UP}
-use Rattle.msp_route.specs.laws.Stays.{other_row}
+use Rattle.msp_route.specs.laws.Stays.{other_row, kept_row}
 use Rattle.msp_route.proofs.Applied.{part_and_condition}
 
 -- ---- moments
@@ -22,34 +21,17 @@ raises row = row == 47 || row == 51 || row == 52 || row == 54
 
 -- no other row does
 pub unraised : (row : ℕ) (moment : ℤ) → raises row ≡ false → moment_after row moment ≡ moment
-unraised row moment h = shape (row == 47) (row == 51) (row == 52) (row == 54) (none 47 refl) (none 51 refl) (none 52 refl) (none 54 refl)
+unraised row moment h = rw (none 47 refl, none 51 refl, none 52 refl, none 54 refl) refl
   where
     none : (n : ℕ) → not (raises n) ≡ false → (row == n) ≡ false
     none n e = other_row (λ k. not (raises k)) row n e (ap not h)
 
-    shape : (a b c d : Bool) → a ≡ false → b ≡ false → c ≡ false → d ≡ false
-        → (if a then moment +ℤ GREATEST_RAISE else if b || c then GREATEST_LINED_UP else if d then GREATEST_CLOSED_UP else moment) ≡ moment
-    shape a b c d p q r s =
-        ap (λ x. if x then moment +ℤ GREATEST_RAISE else if b || c then GREATEST_LINED_UP else if d then GREATEST_CLOSED_UP else moment) p
-        ∙ ap (λ x. if x || c then GREATEST_LINED_UP else if d then GREATEST_CLOSED_UP else moment) q
-        ∙ ap (λ x. if x then GREATEST_LINED_UP else if d then GREATEST_CLOSED_UP else moment) r
-        ∙ ap (λ x. if x then GREATEST_CLOSED_UP else moment) s
-
 -- ---- what stays
 kept_raises : (row : ℕ) → keeps_schedule row ≡ true → raises row ≡ false
-kept_raises row h = shape (row == 47) (row == 51) (row == 52) (row == 54) (none 47 refl) (none 51 refl) (none 52 refl) (none 54 refl)
-  where
-    none : (n : ℕ) → keeps_schedule n ≡ false → (row == n) ≡ false
-    none n e = other_row keeps_schedule row n e h
-
-    shape : (a b c d : Bool) → a ≡ false → b ≡ false → c ≡ false → d ≡ false → a || b || c || d ≡ false
-    shape a b c d p q r s = cc
+kept_raises row h = rw (kept_row row 47 h refl, kept_row row 51 h refl, kept_row row 52 h refl, kept_row row 54 h refl) refl
 
 kept_dates : (row : ℕ) → keeps_schedule row ≡ true → trades_dates row ≡ false
-kept_dates row h = shape (row == 47) (row == 48) (other_row keeps_schedule row 47 refl h) (other_row keeps_schedule row 48 refl h)
-  where
-    shape : (a b : Bool) → a ≡ false → b ≡ false → a || b ≡ false
-    shape a b p q = cc
+kept_dates row h = rw (kept_row row 47 h refl, kept_row row 48 h refl) refl
 
 -- what a row owes that raises no moment and trades no dates
 pub KeepsBounds-unraised : (row : ℕ) (i j : Instance) (before after : Schedule)
@@ -61,11 +43,8 @@ KeepsBounds-unraised row i j before after low plain same unit few sized ends = r
   unit = unit;
   sized = sized;
   ends = λ moment e. subst (λ m. EndsBy m after) (sym (unraised row moment low)) (ends moment e);
-  dates = λ trades. absurd (apart (sym plain ∙ trades));
+  dates = λ trades. absurd (false≢true (sym plain ∙ trades));
 }
-  where
-    apart : false ≡ true → ⊥
-    apart h = cc
 
 -- what a row owes that keeps the schedule
 pub KeepsBounds-kept : (row : ℕ) (i j : Instance) (s : Schedule) → keeps_schedule row ≡ true → IsSized i s → KeepsBounds row i j s s

@@ -1,21 +1,10 @@
 -- Comparing keys and then numbers is a strict weak order, so a sort by it puts the lesser key first, and ties by number.
-use Rattle.std.proofs.Common.{◌≡◌, ℕ, ◌<◌, ◌≤◌, Bool, true, false, cond, eqb, ltb, ◌⊎◌, inl, inr, List, get_or, AllPairs, refl, sym, arith}
+use Rattle.std.proofs.Common.{◌≡◌, ℕ, ◌<◌, ◌≤◌, Bool, true, false, ◌⊎◌, List, get_or, AllPairs, arith}
 use Rattle.std.specs.Ordering.{is_lt, nat_cmp, ordering_then}
-use Rattle.std.specs.declared.cmp.Ordering.TheVariants.{Less, Equal, Greater}
 use Rattle.std.specs.Cmp.{IsStrictWeakOrder}
 use Rattle.std.specs.List.Sorted.{IsSortedBy}
-use Rattle.std.proofs.lemmas.Bool.{ltb-true, ltb-false, eqb-true, eqb-false}
 use Rattle.std.proofs.lemmas.List.Sorted.{sorted_far}
 use Rattle.std.proofs.lemmas.Bool.Decides.{nat_tests}
-
-number_no : (a b : ℕ) → is_lt (nat_cmp a b) ≡ false → b ≤ a
-number_no a b k = grind (arith, nat_tests)
-
-number_yes : (a b : ℕ) → is_lt (nat_cmp a b) ≡ true → a < b
-number_yes a b k = grind (arith, nat_tests)
-
-not_number : (a b : ℕ) → b ≤ a → is_lt (nat_cmp a b) ≡ false
-not_number a b k = grind (arith, nat_tests)
 
 abbrev less : ℕ → ℕ → ℕ → ℕ → Bool
 less x y a b = is_lt (ordering_then (nat_cmp x y) (nat_cmp a b))
@@ -24,42 +13,19 @@ abbrev Goes : ℕ → ℕ → ℕ → ℕ → Type 0
 Goes x y a b = (x < y) ⊎ ((x ≡ y) × (a ≤ b))
 
 less-no : (x y a b : ℕ) → less x y a b ≡ false → Goes y x b a
-less-no x y a b h = by (ltb x y) refl (eqb x y) refl h
-  where
-    by : (s : Bool) → ltb x y ≡ s → (t : Bool) → eqb x y ≡ t → is_lt (ordering_then (cond s Less (cond t Equal Greater)) (nat_cmp a b)) ≡ false → Goes y x b a
-    by true e t f k = absurd (cc)
-    by false e true f k = inr (sym (eqb-true x y f), number_no a b k)
-    by false e false f k = inl (omega (arith, ltb-false x y e, eqb-false x y f))
+less-no x y a b h = grind (arith, nat_tests)
 
 not_less : (x y a b : ℕ) → Goes y x b a → less x y a b ≡ false
-not_less x y a b h = by (ltb x y) refl (eqb x y) refl h
-  where
-    by : (s : Bool) → ltb x y ≡ s → (t : Bool) → eqb x y ≡ t → Goes y x b a → is_lt (ordering_then (cond s Less (cond t Equal Greater)) (nat_cmp a b)) ≡ false
-    by true e t f (inl k) = absurd (omega (arith, ltb-true x y e, k))
-    by true e t f (inr k) = absurd (omega (arith, ltb-true x y e, k.0))
-    by false e true f (inl k) = absurd (omega (arith, eqb-true x y f, k))
-    by false e true f (inr k) = not_number a b k.1
-    by false e false f k = refl
+not_less x y a b h = grind (arith, nat_tests)
 
 less-yes : (x y a b : ℕ) → less x y a b ≡ true → Goes x y a b
-less-yes x y a b h = by (ltb x y) refl (eqb x y) refl h
-  where
-    by : (s : Bool) → ltb x y ≡ s → (t : Bool) → eqb x y ≡ t → is_lt (ordering_then (cond s Less (cond t Equal Greater)) (nat_cmp a b)) ≡ true → Goes x y a b
-    by true e t f k = inl (ltb-true x y e)
-    by false e true f k = inr (eqb-true x y f, omega (arith, number_yes a b k))
-    by false e false f k = absurd (cc)
+less-yes x y a b h = grind (arith, nat_tests)
 
 joined : (x y z a b c : ℕ) → Goes y x b a → Goes z y c b → Goes z x c a
-joined x y z a b c (inl h) (inl k) = inl (omega (arith, h, k))
-joined x y z a b c (inl h) (inr k) = inl (omega (arith, h, k.0))
-joined x y z a b c (inr h) (inl k) = inl (omega (arith, h.0, k))
-joined x y z a b c (inr h) (inr k) = inr (omega (arith, h.0, k.0), omega (arith, h.1, k.1))
+joined x y z a b c h k = grind arith
 
 turned : (x y z a b c : ℕ) → Goes x y b a → Goes y z c b → Goes x z c a
-turned x y z a b c (inl h) (inl k) = inl (omega (arith, h, k))
-turned x y z a b c (inl h) (inr k) = inl (omega (arith, h, k.0))
-turned x y z a b c (inr h) (inl k) = inl (omega (arith, h.0, k))
-turned x y z a b c (inr h) (inr k) = inr (omega (arith, h.0, k.0), omega (arith, h.1, k.1))
+turned x y z a b c h k = grind arith
 
 module _ {X : Type 0} (key number : X → ℕ) where
   abbrev pub key_less : X → X → Bool

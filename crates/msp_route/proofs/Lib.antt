@@ -5,6 +5,7 @@ pub mod Kept
 pub mod Alike
 pub mod Brought
 pub mod InnerChanges
+pub mod KindLimits
 pub mod InPlace
 pub mod JobReads
 pub mod Search

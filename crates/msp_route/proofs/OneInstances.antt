@@ -4,7 +4,7 @@ use Rattle.msp_class.specs.declared.sizes.TheConstants.{MOST_JOBS, GREATEST}
 use Rattle.msp_class.specs.declared.class.Env.TheVariants.{One}
 use Rattle.msp_class.specs.declared.environments.EnvKind.TheVariants.{Identical}
 use Rattle.msp_class.specs.declared.class.Times.{Times}
-use Rattle.msp_class.specs.declared.class.Times.TheVariants.{General, Unit as UnitTimes, Equal}
+use Rattle.msp_class.specs.declared.class.Times.TheVariants.{General}
 use Rattle.msp_class.specs.Env.{kind_of}
 use Rattle.msp_instance.specs.declared.Instance.{Instance}
 use Rattle.msp_instance.specs.Instance.{job_at, no_need, no_job}
@@ -14,8 +14,7 @@ use Rattle.msp_pieces.specs.BackToBack.{time_at}
 
 short_times : (t : Times) → greatest_time (inner_limits Identical) t ≤ GREATEST
 short_times General = lit≤ tt
-short_times UnitTimes = lit≤ tt
-short_times Equal = lit≤ tt
+short_times _ = lit≤ tt
 
 early_release : (b : Bool) (r : ℕ) → HasRelease (inner_limits Identical) b r → r ≤ 2 * GREATEST
 early_release true r h = h

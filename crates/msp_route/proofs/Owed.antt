@@ -3,7 +3,7 @@ use Rattle.std.proofs.Common.{◌≡◌, ℕ, ◌*◌, ◌≤◌, length, get_or
 use Rattle.std.proofs.lemmas.Int.{ints}
 use Rattle.msp_class.specs.declared.sizes.TheConstants.{MOST_PIECES, GREATEST_UNIT}
 use Rattle.msp_class.specs.declared.environments.EnvKind.{EnvKind}
-use Rattle.msp_class.specs.declared.environments.EnvKind.TheVariants.{Identical, Uniform, Unrelated, OpenShop, FlowShop, JobShop}
+use Rattle.msp_class.specs.declared.environments.EnvKind.TheVariants.{Identical}
 use Rattle.msp_class.specs.Env.{kind_of}
 use Rattle.msp_class.proofs.IntegerRing.{pos-le, *ℤ-one}
 use Rattle.msp_instance.specs.declared.Instance.{Instance}
@@ -17,20 +17,12 @@ use Rattle.msp_route.specs.Bounds.{IsAnswer, answer_unit}
 
 unit-most : (k : EnvKind) → answer_unit k ≤ℤ GREATEST_UNIT
 unit-most Identical = omega (arith, ints)
-unit-most Uniform = omega (arith, ints)
-unit-most Unrelated = omega (arith, ints)
-unit-most OpenShop = omega (arith, ints)
-unit-most FlowShop = omega (arith, ints)
-unit-most JobShop = omega (arith, ints)
+unit-most _ = omega (arith, ints)
 
 -- the unit 1 is one of an answer
 pub unit_one : (k : EnvKind) → pos 1 ≤ℤ answer_unit k
 unit_one Identical = omega (arith, ints)
-unit_one Uniform = omega (arith, ints)
-unit_one Unrelated = omega (arith, ints)
-unit_one OpenShop = omega (arith, ints)
-unit_one FlowShop = omega (arith, ints)
-unit_one JobShop = omega (arith, ints)
+unit_one _ = omega (arith, ints)
 
 pub answer_is_within : (i : Instance) (s : Schedule) → Feasible i s → IsAnswer i s → Within i s
 answer_is_within i s f a = record {

@@ -5,7 +5,7 @@ use Rattle.std.proofs.Common.{refl, sym, ap, ap₂, subst, subst₂, ◌∙◌, 
 use Rattle.std.specs.Prelude.{◌==◌, ◌&&◌}
 use Rattle.std.specs.List.{range_with_len}
 use Rattle.std.proofs.Math.Nat.{mul-le-mul_right}
-use Rattle.std.proofs.lemmas.Bool.{eqb-true, eqb-false}
+use Rattle.std.proofs.lemmas.Bool.Decides.{nat_tests}
 use Rattle.std.proofs.lemmas.Int.{ints}
 use Rattle.std.proofs.lemmas.List.{length-map, get_or-map}
 use Rattle.std.proofs.lemmas.List.Elements.{All-nil}
@@ -75,15 +75,7 @@ pub record ArePlaced (i : Instance) (ops : ℕ) (ps : Places) : Type 0 where
 
 -- one number tells job and operation
 same_key : (w a b c d : ℕ) → b < w → d < w → (eqb a c && eqb b d) ≡ eqb (a * w + b) (c * w + d)
-same_key w a b c d l k = by (eqb a c) refl (eqb b d) refl (eqb (a * w + b) (c * w + d)) refl
-  where
-    by : (x : Bool) → eqb a c ≡ x → (y : Bool) → eqb b d ≡ y → (z : Bool) → eqb (a * w + b) (c * w + d) ≡ z → (x && y) ≡ z
-    by true e true f true g = refl
-    by true e true f false g = absurd (eqb-false (a * w + b) (c * w + d) g (ap₂ (λ x y. x * w + y) (eqb-true a c e) (eqb-true b d f)))
-    by true e false f true g = absurd (eqb-false b d f (same_block w a c b d l k (eqb-true (a * w + b) (c * w + d) g)).1)
-    by true e false f false g = refl
-    by false e y f true g = absurd (eqb-false a c e (same_block w a c b d l k (eqb-true (a * w + b) (c * w + d) g)).0)
-    by false e y f false g = refl
+same_key w a b c d l k = grind (arith, nat_tests, same_block w a c b d l k)
 
 module _ (i : Instance) (ops : ℕ) (ps : Places) (h : HasOperations i ops) (placed : ArePlaced i ops ps) where
   abbrev pieces : List Piece

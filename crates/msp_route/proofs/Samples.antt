@@ -4,7 +4,7 @@ use Rattle.std.proofs.lemmas.Int.{ints}
 use Rattle.std.proofs.lemmas.List.Elements.{All-nil, All-cons}
 use Rattle.std.proofs.lemmas.List.Kept.{AllPairs-cons}
 use Rattle.msp_class.specs.declared.environments.EnvKind.{EnvKind}
-use Rattle.msp_class.specs.declared.environments.EnvKind.TheVariants.{Identical, Uniform, Unrelated, OpenShop, FlowShop, JobShop}
+use Rattle.msp_class.specs.declared.environments.EnvKind.TheVariants.{Identical}
 use Rattle.msp_instance.specs.declared.Job.{Job}
 use Rattle.msp_instance.specs.declared.Instance.{Instance}
 use Rattle.msp_instance.specs.Conditions.{HasNearDues}
@@ -46,8 +46,4 @@ near_two n i x y h k (suc zero) (suc (suc l)) a b = absurd (omega arith)
 -- a schedule over unit 1 may be brought back
 pub unit_one : (k : EnvKind) → pos 1 ≤ℤ greatest_unit k
 unit_one Identical = omega (arith, ints)
-unit_one Uniform = omega (arith, ints)
-unit_one Unrelated = omega (arith, ints)
-unit_one OpenShop = omega (arith, ints)
-unit_one FlowShop = omega (arith, ints)
-unit_one JobShop = omega (arith, ints)
+unit_one _ = omega (arith, ints)

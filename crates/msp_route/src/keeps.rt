@@ -78,12 +78,7 @@ impl<T: KeepsSchedules> Reduction for T {
         T::lead(alloc, inst)
     }
 
-    fn back(
-        &self,
-        _alloc: Global,
-        _inst: &Instance,
-        lower: Solution,
-    ) -> Result<Solution, NoMemory> {
+    fn back(&self, _: Global, _inst: &Instance, lower: Solution) -> Result<Solution, NoMemory> {
         Ok(lower)
     }
 

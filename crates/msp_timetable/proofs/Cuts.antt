@@ -1,6 +1,7 @@
 -- A slice is taken off the square, row after row.
 use Rattle.std.proofs.Common.{◌≡◌, ◌≢◌, ℕ, ◌+◌, ◌-◌, ◌*◌, ◌<◌, ◌≤◌, ◌⊎◌, inl, inr, refl, List, true, false, ltb, length, set, cond, sym, ap, subst, ◌∙◌, arith}
 use Rattle.std.proofs.lemmas.Bool.{eq-eqb, ne_eqb}
+use Rattle.std.proofs.lemmas.Bool.Decides.{nat_tests}
 use Rattle.msp_matching.specs.Passing.{at}
 use Rattle.msp_class.proofs.Cases.{same_or_not}
 use Rattle.msp_timetable.specs.declared.square.Square.{Square}
@@ -31,14 +32,7 @@ module _ (n : ℕ) (column : List ℕ) (p : IsPermuted n column) (base now next 
 
   module _ (e : next ≡ now) (nothing : share k (at column k) ≡ 0) where
     pub rows-kept : (r c : ℕ) → r < n → c < n → cell_at n next r c + cond (ltb r (k + 1)) (share r c) 0 ≡ cell_at n base r c
-    rows-kept r c lr lc = subst (λ xs. cell_at n xs r c + cond (ltb r (k + 1)) (share r c) 0 ≡ cell_at n base r c) (sym e) (elim (same_or_not r k) [
-      | inr d ↦ omega (arith, h r c lr lc, ap (λ b. cond b (share r c) 0) (ltb-next r k d))
-      | inl d ↦ subst (λ x. cell_at n now x c + cond (ltb x (k + 1)) (share x c) 0 ≡ cell_at n base x c) (sym d) (elim (same_or_not c (at column k)) [
-        | inl q ↦ subst (λ x. cell_at n now k x + cond (ltb k (k + 1)) (share k x) 0 ≡ cell_at n base k x) (sym q)
-            (omega (arith, row-now (at column k) (p.inside k lk), ap (λ b. cond b (share k (at column k)) 0) (ltb-yes k (k + 1) (omega arith)), nothing))
-        | inr q ↦ omega (arith, row-now c lc, ap (λ b. cond b (share k c) 0) (ltb-yes k (k + 1) (omega arith)), none c q)
-      ])
-    ])
+    rows-kept r c lr lc = rw e (grind (arith, nat_tests, h r c lr lc, row-now c lc, none c, nothing))
 
 module _ (s : Square) (column : List ℕ) (d low : ℕ) where
   -- the rows before k have lost their shares

@@ -2,6 +2,7 @@
 use Rattle.std.proofs.Common.{◌≡◌, ◌≢◌, ℕ, zero, suc, ◌+◌, ◌-◌, ◌*◌, ◌<◌, ◌≤◌, ◌⊎◌, inl, inr, refl, List, Bool, true, false, eqb, ltb, length, set, cond, ℤ, pos, nat_abs, ◌≤ℤ◌}
 use Rattle.std.proofs.Common.{sym, ap, subst, ◌∙◌, arith}
 use Rattle.std.proofs.lemmas.Bool.{eq-eqb, ne_eqb}
+use Rattle.std.proofs.lemmas.Bool.Decides.{nat_tests}
 use Rattle.std.proofs.lemmas.Int.{ints}
 use Rattle.std.proofs.lemmas.List.{get_or-set_same, get_or-set_other, length-set}
 use Rattle.msp_class.specs.declared.sizes.TheConstants.{MOST_JOBS}
@@ -41,12 +42,10 @@ IsSpreading-next n m row old now k size lr lk h v e = record {
     here = h.size ∙ size
 
     other : (r c : ℕ) → (r ≢ row) ⊎ (k + 1 ≤ c) → (r ≢ row) ⊎ (c ≢ k)
-    other r c (inl q) = inl q
-    other r c (inr q) = inr (λ e. omega arith)
+    other r c q = grind arith
 
     weaker : (r c : ℕ) → (r ≢ row) ⊎ (k + 1 ≤ c) → (r ≢ row) ⊎ (k ≤ c)
-    weaker r c (inl q) = inl q
-    weaker r c (inr q) = inr (omega arith)
+    weaker r c q = grind arith
 
 pub cell-abs : (m : Matrix) (r c : ℕ) → IsMatrix m → r < m.rows → c < m.columns → pos (nat_abs (cell m r c)) ≡ cell m r c
 cell-abs m r c h lr lc = abs-is (cell m r c) (h.cells r c lr lc)
@@ -71,12 +70,10 @@ IsSpreadBelow-next n m now next k a b lk h s = record {
 }
   where
     other : (r c : ℕ) → (k + 1 ≤ r) ⊎ (m.columns ≤ c) → (r ≢ k) ⊎ (m.columns ≤ c)
-    other r c (inl q) = inl (λ e. omega arith)
-    other r c (inr q) = inr q
+    other r c q = grind arith
 
     weaker : (r c : ℕ) → (k + 1 ≤ r) ⊎ (m.columns ≤ c) → (k ≤ r) ⊎ (m.columns ≤ c)
-    weaker r c (inl q) = inl (omega arith)
-    weaker r c (inr q) = inr q
+    weaker r c q = grind arith
 
 -- ---- lines
 pub total_below-part : (n k : ℕ) (f : ℕ → ℕ) → k < n → total_below k f + f k ≤ total_below n f
@@ -110,26 +107,16 @@ module _ (n : ℕ) (m : Matrix) (given : List ℕ) (a : m.rows ≤ n) (b : m.col
   pub column-none : (c : ℕ) → m.columns ≤ c → c < n → column_total n given c ≡ 0
   column-none c l ln = total_below-none n (λ r. cell_at n given r c) (λ r lr. h.outside r c lr ln (inr l))
 
-  below_or_not : (x k : ℕ) → (x < k) ⊎ (k ≤ x)
-  below_or_not x zero = inr (omega arith)
-  below_or_not x (suc k) = elim (below_or_not x k) [
-    | inl l ↦ inl (omega arith)
-    | inr l ↦ elim (same_or_not x k) [
-      | inl e ↦ inl (omega arith)
-      | inr e ↦ inr (omega arith)
-    ]
-  ]
-
   natural_most : (x : ℕ) (z : ℤ) (g : ℕ) → z ≡ pos x → z ≤ℤ pos g → x ≤ g
   natural_most x z g e l = omega (arith, ints)
 
   pub HasSmallLines-matrix : IsMatrix m → HasSmallLines n given
   HasSmallLines-matrix q = record {
-    rows = λ r l. elim (below_or_not r m.rows) [
+    rows = λ r l. elim (less_or_not r m.rows) [
       | inl s ↦ natural_most (row_total n given r) (row_sum m r) greatest_sum (row-is r s) (q.row_sums r s)
       | inr s ↦ let z = row-none r s l in omega (arith, z)
     ];
-    columns = λ c l. elim (below_or_not c m.columns) [
+    columns = λ c l. elim (less_or_not c m.columns) [
       | inl s ↦ natural_most (column_total n given c) (column_sum m c) greatest_sum (column-is c s) (q.column_sums c s)
       | inr s ↦ let z = column-none c s l in omega (arith, z)
     ];
@@ -166,33 +153,15 @@ module _ (n : ℕ) (rows columns : List ℕ) where
     x = s.both
 
     cells : (r c : ℕ) → r < n → c < n → cell_at n padding2 r c ≡ cell_at n padding r c + cond (eqb i r) (cond (eqb j c) s.both 0) 0
-    cells r c lr lc = subst (λ xs. cell_at n xs r c ≡ cell_at n padding r c + cond (eqb i r) (cond (eqb j c) s.both 0) 0) (sym s.padding) (elim (same_or_not r i) [
-      | inl p ↦ subst (λ y. cell_at n (set padding (i * n + j) (cell_at n padding i j + s.both)) y c ≡ cell_at n padding y c + cond (eqb i y) (cond (eqb j c) s.both 0) 0)
-          (sym p) (elim (same_or_not c j) [
-            | inl q ↦ subst (λ y. cell_at n (set padding (i * n + j) (cell_at n padding i j + s.both)) i y ≡ cell_at n padding i y + cond (eqb i i) (cond (eqb j y) s.both 0) 0) (sym q)
-                (omega (
-                  arith,
-                  cell-same n padding i j (cell_at n padding i j + s.both) h.size li lj,
-                  ap (λ v. cond v (cond (eqb j j) s.both 0) 0) (eq-eqb i i refl),
-                  ap (λ v. cond v s.both 0) (eq-eqb j j refl),
-                ))
-            | inr q ↦ omega (
-              arith,
-              cell-other n padding i j (cell_at n padding i j + s.both) h.size li lj i c lc (inr q),
-              ap (λ v. cond v (cond (eqb j c) s.both 0) 0) (eq-eqb i i refl),
-              ap (λ v. cond v s.both 0) (ne_eqb j c (λ y. q (sym y))),
-            )
-          ])
-      | inr p ↦ omega (arith, cell-other n padding i j (cell_at n padding i j + s.both) h.size li lj r c lc (inl p), ap (λ v. cond v (cond (eqb j c) s.both 0) 0) (ne_eqb i r (λ y. p (sym y))))
-    ])
+    cells r c lr lc = rw s.padding
+        (grind (arith, nat_tests, cell-same n padding i j (cell_at n padding i j + s.both) h.size li lj, cell-other n padding i j (cell_at n padding i j + s.both) h.size li lj r c lc))
 
     only : (b : Bool) (k : ℕ) → k < n → total_below n (λ c. cond b (cond (eqb k c) s.both 0) 0) ≡ cond b s.both 0
     only true k l = total_below-only n (λ _. s.both) k l
     only false k l = total_below-none n (λ c. 0) (λ c lc. refl)
 
     turn : (b c : Bool) → cond b (cond c s.both 0) 0 ≡ cond c (cond b s.both 0) 0
-    turn true true = refl
-    turn true false = refl
+    turn true c = refl
     turn false true = refl
     turn false false = refl
 
@@ -208,11 +177,8 @@ module _ (n : ℕ) (rows columns : List ℕ) where
         ∙ ap (λ k. column_total n padding c + k) (only (eqb j c) i li)
 
     lowered : (xs ys : List ℕ) (k : ℕ) → k < n → length xs ≡ n → ys ≡ set xs k (at xs k - s.both) → s.both ≤ at xs k → (r : ℕ) → at ys r + cond (eqb k r) s.both 0 ≡ at xs r
-    lowered xs ys k l size q low r = subst (λ zs. at zs r + cond (eqb k r) s.both 0 ≡ at xs r) (sym q) (elim (same_or_not r k) [
-      | inl p ↦ subst (λ y. at (set xs k (at xs k - s.both)) y + cond (eqb k y) s.both 0 ≡ at xs y)
-          (sym p) (omega (arith, get_or-set_same xs k (at xs k - s.both) 0 (omega (arith, size)), ap (λ v. cond v s.both 0) (eq-eqb k k refl), low))
-      | inr p ↦ omega (arith, get_or-set_other xs k r (at xs k - s.both) 0 p, ap (λ v. cond v s.both 0) (ne_eqb k r (λ y. p (sym y))))
-    ])
+    lowered xs ys k l size q low r = rw q
+        (grind (arith, nat_tests, low, get_or-set_same xs k (at xs k - s.both) 0 (omega (arith, size)), get_or-set_other xs k r (at xs k - s.both) 0))
 
     lowered_total : (xs ys : List ℕ) (k : ℕ) → k < n → ((r : ℕ) → at ys r + cond (eqb k r) s.both 0 ≡ at xs r) → total_below n (λ r. at ys r) + s.both ≡ total_below n (λ r. at xs r)
     lowered_total xs ys k l q =

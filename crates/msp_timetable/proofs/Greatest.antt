@@ -42,11 +42,5 @@ IsGreatestBelow-next n given k g h small lk b lg lr lc which = record {
       ],
     )
   ];
-  low = elim which [
-    | inl e ↦ omega (arith, e, b.low)
-    | inr e ↦ elim e [
-      | inl q ↦ omega (arith, q, small.rows k lk)
-      | inr q ↦ omega (arith, q, small.columns k lk)
-    ]
-  ];
+  low = grind (arith, which, b.low, small.rows k lk, small.columns k lk);
 }

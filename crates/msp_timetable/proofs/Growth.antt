@@ -1,8 +1,9 @@
 -- The search grows, and never runs dry: Hall's count.
 use Rattle.std.proofs.Common.{◌≡◌, ◌≢◌, ℕ, zero, suc, ◌+◌, ◌*◌, ◌<◌, ◌≤◌, ◌⊎◌, inl, inr, refl, List, [], ◌∷◌, ◌++◌, Bool, true, false, eqb, ltb, length, set, map, Contains, All}
-use Rattle.std.proofs.Common.{cond, count_by, sum_by, sym, ap, subst, ◌∙◌, arith}
-use Rattle.std.proofs.lemmas.Bool.{ltb-true, ltb-false, eq-eqb}
-use Rattle.std.proofs.lemmas.List.{get_or-set_same, get_or-set_other, length-set, get_or_append_left, length-append, get_or-map, length-map}
+use Rattle.std.proofs.Common.{cond, count_by, sum_by, get_or, sym, ap, subst, ◌∙◌, arith}
+use Rattle.std.proofs.lemmas.Bool.{ltb-true, eq-eqb}
+use Rattle.std.proofs.lemmas.Bool.Decides.{nat_tests}
+use Rattle.std.proofs.lemmas.List.{get_or-set_same, get_or-set_other, length-set, get_or_append_left, length-append, get_or-map, length-map, get_or_default}
 use Rattle.std.proofs.Math.Seq.{get_or-append_seam}
 use Rattle.std.proofs.lemmas.List.Elements.{Contains-get_or}
 use Rattle.msp_class.specs.Sums.{total_below}
@@ -11,6 +12,7 @@ use Rattle.msp_class.proofs.Sums.{sum_by-cond, sum_by-distinct_test, cond-yes}
 use Rattle.msp_matching.specs.Passing.{at}
 use Rattle.msp_class.proofs.Cases.{same_or_not}
 use Rattle.msp_timetable.specs.Square.{IsPermuted, IsOwners, IsBalanced, IsGrowing, IsSearch, IsFound}
+use Rattle.msp_timetable.proofs.Places.{ltb-yes}
 use Rattle.msp_timetable.proofs.Lists.{all_at, pairs_at, distinct_short, same_back_to_back}
 
 -- the rows of a tree are at most n
@@ -28,29 +30,17 @@ module _ (n : ℕ) (f : ℕ → ℕ → ℕ) (left : ℕ) (b : IsBalanced n f le
       (named : (c : ℕ) → c < n → test c ≡ true → Contains ys c)
       (within : (k c : ℕ) → k < length tree → c < n → 0 < f (at tree k) c → test c ≡ true) where
     -- what the rows of the tree hold in the columns that pass the test
-    held : ℕ → ℕ
+    abbrev held : ℕ → ℕ
     held c = cond (test c) (sum_by (λ r. f r c) tree) 0
 
     all_in : (r c : ℕ) → (0 < f r c → test c ≡ true) → f r c ≤ cond (test c) (f r c) 0
-    all_in r c h = by (test c) h
-      where
-        by : (v : Bool) → (0 < f r c → v ≡ true) → f r c ≤ cond v (f r c) 0
-        by true q = omega arith
-        by false q = none (f r c) q
-          where
-            none : (m : ℕ) → (0 < m → false ≡ true) → m ≤ 0
-            none zero w = omega arith
-            none (suc m) w = absurd (no_true (w (omega arith)))
-              where
-                no_true : false ≡ true → ⊥
-                no_true e = cc
+    all_in r c h = grind (arith, nat_tests)
 
     -- a row of the tree adds up to what it holds there
     row_in : (k : ℕ) → k < length tree → left ≤ total_below n (λ c. cond (test c) (f (at tree k) c) 0)
     row_in k l = omega (arith, b.rows (at tree k) (rows k l), total_below-mono n (λ c. f (at tree k) c) (λ c. cond (test c) (f (at tree k) c) 0) (λ c lc. all_in (at tree k) c (within k c l lc)))
 
     rows_in : length tree * left ≤ total_below n (λ c. held c)
-    unfolding held
     rows_in =
         let m = sum_by-mono (λ _. left) (λ r. total_below n (λ c. cond (test c) (f r c) 0)) tree (all_at (λ r. left ≤ total_below n (λ c. cond (test c) (f r c) 0)) tree row_in) in
         let e = sum_by-total_below (λ r c. cond (test c) (f r c) 0) n tree in
@@ -63,11 +53,10 @@ module _ (n : ℕ) (f : ℕ → ℕ → ℕ) (left : ℕ) (b : IsBalanced n f le
         let d = sum_by-distinct_test (λ r. f r c) (λ _. true) n tree (all_at (λ x. x < n) tree rows) (pairs_at (λ x y. x ≢ y) tree apart) (λ k v m. refl) in
         omega (arith, d, b.columns c l)
 
-    counts : ℕ → ℕ
+    abbrev counts : ℕ → ℕ
     counts c = 1 * count_by (λ y. eqb y c) ys
 
     held_most : (c : ℕ) → c < n → held c ≤ counts c * left
-    unfolding held counts
     held_most c l = by (test c) (named c l)
       where
         by : (v : Bool) → (v ≡ true → Contains ys c) → cond v (sum_by (λ r. f r c) tree) 0 ≤ 1 * count_by (λ y. eqb y c) ys * left
@@ -80,7 +69,6 @@ module _ (n : ℕ) (f : ℕ → ℕ → ℕ) (left : ℕ) (b : IsBalanced n f le
         by false h = omega arith
 
     columns_most : total_below n (λ c. held c) ≤ length ys * left
-    unfolding counts
     columns_most =
         let m = total_below-mono n (λ c. held c) (λ c. counts c * left) held_most in
         let s = total_below-scale_right n left counts in
@@ -98,21 +86,16 @@ module _ (n : ℕ) (f : ℕ → ℕ → ℕ) (left : ℕ) (b : IsBalanced n f le
 module _ (n : ℕ) (f : ℕ → ℕ → ℕ) (column owner : List ℕ) (p : IsPermuted n column) (o : IsOwners n column owner)
     (start place c : ℕ) (from tree : List ℕ) (h : IsSearch n f column start place c from tree)
     (l : place < length tree) (lc : c < n) (unreached : n ≤ at from c) (holds : 0 < f (at tree place) c) where
-  g : IsGrowing n f column from tree
-  g = h.growing
-
-  after : List ℕ
+  abbrev after : List ℕ
   after = set from c place
 
   place_small : place < n
   place_small = omega (arith, IsGrowing-short n f column from tree h.growing)
 
   here : at after c ≡ place
-  unfolding after
   here = get_or-set_same from c place 0 (omega (arith, h.growing.size))
 
   other : (d : ℕ) → d ≢ c → at after d ≡ at from d
-  unfolding after
   other d e = get_or-set_other from c d place 0 e
 
   still : (d : ℕ) → at from d < n → at after d < n
@@ -126,7 +109,6 @@ module _ (n : ℕ) (f : ℕ → ℕ → ℕ) (column owner : List ℕ) (p : IsPe
   not_new k a b e = let q = (h.growing.before k a b).1 in omega (arith, ap (at from) e)
 
   growing_set : IsGrowing n f column after tree
-  unfolding after
   growing_set = record {
     size = length-set from c place ∙ h.growing.size;
     some = h.growing.some;
@@ -140,7 +122,6 @@ module _ (n : ℕ) (f : ℕ → ℕ → ℕ) (column owner : List ℕ) (p : IsPe
   }
 
   pub IsFound-new : f (at owner c) c ≡ 0 → IsFound n f column start (set from c place) tree c
-  unfolding after
   IsFound-new empty = record {
     growing = growing_set;
     first = h.first;
@@ -151,19 +132,16 @@ module _ (n : ℕ) (f : ℕ → ℕ → ℕ) (column owner : List ℕ) (p : IsPe
   }
 
   module _ (full : 0 < f (at owner c) c) where
-    grown : List ℕ
+    abbrev grown : List ℕ
     grown = tree ++ at owner c ∷ []
 
     long : length grown ≡ length tree + 1
-    unfolding grown
     long = length-append tree (at owner c ∷ [])
 
     old : (k : ℕ) → k < length tree → at grown k ≡ at tree k
-    unfolding grown
     old k b = get_or_append_left tree (at owner c ∷ []) 0 k b
 
     new : at grown (length tree) ≡ at owner c
-    unfolding grown
     new = get_or-append_seam tree (at owner c) [] 0
 
     not_in : (j : ℕ) → j < length tree → at tree j ≢ at owner c
@@ -180,7 +158,6 @@ module _ (n : ℕ) (f : ℕ → ℕ → ℕ) (column owner : List ℕ) (p : IsPe
     ]
 
     pub IsSearch-new : IsSearch n f column start place (c + 1) (set from c place) (tree ++ at owner c ∷ [])
-    unfolding after grown
     IsSearch-new = record {
       growing = record {
         size = growing_set.size;
@@ -242,13 +219,6 @@ IsSearch-goes_on n f left b positive column p start place from (x ∷ rest) h = 
       (λ k d l ld q. ltb-yes (at from d) n (h.closed k d (omega arith) ld q)) positive)
 ]
   where
-    ltb-yes : (a c : ℕ) → a < c → ltb a c ≡ true
-    ltb-yes a c l = by (ltb a c) refl
-      where
-        by : (v : Bool) → ltb a c ≡ v → v ≡ true
-        by true q = refl
-        by false q = absurd (omega (arith, ltb-false a c q))
-
     mapped : (k : ℕ) → k < length rest → at (map (at column) rest) k ≡ at column (at rest k)
     mapped k l = get_or-map (at column) rest k 0 0 l
 
@@ -283,6 +253,15 @@ IsSearch-start n f column start l e from tree size far is = subst (IsSearch n f 
 pub IsSearch-same : {n : ℕ} {f : ℕ → ℕ → ℕ} {column : List ℕ} {start place c : ℕ} {from tree tree2 : List ℕ}
     → IsSearch n f column start place c from tree → tree ≡ tree2 → IsSearch n f column start place c from tree2
 IsSearch-same {n} {f} {column} {start} {place} {c} {from} {tree} {tree2} h e = subst (IsSearch n f column start place c from) e h
+
+-- what the code reads of a search
+pub reads : {n : ℕ} (f : ℕ → ℕ → ℕ) (from tree owner : List ℕ) (place column x r o : ℕ) → length from ≡ n → place < length tree → length owner ≡ n → column < n
+    → x ≡ get_or from column x → n ≤ x → r ≡ get_or tree place r → 0 < f r column → o ≡ get_or owner column o → (n ≤ at from column) × (0 < f (at tree place) column) × (o ≡ at owner column)
+reads f from tree owner place column x r o size here owners inside is low row holds own = (
+  omega (arith, is ∙ get_or_default from column x 0 (omega (arith, size, inside))),
+  subst (λ k. 0 < f k column) (row ∙ get_or_default tree place r 0 here) holds,
+  own ∙ get_or_default owner column o 0 (omega (arith, owners, inside)),
+)
 
 -- a place is scanned, and the search goes on
 pub IsSearch-step : (n : ℕ) (f : ℕ → ℕ → ℕ) (column : List ℕ) → IsPermuted n column → (left : ℕ) × (0 < left) × IsBalanced n f left

@@ -1,5 +1,5 @@
 -- Lists of numbers: distinct numbers, rearranged columns, and sums.
-use Rattle.std.proofs.Common.{◌≡◌, ◌≢◌, ℕ, zero, suc, ◌+◌, ◌*◌, ◌<◌, ◌≤◌, ◌⊎◌, inl, inr, refl, List, [], ◌∷◌, true, false, eqb, length, get_or, All, AllPairs, IsPermutation}
+use Rattle.std.proofs.Common.{◌≡◌, ◌≢◌, ℕ, suc, ◌+◌, ◌*◌, ◌<◌, ◌≤◌, ◌⊎◌, inl, inr, refl, List, [], ◌∷◌, eqb, length, get_or, All, AllPairs, IsPermutation}
 use Rattle.std.proofs.Common.{count_by, sum_by, min, max, sym, ap, subst, ◌∙◌, arith}
 use Rattle.std.proofs.lemmas.List.{get_or_default}
 use Rattle.std.proofs.lemmas.List.Sorted.{All-permutation, length_permutation}
@@ -49,14 +49,7 @@ pub same_back_to_back : (n : ℕ) (xs : List ℕ) → IsPermuted n xs → (i j :
 same_back_to_back n xs h i j li lj e = same_place xs (IsPermuted-apart n xs h) i j (omega (arith, h.size)) (omega (arith, h.size)) e
 
 pub none_held : {m : ℕ} → (0 < m → ⊥) → m ≡ 0
-none_held {m} h = by m h
-  where
-    by : (k : ℕ) → (0 < k → ⊥) → k ≡ 0
-    by zero q = refl
-    by (suc k) q = absurd (q (omega arith))
-
-pub no_true : false ≡ true → ⊥
-no_true e = cc
+none_held {m} h = grind arith
 
 pub IsPermuted-size : (m n : ℕ) (xs : List ℕ) → m ≡ n → IsPermuted n xs → IsPermuted m xs
 IsPermuted-size m n xs e h = subst (λ k. IsPermuted k xs) (sym e) h
@@ -73,28 +66,7 @@ some-next g k least next (inl e) w = (w.0, omega (arith, w.1), w.2 ∙ sym e)
 some-next g k least next (inr e) w = (k, omega arith, sym e)
 
 pub min-cases : (a b m : ℕ) → m ≡ min a b → (m ≤ a) × (m ≤ b) × ((m ≡ a) ⊎ (m ≡ b))
-min-cases a b m e = (
-  omega arith,
-  omega arith,
-  elim (same_or_not m a) [
-    | inl q ↦ inl q
-    | inr q ↦ inr (omega arith)
-  ],
-)
-
-pub max-cases : (a b c m : ℕ) → m ≡ max (max a b) c → (a ≤ m) × (b ≤ m) × (c ≤ m) × ((m ≡ a) ⊎ ((m ≡ b) ⊎ (m ≡ c)))
-max-cases a b c m e = (
-  omega arith,
-  omega arith,
-  omega arith,
-  elim (same_or_not m a) [
-    | inl q ↦ inl q
-    | inr q ↦ inr (elim (same_or_not m b) [
-      | inl p ↦ inl p
-      | inr p ↦ inr (omega arith)
-    ])
-  ],
-)
+min-cases a b m e = (omega arith, omega arith, grind arith)
 
 pub same_case : (m a b x : ℕ) → b ≡ x → (m ≡ a) ⊎ (m ≡ b) → (m ≡ a) ⊎ (m ≡ x)
 same_case m a b x e (inl q) = inl q
@@ -121,16 +93,4 @@ sum_at f xs n e = sum_at_take xs n (omega arith) ∙ refl
         one r = omega arith
 
 pub max-lines : (g b c m x y : ℕ) → b ≡ x → c ≡ y → m ≡ max (max b c) g → (g ≤ m) × (x ≤ m) × (y ≤ m) × ((m ≡ g) ⊎ ((m ≡ x) ⊎ (m ≡ y)))
-max-lines g b c m x y e f h =
-    let w = max-cases b c g m h in (
-      w.2,
-      omega (arith, w.0, e),
-      omega (arith, w.1, f),
-      elim w.3 [
-        | inl q ↦ inr (inl (q ∙ e))
-        | inr q ↦ elim q [
-          | inl p ↦ inr (inr (p ∙ f))
-          | inr p ↦ inl p
-        ]
-      ],
-    )
+max-lines g b c m x y e f h = (omega arith, omega arith, omega arith, grind arith)

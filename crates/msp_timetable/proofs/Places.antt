@@ -1,7 +1,7 @@
 -- The cells of a square that stands in a list: their places differ, and what a write does to them, to the lines and to the count.
-use Rattle.std.proofs.Common.{◌≡◌, ◌≢◌, ℕ, ◌+◌, ◌*◌, ◌<◌, ◌≤◌, ◌⊎◌, inl, inr, refl, List, Bool, true, false, ltb, length, set, cond, ap, arith}
+use Rattle.std.proofs.Common.{◌≡◌, ◌≢◌, ℕ, ◌+◌, ◌*◌, ◌<◌, ◌≤◌, ◌⊎◌, inl, inr, List, Bool, true, false, ltb, length, set, cond, ap, arith}
 use Rattle.std.proofs.Math.Nat.{mul-le-mul_left}
-use Rattle.std.proofs.lemmas.Bool.{ltb-true, ltb-false}
+use Rattle.std.proofs.lemmas.Bool.Decides.{nat_tests}
 use Rattle.std.proofs.lemmas.List.{get_or-set_same, get_or-set_other}
 use Rattle.std.proofs.lemmas.List.Sums.{sum_by-set}
 use Rattle.msp_class.proofs.Cases.{same_or_not}
@@ -47,34 +47,18 @@ module _ (n : ℕ) (xs : List ℕ) (i j v : ℕ) (size : length xs ≡ n * n) (l
   stocks-set = sum_by-set (λ x. cond (ltb 0 x) 1 0) xs (i * n + j) v 0 inside
 
 pub positive-one : (x : ℕ) → 0 < x → 1 ≤ cond (ltb 0 x) 1 0
-positive-one x l = by (ltb 0 x) refl
-  where
-    by : (b : Bool) → ltb 0 x ≡ b → 1 ≤ cond b 1 0
-    by true e = omega arith
-    by false e = absurd (omega (arith, ltb-false 0 x e))
+positive-one x l = grind (arith, nat_tests)
 
 pub cond-one : (b : Bool) → cond b 1 0 ≤ 1
 cond-one true = omega arith
 cond-one false = omega arith
 
 pub ltb-yes : (a b : ℕ) → a < b → ltb a b ≡ true
-ltb-yes a b l = by (ltb a b) refl
-  where
-    by : (v : Bool) → ltb a b ≡ v → v ≡ true
-    by true q = refl
-    by false q = absurd (omega (arith, ltb-false a b q))
+ltb-yes a b l = grind (arith, nat_tests)
 
 pub ltb-no : (a b : ℕ) → b ≤ a → ltb a b ≡ false
-ltb-no a b l = by (ltb a b) refl
-  where
-    by : (v : Bool) → ltb a b ≡ v → v ≡ false
-    by false q = refl
-    by true q = absurd (omega (arith, ltb-true a b q))
+ltb-no a b l = grind (arith, nat_tests)
 
 -- below the next number or below this one is the same for another
 pub ltb-next : (a k : ℕ) → a ≢ k → ltb a (k + 1) ≡ ltb a k
-ltb-next a k h = by (ltb a k) refl
-  where
-    by : (v : Bool) → ltb a k ≡ v → ltb a (k + 1) ≡ v
-    by true q = ltb-yes a (k + 1) (omega (arith, ltb-true a k q))
-    by false q = ltb-no a (k + 1) (omega (arith, ltb-false a k q))
+ltb-next a k h = grind (arith, nat_tests)

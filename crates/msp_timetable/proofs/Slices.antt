@@ -1,6 +1,7 @@
 -- One more slice: what it takes, and what is left.
 use Rattle.std.proofs.Common.{◌≡◌, ℕ, ◌+◌, ◌-◌, ◌<◌, ◌≤◌, ◌⊎◌, inl, inr, refl, List, [], ◌∷◌, ◌++◌, Bool, true, false, eqb, ltb, length, cond, ℤ, pos, ◌+ℤ◌, ◌≤ℤ◌, sym, ap, subst, ◌∙◌, arith}
-use Rattle.std.proofs.lemmas.Bool.{eqb-true, eqb-false, eq-eqb, ne_eqb, ltb-true, ltb-false}
+use Rattle.std.proofs.lemmas.Bool.{eq-eqb, ne_eqb, ltb-true, ltb-false}
+use Rattle.std.proofs.lemmas.Bool.Decides.{nat_tests}
 use Rattle.std.proofs.lemmas.Int.{ints}
 use Rattle.std.proofs.lemmas.List.{length-append}
 use Rattle.std.proofs.lemmas.List.Elements.{All-append, All-cons, All-nil}
@@ -26,37 +27,25 @@ at_total : (f : ℕ → ℕ) (xs : List ℕ) (n : ℕ) → OnceBelow n xs → le
 at_total f xs n o size = sym (sum_at f xs n size) ∙ sum_by-OnceBelow f o
 
 module _ (s t : Square) (column : List ℕ) (p : IsPermuted s.size column) (d : ℕ) (c : IsCut s t column d) where
-  share : ℕ → ℕ → ℕ
+  abbrev share : ℕ → ℕ → ℕ
   share r k = cond (eqb (at column r) k) d 0
 
   shares : (r k : ℕ) → given_share s column d r k + padding_share s column d r k ≡ share r k
-  unfolding share
-  shares r k = by (eqb (at column r) k) (ltb 0 (cell_at s.size s.given.items r k))
-    where
-      by : (b v : Bool) → cond b (cond v d 0) 0 + cond b (cond v 0 d) 0 ≡ cond b d 0
-      by true true = omega arith
-      by true false = omega arith
-      by false v = omega arith
+  shares r k = grind (arith, nat_tests)
 
   less : (r k : ℕ) → r < s.size → k < s.size → (cell_at s.size t.given.items r k + cell_at s.size t.padding.items r k) + share r k ≡ stock s r k
   less r k lr lk = omega (arith, c.given r k lr lk, c.padding r k lr lk, shares r k)
 
   row_share : (r : ℕ) → r < s.size → total_below s.size (λ k. share r k) ≡ d
-  unfolding share
   row_share r l = total_below-only s.size (λ _. d) (at column r) (p.inside r l)
 
   column_share : (k : ℕ) → k < s.size → total_below s.size (λ r. share r k) ≡ d
-  unfolding share
   column_share k l = at_total (λ y. cond (eqb y k) d 0) column s.size (OnceBelow-permuted s.size column p) p.size
       ∙ total_below-same s.size (λ y. cond (eqb y k) d 0) (λ y. cond (eqb k y) d 0) (λ y m. turn y)
       ∙ total_below-only s.size (λ _. d) k l
     where
       turn : (y : ℕ) → cond (eqb y k) d 0 ≡ cond (eqb k y) d 0
-      turn y = by (eqb y k) refl
-        where
-          by : (b : Bool) → eqb y k ≡ b → cond b d 0 ≡ cond (eqb k y) d 0
-          by true e = sym (ap (λ v. cond v d 0) (eq-eqb k y (sym (eqb-true y k e))))
-          by false e = sym (ap (λ v. cond v d 0) (ne_eqb k y (λ q. eqb-false y k e (sym q))))
+      turn y = grind (arith, nat_tests)
 
   pub IsBalanced-cut : (left : ℕ) → IsBalanced s.size (stock s) left → IsBalanced t.size (stock t) (left - d)
   IsBalanced-cut left b = subst (λ n. IsBalanced n (λ r k. cell_at n t.given.items r k + cell_at n t.padding.items r k) (left - d)) (sym c.size) record {
@@ -78,18 +67,10 @@ module _ (s t : Square) (column : List ℕ) (p : IsPermuted s.size column) (d : 
 
 -- the longest slice is at least 1, and no longer than what is left
 used-most : (a p : ℕ) → used a p ≤ a + p
-used-most a p = by (ltb 0 a)
-  where
-    by : (b : Bool) → cond b a p ≤ a + p
-    by true = omega arith
-    by false = omega arith
+used-most a p = grind (arith, nat_tests)
 
 used-some : (a p : ℕ) → 0 < a + p → 0 < used a p
-used-some a p l = by (ltb 0 a) refl
-  where
-    by : (b : Bool) → ltb 0 a ≡ b → 0 < cond b a p
-    by true e = ltb-true 0 a e
-    by false e = omega (arith, ltb-false 0 a e)
+used-some a p l = grind (arith, nat_tests)
 
 module _ (s : Square) (column : List ℕ) (p : IsPermuted s.size column) (d : ℕ) (least : IsLeastUsed s column d) where
   pub longest-positive : ((r : ℕ) → r < s.size → 0 < stock s r (at column r)) → 0 < d

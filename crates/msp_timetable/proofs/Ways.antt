@@ -1,5 +1,6 @@
 -- A row that holds nothing at its column gets one where it does, along the way that a search has found.
-use Rattle.std.proofs.Common.{◌≡◌, ℕ, zero, suc, ◌<◌, ◌≤◌, inl, inr, List, length, IsPermutation, sym, ap, subst, ◌∙◌, arith}
+use Rattle.std.proofs.Common.{◌≡◌, ℕ, zero, suc, ◌<◌, ◌≤◌, inl, inr, List, length, get_or, IsPermutation, sym, ap, subst, ◌∙◌, arith}
+use Rattle.std.proofs.lemmas.List.{get_or_default}
 use Rattle.std.specs.List.{SwappedAt}
 use Rattle.msp_matching.specs.Passing.{at, IsTree, IsStep, IsPassedOn}
 use Rattle.msp_class.proofs.Cases.{same_or_not}
@@ -64,3 +65,9 @@ module _ (n : ℕ) (f : ℕ → ℕ → ℕ) (column owner : List ℕ) (p : IsPe
   pub IsBetter-read : row < n → (from2 tree2 next next2 : List ℕ) → from2 ≡ from → tree2 ≡ tree → next2 ≡ next → IsPassedOn turned from2 tree2 next → IsBetter n f row column next2
   IsBetter-read lr from2 tree2 next next2 a b e q =
       subst (IsBetter n f row column) (sym e) (IsBetter-passed lr next (subst (λ xs. IsPassedOn turned from xs next) b (subst (λ xs. IsPassedOn turned xs tree2 next) a q)))
+
+-- the columns that are exchanged, as the lists are read
+pub read_turned : (column owner read turned : List ℕ) (row free last : ℕ) → read ≡ column → free < length owner → last ≡ get_or owner free last → SwappedAt read turned row last
+    → IsPermutation read turned → (last ≡ at owner free) × SwappedAt column turned row last × IsPermutation column turned
+read_turned column owner read turned row free last e l is swapped same =
+    (is ∙ get_or_default owner free last 0 l, subst (λ xs. SwappedAt xs turned row last) e swapped, subst (λ xs. IsPermutation xs turned) e same)

@@ -96,7 +96,13 @@ unit_read j t D one f b e = e ∙ ap nat_abs (to_z-of_z w128 t.unit (fits t.unit
     fits : (u : ℤ) → pos 1 ≤ℤ u → u ≤ℤ GREATEST_UNIT → FitsSigned w128 u
     fits u h k = omega (arith, ints)
 
--- the same for what the code finds: `change` is what becomes of the order of the ends
+-- what the code finds: the order lists all jobs, in it they are feasible, and so they are brought back
+pub record IsFoundLine (row : ℕ) (i j : Instance) (upper t : Schedule) (D : ℕ) (order : List ℕ) : Type 0 where
+  pub all : IsPermutation (range_with_len 0 (length i.jobs)) order
+  pub feasible : Feasible i (lined_up i D order)
+  pub brought : (s : Solution) → IsLinedUp i D order s → IsBrought row i j upper t s
+
+-- `change` is what becomes of the order of the ends
 module _ (row : ℕ) (i j : Instance) (t upper : Schedule)
     (change : List ℕ → List ℕ) (keeps : (l : List ℕ) → IsPermutation l (change l)) (upper_is : upper ≡ lined_up i (nat_abs t.unit) (change (order_of_ends j t)))
     (lines : LinesUp row t upper) (one : i.class.env ≡ One) (other : j.class.env ≡ One)
@@ -112,18 +118,19 @@ module _ (row : ℕ) (i j : Instance) (t upper : Schedule)
   line_is : upper ≡ lined_up i D order
   line_is = upper_is ∙ ap₂ (lined_up i) (sym unit_is) (ap change (sym found_is) ∙ sym e)
 
-  pub found_all : IsPermutation (range_with_len 0 (length i.jobs)) order
+  found_all : IsPermutation (range_with_len 0 (length i.jobs)) order
   found_all = subst (IsPermutation (range_with_len 0 (length i.jobs))) (sym e)
       (IsPermutation-trans (range_with_len 0 (length i.jobs)) found (change found) (subst (λ n. IsPermutation (range_with_len 0 n) found) c all) (keeps found))
 
-  pub found_feasible : Feasible i (lined_up i D order)
-  found_feasible = subst (Feasible i) line_is (law f).0
-
-  pub found_brought : (s : Solution) → IsLinedUp i D order s → IsBrought row i j upper t s
-  found_brought = brought_line row i j t upper D order lines one other same inner lower f b unit_is found_all line_is law
+  pub found_line : IsFoundLine row i j upper t D order
+  found_line = record {
+    all = found_all;
+    feasible = subst (Feasible i) line_is (law f).0;
+    brought = brought_line row i j t upper D order lines one other same inner lower f b unit_is found_all line_is law;
+  }
 
 -- clause by clause
-pub each_of : (row : ℕ) (i j : Instance) (upper t : Schedule) (r : Result Solution NoMemory) → IfOk r (IsBrought row i j upper t)
+pub each_of : {row : ℕ} {i j : Instance} {upper t : Schedule} {D : ℕ} {order : List ℕ} → IsFoundLine row i j upper t D order → (r : Result Solution NoMemory) → IfOk r (IsLinedUp i D order)
     → IfOk r (λ s. IsSolution i s) × IfOk r (λ s. IsBack same_costs i j t s.schedule) × IfOk r (λ s. IsReordered upper s.schedule) × IfOk r (λ s. KeepsBounds row i j t s.schedule)
-each_of row i j upper t (Ok s) h = (h.solution, h.law, h.same, h.bounds)
-each_of row i j upper t (Err e) h = (h, h, h, h)
+each_of h (Ok s) is = let b = h.brought s is in (b.solution, b.law, b.same, b.bounds)
+each_of h (Err e) is = (is, is, is, is)

@@ -1,18 +1,14 @@
 -- Jobs lined up on one machine: their needs, and the limits that the line keeps.
-use Rattle.std.proofs.Common.{◌≡◌, ℕ, ◌*◌, ◌<◌, ◌≤◌, List, length, get_or, sum_by, All, IsPermutation, ℤ, pos, ◌≤ℤ◌, sym, ap, subst, ◌∙◌, arith, slice_index_or}
+use Rattle.std.proofs.Common.{◌≡◌, ℕ, ◌*◌, ◌<◌, ◌≤◌, List, length, get_or, sum_by, All, IsPermutation, ℤ, pos, ◌≤ℤ◌, sym, ap, ◌∙◌, arith, slice_index_or}
 use Rattle.std.specs.List.{range_with_len}
 use Rattle.std.proofs.lemmas.Int.{ints}
 use Rattle.msp_class.specs.declared.sizes.TheConstants.{MOST_JOBS, GREATEST, GREATEST_UNIT}
-use Rattle.msp_class.specs.declared.environments.EnvKind.TheVariants.{Identical, Unrelated}
-use Rattle.msp_class.specs.declared.class.Env.{Env}
 use Rattle.msp_class.specs.declared.class.Env.TheVariants.{One}
-use Rattle.msp_class.specs.declared.class.Times.{Times}
-use Rattle.msp_class.specs.declared.class.Times.TheVariants.{General, Unit as UnitTimes, Equal}
 use Rattle.msp_class.specs.Env.{kind_of}
 use Rattle.msp_class.proofs.Sums.{sum_by-mono, sum_by-constant, OnceBelow, OnceBelow-from_permutation, length-OnceBelow}
 use Rattle.msp_instance.specs.declared.Instance.{Instance}
 use Rattle.msp_instance.specs.Instance.{no_need, no_job}
-use Rattle.msp_instance.specs.Conditions.{HasShape, HasTimes, Inner, inner_limits, least_time, greatest_time}
+use Rattle.msp_instance.specs.Conditions.{Inner}
 use Rattle.msp_pieces.specs.declared.Piece.{Piece}
 use Rattle.msp_pieces.specs.Feasible.{Feasible}
 use Rattle.msp_pieces.specs.Within.{IsMoment, Within}
@@ -22,22 +18,13 @@ use Rattle.msp_pieces.specs.Piece.{finish, IsTimed}
 use Rattle.msp_pieces.proofs.feasible.OneMachine.{timed_pieces}
 use Rattle.msp_pieces.proofs.feasible.BackToBack.{piece_makes}
 use Rattle.msp_pieces.specs.LineUp.{lined_up}
+use Rattle.msp_route.proofs.OneInstances.{IsOneInstance-from}
 use Rattle.msp_route.specs.declared.bounds.TheConstants.{GREATEST_LINED_UP}
 use Rattle.msp_route.proofs.BackToBackSteps.{short_length, greatest_length}
 
 module _ (i : Instance) (one : i.class.env ≡ One) (inner : Inner i) where
-  in_time : (t : Times) → greatest_time (inner_limits Identical) t ≤ GREATEST
-  in_time General = omega arith
-  in_time UnitTimes = omega arith
-  in_time Equal = omega arith
-
   pub short_needs : All (λ a. (0 < length a.needs) × ((slice_index_or a.needs 0 no_need).time ≤ GREATEST)) i.jobs
-  short_needs k d l =
-      let n = (inner.conditions.jobs k d l).needs in
-      let shape = subst (λ e. HasShape (kind_of e) e i.machines (get_or i.jobs k d).needs) one n.shape in
-      let S : Env → Type 0 = λ e. HasTimes (least_time (kind_of e) i.class.times) (greatest_time (inner_limits (kind_of e)) i.class.times) (get_or i.jobs k d).needs in
-      let times = subst S one n.times in
-      (omega (arith, shape.0), omega (arith, (times 0 no_need (omega (arith, shape.0))).1, in_time i.class.times))
+  short_needs k d l = let needs = (IsOneInstance-from i one inner).needs k d l in (omega (arith, needs.0), needs.2)
 
   pub short_time : (j : ℕ) → j < length i.jobs → time_at i j ≤ GREATEST
   short_time j l = (short_needs j no_job l).1
@@ -81,14 +68,11 @@ module _ (i : Instance) (one : i.class.env ≡ One) (inner : Inner i) where
         unit = (f.unit, small);
         few = omega (arith, few_pieces);
         moments = λ k d l. moments_of (get_or pieces k d) (timed k d l) (line_ends k d l);
-        scaled = λ u. absurd (not_unrelated (sym (ap kind_of one) ∙ u));
+        scaled = λ u. absurd (cc (sym (ap kind_of one) ∙ u));
       }
         where
           moments_of : (p : Piece) → IsTimed p → p.to ≤ℤ GREATEST_LINED_UP → IsMoment p.from × IsMoment p.to
           moments_of p t h = ((omega (arith, ints, t.from), omega (arith, ints, t.from, t.to, t.lasts, h)), (omega (arith, ints, t.to), omega (arith, ints, h)))
-
-          not_unrelated : Identical ≡ Unrelated → ⊥
-          not_unrelated h = cc
 
 -- the pieces as a schedule
 pub as_line : (i : Instance) (D : ℕ) (order : List ℕ) (unit : ℤ) (made : List Piece)

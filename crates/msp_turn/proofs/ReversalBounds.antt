@@ -8,10 +8,10 @@ use Rattle.std.proofs.lemmas.List.{length-map}
 use Rattle.std.proofs.lemmas.List.Elements.{All-map}
 use Rattle.std.proofs.lemmas.List.Sorted.{IsPermutation-refl}
 use Rattle.msp_class.specs.declared.environments.EnvKind.{EnvKind}
-use Rattle.msp_class.specs.declared.environments.EnvKind.TheVariants.{Identical, Uniform, Unrelated, OpenShop, FlowShop, JobShop}
+use Rattle.msp_class.specs.declared.environments.EnvKind.TheVariants.{Identical}
 use Rattle.msp_class.specs.Env.{kind_of}
 use Rattle.msp_class.proofs.IntegerRing.{≤ℤ_refl, ≤ℤ_trans, ≤ℤ_of_same, le-pos, natural_some, zero-*ℤ, *ℤ-zero}
-use Rattle.msp_class.specs.declared.sizes.TheConstants.{GREATEST, GREATEST_UNIT}
+use Rattle.msp_class.specs.declared.sizes.TheConstants.{GREATEST}
 use Rattle.msp_instance.specs.declared.Instance.{Instance}
 use Rattle.msp_instance.specs.Instance.{no_job, job_at}
 use Rattle.msp_instance.specs.Conditions.{HasRelease, Inner, inner_limits, inner_factor}
@@ -24,6 +24,7 @@ use Rattle.msp_route.specs.Law.{IsBack, IsReordered}
 use Rattle.msp_route.specs.Bounds.{EndsBy, IsBounded, KeepsBounds, greatest_unit, keeps_schedule, moment_after}
 use Rattle.msp_route.specs.declared.bounds.TheConstants.{GREATEST_BACK_MOMENT, GREATEST_RAISE}
 use Rattle.msp_route.proofs.Kept.{raises, unraised}
+use Rattle.msp_route.proofs.KindLimits.{greatest_unit-most}
 use Rattle.msp_route.specs.Rates.{raised_costs}
 use Rattle.msp_turn.specs.Reversal.{IsReversible, reversed_piece, turning_moment, reversed_for}
 use Rattle.msp_turn.specs.laws.ReversalLaw.{IsReverse, IsReverse-sym, turning-least, turning-charged, Feasible-reversed, IsBack-reversed}
@@ -33,25 +34,13 @@ release_by : (k : EnvKind) (h : Bool) (x : ℕ) → HasRelease (inner_limits k) 
 release_by k true x r = r
 release_by k false x r = omega (arith, r)
 
-unit_by : (k : EnvKind) → greatest_unit k ≤ℤ GREATEST_UNIT
-unit_by Identical = ≤ℤ_refl _
-unit_by Uniform = ≤ℤ_refl _
-unit_by Unrelated = omega (arith, ints)
-unit_by OpenShop = ≤ℤ_refl _
-unit_by FlowShop = ≤ℤ_refl _
-unit_by JobShop = ≤ℤ_refl _
-
 over_unit : (n x d : ℕ) (u : ℤ) → pos n ≤ℤ u → x ≤ d → (u *ℤ pos d) ≤ℤ GREATEST_RAISE → (pos n *ℤ pos x) ≤ℤ GREATEST_RAISE
 over_unit n x d (negsuc m) h k l = absurd (omega (arith, ints))
 over_unit n x d (pos m) h k l = let p = mul-le n x m d (le-pos h) k in omega (arith, ints)
 
 greatest_tail : (k : EnvKind) → (greatest_unit k *ℤ pos (2 * GREATEST * inner_factor k)) ≤ℤ GREATEST_RAISE
 greatest_tail Identical = omega (arith, ints)
-greatest_tail Uniform = omega (arith, ints)
-greatest_tail Unrelated = omega (arith, ints)
-greatest_tail OpenShop = omega (arith, ints)
-greatest_tail FlowShop = omega (arith, ints)
-greatest_tail JobShop = omega (arith, ints)
+greatest_tail _ = omega (arith, ints)
 
 small_tail : (k : EnvKind) (n x : ℕ) → pos n ≤ℤ greatest_unit k → x ≤ 2 * GREATEST * inner_factor k → (pos n *ℤ pos x) ≤ℤ GREATEST_RAISE
 small_tail k n x u h = over_unit n x (2 * GREATEST * inner_factor k) (greatest_unit k) u h (greatest_tail k)
@@ -70,7 +59,7 @@ module _ {a : ℤ} {i j : Instance} (r : IsReverse a (pos 0) i j) (inner : Inner
   unit_small = subst (λ k. t.unit ≤ℤ greatest_unit k) (sym r.needs.kind) b.sized.unit
 
   is_unit : IsUnit t.unit
-  is_unit = (f.unit, ≤ℤ_trans unit_small (unit_by (kind_of i.class.env)))
+  is_unit = (f.unit, ≤ℤ_trans unit_small (greatest_unit-most (kind_of i.class.env)))
 
   small_release : (k : ℕ) → k < length i.jobs → (t.unit *ℤ pos (job_at i k).release) ≤ℤ GREATEST_RAISE
   small_release k l =

@@ -38,12 +38,7 @@ impl Reduction for Row49 {
         led(alloc, inst, self.row())
     }
 
-    fn back(
-        &self,
-        _alloc: Global,
-        _inst: &Instance,
-        lower: Solution,
-    ) -> Result<Solution, NoMemory> {
+    fn back(&self, _: Global, _inst: &Instance, lower: Solution) -> Result<Solution, NoMemory> {
         Ok(lower)
     }
 

@@ -9,7 +9,7 @@ use Rattle.msp_class.specs.declared.class.Env.{Env}
 use Rattle.msp_class.specs.declared.class.Env.TheVariants.{One, O2, O3, F2, F3}
 use Rattle.msp_class.specs.declared.class.Times.TheVariants.{General}
 use Rattle.msp_class.specs.declared.environments.EnvKind.{EnvKind}
-use Rattle.msp_class.specs.declared.environments.EnvKind.TheVariants.{Identical, OpenShop, FlowShop}
+use Rattle.msp_class.specs.declared.environments.EnvKind.TheVariants.{Identical, Uniform, Unrelated, OpenShop, FlowShop, JobShop}
 use Rattle.msp_class.specs.Env.{kind_of, fixed_machines, is_mirror_kind}
 use Rattle.msp_class.proofs.EnvNumbers.{env_number-injective}
 use Rattle.msp_class.proofs.IntegerRing.{≤ℤ_of_same}
@@ -23,7 +23,8 @@ use Rattle.msp_pieces.specs.Feasible.{HasOperation, MayRun, whole_work}
 use Rattle.msp_pieces.proofs.feasible.Frames.{frame_by, frame_of, rate_on, job_at-map}
 use Rattle.msp_pieces.proofs.changes.Serves.{IsMultiple-same, Serves}
 use Rattle.msp_pieces.proofs.costs.Charges.{SameCharges-from_map, job_cost-reads}
-use Rattle.msp_table.specs.Rows.{goes_of, table}
+use Rattle.msp_table.specs.Parts.{EnvIs, has}
+use Rattle.msp_table.specs.Rows.{goes_of, table, general_times}
 use Rattle.msp_route.specs.Law.{Applies}
 use Rattle.msp_route.specs.Bounds.{greatest_unit}
 use Rattle.msp_route.specs.Stays.{SchedulesStay}
@@ -239,21 +240,17 @@ record IsShop (k : EnvKind) : Type 0 where
 as_it_is : {A : Type 0} → A ↔ A
 as_it_is = ((λ h. h), (λ h. h))
 
-flow_shop : IsShop FlowShop
-flow_shop = record {
-  has = λ i a o. as_it_is;
-  may = λ i a o m. as_it_is;
-  time = λ i a o. refl;
-  rate = λ i a m. refl;
-  shape = λ e m ns. as_it_is;
-  speeds = λ m s. as_it_is;
-  factor = refl;
-  units = refl;
-  least = refl;
-}
+abbrev is_plain_shop : EnvKind → Bool
+is_plain_shop OpenShop = true
+is_plain_shop FlowShop = true
+is_plain_shop _ = false
 
-open_shop : IsShop OpenShop
-open_shop = record {
+shop : (k : EnvKind) → is_plain_shop k ≡ true → IsShop k
+shop Identical e = absurd (cc)
+shop Uniform e = absurd (cc)
+shop Unrelated e = absurd (cc)
+shop JobShop e = absurd (cc)
+shop _ e = record {
   has = λ i a o. as_it_is;
   may = λ i a o m. as_it_is;
   time = λ i a o. refl;
@@ -288,18 +285,15 @@ module _ (i j : Instance) (to : Env) (v : IsWidened One to 1 i j) (shop : IsShop
   single_machine : (a o : ℕ) → a < length i.jobs → o ≡ 0 → (need_at j a o).machine ≡ 0
   single_machine a o l h = ap (λ n. n.machine) (single_need a o l h) ∙ (single_at a l).1 o no_need (omega (arith, (single_at a l).0))
 
-  single_may : (a o m : ℕ) → a < length i.jobs → o ≡ 0 → m < i.machines → m ≡ (need_at j a o).machine
-  single_may a o m l h w = omega (arith, single_machine a o l h, v.machines)
-
-  single_may_back : (a o m : ℕ) → a < length i.jobs → o ≡ 0 → m ≡ (need_at j a o).machine → m < i.machines
-  single_may_back a o m l h w = omega (arith, single_machine a o l h, v.machines)
+  single_may : (a o m : ℕ) → a < length i.jobs → o ≡ 0 → (m < i.machines) ↔ (m ≡ (need_at j a o).machine)
+  single_may a o m l h = ((λ w. omega (arith, single_machine a o l h, v.machines)), (λ w. omega (arith, single_machine a o l h, v.machines)))
 
   single_same : SameTimes Identical (kind_of to) i j
   single_same = record {
     has = λ a o l h. (shop.has j a o).1 (single_has a o l h);
     all = λ a o l h. single_all a o l ((shop.has j a o).0 h);
-    may = λ a o m l h w. (shop.may j a o m).1 (single_may a o m l h w);
-    may_back = λ a o m l h w. single_may_back a o m l h ((shop.may j a o m).0 w);
+    may = λ a o m l h w. (shop.may j a o m).1 ((single_may a o m l h).0 w);
+    may_back = λ a o m l h w. (single_may a o m l h).1 ((shop.may j a o m).0 w);
     time = λ a o l h. shop.time j a o ∙ ap (λ n. n.time) (single_need a o l h);
     rate = λ a m. shop.rate j a m;
   }
@@ -335,24 +329,21 @@ module _ (i j : Instance) (from to : Env) (v : IsWidened from to 2 i j) (above :
   pair_need : (a o : ℕ) → a < length i.jobs → HasTime o (job_at i a).needs → need_at j a o ≡ need_at i a o
   pair_need a o l h = ap (λ ns. slice_index_or ns o no_need) (v.needs a l) ∙ need_kept 2 o (job_at i a).needs h.0
 
-  pair_may : (a o m : ℕ) → a < length i.jobs → HasTime o (job_at i a).needs → m ≡ (need_at i a o).machine → m ≡ (need_at j a o).machine
-  pair_may a o m l h w = w ∙ sym (ap (λ n. n.machine) (pair_need a o l h))
-
-  pair_may_back : (a o m : ℕ) → a < length i.jobs → HasTime o (job_at i a).needs → m ≡ (need_at j a o).machine → m ≡ (need_at i a o).machine
-  pair_may_back a o m l h w = w ∙ ap (λ n. n.machine) (pair_need a o l h)
+  pair_machine : (a o : ℕ) → a < length i.jobs → HasTime o (job_at i a).needs → (need_at j a o).machine ≡ (need_at i a o).machine
+  pair_machine a o l h = ap (λ n. n.machine) (pair_need a o l h)
 
   pair_same : SameTimes (kind_of from) (kind_of to) i j
   pair_same = record {
     has = λ a o l h. (below.has j a o).1 (pair_has a o l ((above.has i a o).0 h));
     all = λ a o l h. (above.has i a o).1 (pair_all a o l ((below.has j a o).0 h));
-    may = λ a o m l h w. (below.may j a o m).1 (pair_may a o m l ((above.has i a o).0 h) ((above.may i a o m).0 w));
-    may_back = λ a o m l h w. (above.may i a o m).1 (pair_may_back a o m l ((above.has i a o).0 h) ((below.may j a o m).0 w));
+    may = λ a o m l h w. (below.may j a o m).1 ((above.may i a o m).0 w ∙ sym (pair_machine a o l ((above.has i a o).0 h)));
+    may_back = λ a o m l h w. (above.may i a o m).1 ((below.may j a o m).0 w ∙ pair_machine a o l ((above.has i a o).0 h));
     time = λ a o l h. below.time j a o ∙ ap (λ n. n.time) (pair_need a o l ((above.has i a o).0 h)) ∙ sym (above.time i a o);
     rate = λ a m. below.rate j a m ∙ sym (above.rate i a m);
   }
 
-from_two : (from to : Env) → fixed_machines from ≡ Some 2 → fixed_machines to ≡ Some 3 → kind_of from ≡ kind_of to → IsShop (kind_of from) → IsShop (kind_of to) → Widens from to 2
-from_two from to two three kinds above below = record {
+from_two : (from to : Env) → fixed_machines from ≡ Some 2 → fixed_machines to ≡ Some 3 → kind_of from ≡ kind_of to → IsShop (kind_of from) → Widens from to 2
+from_two from to two three kinds above = let below = subst IsShop kinds above in record {
   from_machines = two;
   to_machines = three;
   few = omega arith;
@@ -369,22 +360,23 @@ from_two from to two three kinds above below = record {
 }
 
 -- ---- the rows
+stay_widened : (row : ℕ) (from to : Env) (m : ℕ) → Widens from to m → (i : Instance) → Inner i
+    → (has i.class (EnvIs from) ≡ true) × (general_times i.class ≡ true) × (goes_of row i.class ≡ Some (record i.class { env = to })) → SchedulesStay row i (with_idle_machine row i)
+stay_widened row from to m w i inner (b, g, e) =
+    stay-served (ServesBoth-led from to m w i (env_number-injective _ from (eqb-true _ _ b)) (times_number-injective _ General (eqb-true _ _ g)) inner row e) inner
+
 pub stay_28 : (i : Instance) → Inner i → Applies 28 i → SchedulesStay 28 i (with_idle_machine 28 i)
 unfolding goes_of table
-stay_28 i inner h = let (b, g, e) = part_and_condition _ _ _ h in
-    stay-served (ServesBoth-led One F2 1 (from_one F2 refl flow_shop) i (env_number-injective _ One (eqb-true _ _ b)) (times_number-injective _ General (eqb-true _ _ g)) inner 28 e) inner
+stay_28 i inner h = stay_widened 28 One F2 1 (from_one F2 refl (shop FlowShop refl)) i inner (part_and_condition _ _ _ h)
 
 pub stay_29 : (i : Instance) → Inner i → Applies 29 i → SchedulesStay 29 i (with_idle_machine 29 i)
 unfolding goes_of table
-stay_29 i inner h = let (b, g, e) = part_and_condition _ _ _ h in
-    stay-served (ServesBoth-led One O2 1 (from_one O2 refl open_shop) i (env_number-injective _ One (eqb-true _ _ b)) (times_number-injective _ General (eqb-true _ _ g)) inner 29 e) inner
+stay_29 i inner h = stay_widened 29 One O2 1 (from_one O2 refl (shop OpenShop refl)) i inner (part_and_condition _ _ _ h)
 
 pub stay_30 : (i : Instance) → Inner i → Applies 30 i → SchedulesStay 30 i (with_idle_machine 30 i)
 unfolding goes_of table
-stay_30 i inner h = let (b, g, e) = part_and_condition _ _ _ h in stay-served
-    (ServesBoth-led F2 F3 2 (from_two F2 F3 refl refl refl flow_shop flow_shop) i (env_number-injective _ F2 (eqb-true _ _ b)) (times_number-injective _ General (eqb-true _ _ g)) inner 30 e) inner
+stay_30 i inner h = stay_widened 30 F2 F3 2 (from_two F2 F3 refl refl refl (shop FlowShop refl)) i inner (part_and_condition _ _ _ h)
 
 pub stay_31 : (i : Instance) → Inner i → Applies 31 i → SchedulesStay 31 i (with_idle_machine 31 i)
 unfolding goes_of table
-stay_31 i inner h = let (b, g, e) = part_and_condition _ _ _ h in stay-served
-    (ServesBoth-led O2 O3 2 (from_two O2 O3 refl refl refl open_shop open_shop) i (env_number-injective _ O2 (eqb-true _ _ b)) (times_number-injective _ General (eqb-true _ _ g)) inner 31 e) inner
+stay_31 i inner h = stay_widened 31 O2 O3 2 (from_two O2 O3 refl refl refl (shop OpenShop refl)) i inner (part_and_condition _ _ _ h)

@@ -3,7 +3,7 @@ use Rattle.std.proofs.Common.{◌≡◌, ℕ, zero, suc, ◌+◌, ◌*◌, ◌%�
 use Rattle.std.specs.Prelude.{◌==◌, ◌&&◌}
 use Rattle.std.specs.Int.{◌∣◌}
 use Rattle.std.specs.List.{list_all, range_with_len}
-use Rattle.std.proofs.lemmas.Bool.{eqb-true, eqb-false, eq-eqb}
+use Rattle.std.proofs.lemmas.Bool.{eqb-true, eqb-false, eq-eqb, false≢true}
 use Rattle.std.proofs.lemmas.Nat.{mul-le}
 use Rattle.std.proofs.lemmas.Nat.Gcd.{dvd_trans, dvd_antisymm, le_of_dvd, dvd_of_mod-eq-zero, mod-eq-zero_of_dvd}
 use Rattle.std.proofs.Math.Nat.{dvd-mod_iff, dvd-mul_left, dvd-mul_right, mod-lt}
@@ -48,10 +48,7 @@ first_found p a (suc n) c l h e = by (p a) refl (λ q. first_found p (a + 1) n c
         )
       where
         differs : (a c : ℕ) → p a ≡ false → p c ≡ true → a ≡ c → ⊥
-        differs a c t e s = absurd (apart (sym t ∙ ap p s ∙ e))
-          where
-            apart : false ≡ true → ⊥
-            apart f = cc
+        differs a c t e s = false≢true (sym t ∙ ap p s ∙ e)
 
         later : (a c : ℕ) → a ≤ c → (a ≡ c → ⊥) → a + 1 ≤ c
         later a c l h = omega arith
@@ -104,13 +101,10 @@ least_multiple xs some =
 
         by : (b : Bool) → eqb (c % m) 0 ≡ b → m ∣ c
         by true e = dvd_of_mod-eq-zero m (eqb-true _ _ e)
-        by false e = absurd (none (sym (first.before (c % m) (more (c % m) (eqb-false _ _ e)) (mod-lt c first.from)) ∙ passes xs (c % m) rest))
+        by false e = absurd (false≢true (sym (first.before (c % m) (more (c % m) (eqb-false _ _ e)) (mod-lt c first.from)) ∙ passes xs (c % m) rest))
           where
             more : (r : ℕ) → (r ≡ 0 → ⊥) → 1 ≤ r
             more r h = omega arith
-
-            none : false ≡ true → ⊥
-            none f = cc
 
 -- there is no other
 pub least_multiple-only : (xs : List ℕ) (multiple : ℕ) → All (λ x. 1 ≤ x) xs → IsLeastOfAll xs multiple → multiple ≡ least_common_multiple xs

@@ -38,9 +38,8 @@ same_times UnitTimes shared needs n some h = All-needs_by (λ x. x.time ≡ 1) n
 same_times Equal shared needs n some h = All-needs_by (λ x. x.time ≡ shared) n (λ m. (slice_index_or needs 0 no_need).time) (λ m l. h 0 no_need some)
 
 greater : (t : Times) (x : ℕ) → x ≤ greatest_time (inner_limits Identical) t → x ≤ greatest_time (inner_limits Unrelated) t
-greater General x h = omega arith
-greater UnitTimes x h = omega arith
 greater Equal x h = h
+greater _ x h = omega arith
 
 module _ (row : ℕ) (i : Instance) (e : Env) (from : kind_of i.class.env ≡ Identical) (to : kind_of e ≡ Unrelated)
     (fixed : fixed_machines i.class.env ≡ fixed_machines e) (g : goes_of row i.class ≡ Some (record i.class { env = e })) (inner : Inner i) where

@@ -6,6 +6,7 @@ use Rattle.std.proofs.lemmas.Bool.{eqb-true, eq-eqb, ne_eqb}
 use Rattle.std.proofs.lemmas.List.{length-map, get_or_default}
 use Rattle.std.proofs.lemmas.List.Elements.{All-head, All-tail, All-filter, All-contains_itself, filter_passes}
 use Rattle.std.proofs.lemmas.List.Kept.{AllPairs-filter}
+use Rattle.std.proofs.lemmas.List.Sums.{length-filter, count_by-le-length}
 use Rattle.msp_class.specs.declared.class.Env.{Env}
 use Rattle.msp_class.specs.declared.class.Env.TheVariants.{F2, F, J2Short, J}
 use Rattle.msp_class.specs.declared.class.Times.{Times}
@@ -25,6 +26,7 @@ use Rattle.msp_pieces.proofs.costs.Charges.{SameCharges-from_map, job_cost-reads
 use Rattle.msp_pieces.proofs.feasible.Frames.{IsShaped, IsShaped-from_conditions, frame_by, job_at-map}
 use Rattle.msp_pieces.proofs.changes.Moves.{Suits}
 use Rattle.msp_pieces.proofs.changes.Transport.{Stretches-identity, carried, carried_schedule, Feasible-carried}
+use Rattle.msp_table.specs.Parts.{EnvIs, has}
 use Rattle.msp_table.specs.Rows.{goes_of, table}
 use Rattle.msp_route.specs.Law.{Applies}
 use Rattle.msp_route.specs.Bounds.{greatest_unit}
@@ -133,25 +135,16 @@ module _ (m : ℕ) (ns : List Need) (per : IsNeedPerMachine m ns) where
   route_kept : (most : ℕ) → m ≤ most → Any (λ n. 1 ≤ n.time) ns → IsRoute most m (kept ns)
   route_kept most fits some = record {
     some = let (k, x, l, e, h) = some_kept some in omega (arith, l);
-    few = omega (arith, fits, shorter ns, per.0);
+    few = omega (arith, fits, length-filter takes_time ns, count_by-le-length takes_time ns, per.0);
     machines = All-filter takes_time (λ n. n.machine < m) ns (λ k d l. omega (arith, l, per.0, ap (λ n. n.machine) (get_or_default ns k d no_need l) ∙ per.1 k l));
     moves = λ k d l e. omega (arith, in_turn k (k + 1) d (omega arith) l, e);
   }
-    where
-      shorter : (xs : List Need) → length (kept xs) ≤ length xs
-      shorter [] = omega arith
-      shorter (x ∷ xs) = by (takes_time x) (shorter xs)
-        where
-          by : (b : Bool) → length (kept xs) ≤ length xs → length (cond b (x ∷ kept xs) (kept xs)) ≤ suc (length xs)
-          by true h = omega (arith, h)
-          by false h = omega (arith, h)
 
   times_kept : (least most : ℕ) → HasTimes least most ns → HasTimes 1 most (kept ns)
   times_kept least most h = λ k d l. (some _ (taken _ (filter_passes takes_time ns k d l)), All-filter takes_time (λ n. n.time ≤ most) ns (λ k d l. (h k d l).1) k d l)
     where
       some : (t : ℕ) → t ≢ 0 → 1 ≤ t
-      some zero h = absurd (h refl)
-      some (suc t) h = omega arith
+      some t h = omega arith
 
 -- ---- the rows
 -- maps that agree at each item
@@ -339,16 +332,16 @@ module _ (to : Env) (i : Instance) (w : IsRouting to i) (inner : Inner i) where
 two_machines : (i : Instance) → i.class.env ≡ F2 → Inner i → i.machines ≡ 2
 two_machines i e inner = subst (λ x. MatchOption (fixed_machines x) ⊤ (λ m. i.machines ≡ m)) e inner.conditions.machines.2
 
+renumbered_at : (row : ℕ) (from to : Env) → (i : Instance) → Inner i → (i.class.env ≡ from → IsRouting to i)
+    → (has i.class (EnvIs from) ≡ true) × (goes_of row i.class ≡ Some (record i.class { env = to }))
+    → Renumbered row i (without_empty_operations row i) (route_number i) machine_number
+renumbered_at row from to i inner routing (b, g) = Renumbered-led to i (routing (env_number-injective _ from (eqb-true _ _ b))) inner row g
+
 pub renumbered_39 : (i : Instance) → Inner i → Applies 39 i → Renumbered 39 i (without_empty_operations 39 i) (route_number i) machine_number
 unfolding goes_of table
-renumbered_39 i inner h = let (b, g) = part_alone _ _ h in by (env_number-injective _ F2 (eqb-true _ _ b)) g
-  where
-    by : i.class.env ≡ F2 → goes_of 39 i.class ≡ Some (record i.class { env = J2Short }) → Renumbered 39 i (without_empty_operations 39 i) (route_number i) machine_number
-    by e g = Renumbered-led J2Short i (record { flow = ap kind_of e; job = refl; fixed = two_machines i e inner; fits = omega (arith, two_machines i e inner) }) inner 39 g
+renumbered_39 i inner h =
+    renumbered_at 39 F2 J2Short i inner (λ e. record { flow = ap kind_of e; job = refl; fixed = two_machines i e inner; fits = omega (arith, two_machines i e inner) }) (part_alone _ _ h)
 
 pub renumbered_40 : (i : Instance) → Inner i → Applies 40 i → Renumbered 40 i (without_empty_operations 40 i) (route_number i) machine_number
 unfolding goes_of table
-renumbered_40 i inner h = let (b, g) = part_alone _ _ h in by (env_number-injective _ F (eqb-true _ _ b)) g
-  where
-    by : i.class.env ≡ F → goes_of 40 i.class ≡ Some (record i.class { env = J }) → Renumbered 40 i (without_empty_operations 40 i) (route_number i) machine_number
-    by e g = Renumbered-led J i (record { flow = ap kind_of e; job = refl; fixed = tt; fits = omega (arith, inner.conditions.machines.1) }) inner 40 g
+renumbered_40 i inner h = renumbered_at 40 F J i inner (λ e. record { flow = ap kind_of e; job = refl; fixed = tt; fits = omega (arith, inner.conditions.machines.1) }) (part_alone _ _ h)

@@ -7,7 +7,7 @@ use Rattle.std.proofs.lemmas.List.Elements.{All-replicate, All-contains_itself}
 use Rattle.msp_class.specs.declared.class.Env.{Env}
 use Rattle.msp_class.specs.declared.class.Env.TheVariants.{One, P2, P, Q2, Q, O, F, J2Short}
 use Rattle.msp_class.specs.declared.class.Times.{Times}
-use Rattle.msp_class.specs.declared.class.Times.TheVariants.{General, Unit as UnitTimes, Equal}
+use Rattle.msp_class.specs.declared.class.Times.TheVariants.{General, Equal}
 use Rattle.msp_class.specs.declared.environments.EnvKind.{EnvKind}
 use Rattle.msp_class.specs.declared.environments.EnvKind.TheVariants.{Identical, Uniform, Unrelated, OpenShop, FlowShop, JobShop}
 use Rattle.msp_class.specs.declared.sizes.TheConstants.{MOST_MACHINES, MOST_SHORT_OPERATIONS, GREATEST_SPEED}
@@ -43,9 +43,8 @@ record TakesSingle (e : Env) (l : EnvKind) (machines : ℕ) : Type 0 where
   unit : greatest_unit l ≡ greatest_unit Identical
 
 greatest-same : (l : EnvKind) (t : Times) → inner_factor l ≡ 1 → greatest_time (inner_limits Identical) t ≤ greatest_time (inner_limits l) t
-greatest-same l General e = omega (arith, e)
-greatest-same l UnitTimes e = omega (arith, e)
 greatest-same l Equal e = omega arith
+greatest-same l _ e = omega (arith, e)
 
 module _ (i : Instance) (e : Env) (l : EnvKind)
     (m : ℕ) (speeds : List ℕ) (from : kind_of i.class.env ≡ Identical) (takes : TakesSingle e l m) (machines : AreMachines e m speeds) (inner : Inner i) where
@@ -207,8 +206,7 @@ module _ (i : Instance) (env : i.class.env ≡ One) (inner : Inner i) where
 
 shop_least : (t : Times) → least_shop_time t ≤ 1
 shop_least General = omega arith
-shop_least UnitTimes = omega arith
-shop_least Equal = omega arith
+shop_least _ = omega arith
 
 -- the machines of the instance in an environment without speeds
 one_machine : (i : Instance) → i.class.env ≡ One → Inner i
@@ -222,11 +220,7 @@ shop_runs : (i : Instance) (env : i.class.env ≡ One) (inner : Inner i) (e : En
 shop_runs i env inner e Identical m s takes machines = absurd (cc)
 shop_runs i env inner e Uniform m s takes machines = absurd (cc)
 shop_runs i env inner e Unrelated m s takes machines = absurd (cc)
-shop_runs i env inner e OpenShop m s takes machines =
-    record { has = run_has i env inner; all = run_all i env inner; may = run_may i env inner; may_back = run_may_back i env inner; rate = λ a n w. refl; want = λ a o. refl }
-shop_runs i env inner e FlowShop m s takes machines =
-    record { has = run_has i env inner; all = run_all i env inner; may = run_may i env inner; may_back = run_may_back i env inner; rate = λ a n w. refl; want = λ a o. refl }
-shop_runs i env inner e JobShop m s takes machines =
+shop_runs i env inner e _ m s takes machines =
     record { has = run_has i env inner; all = run_all i env inner; may = run_may i env inner; may_back = run_may_back i env inner; rate = λ a n w. refl; want = λ a o. refl }
 
 serves_shop : (row : ℕ) (i : Instance) → i.class.env ≡ One → (e : Env) (l : EnvKind) (m : ℕ) → is_shop_kind l ≡ true → TakesSingle e l m

@@ -1,5 +1,5 @@
 -- The rows from uniform to unrelated machines: times are multiplied by a common multiple of the speeds.
-use Rattle.std.proofs.Common.{◌≡◌, ℕ, suc, zero, ◌*◌, ◌/◌, ◌<◌, ◌≤◌, List, [], length, get_or, map, All, Some, unwrap_or, inl, ℤ, pos, negsuc, ◌+ℤ◌, ◌-ℤ◌, ◌*ℤ◌, ◌≤ℤ◌}
+use Rattle.std.proofs.Common.{◌≡◌, ℕ, suc, zero, ◌*◌, ◌/◌, ◌<◌, ◌≤◌, List, [], length, get_or, map, All, Some, unwrap_or, inl, ℤ, pos, negsuc, ◌+ℤ◌, ◌*ℤ◌, ◌≤ℤ◌}
 use Rattle.std.proofs.Common.{slice_index_or, refl, sym, ap, ap₂, subst, subst₂, ◌∙◌, arith}
 use Rattle.std.specs.Prelude.{MatchOption, ⊤}
 use Rattle.std.specs.Int.{◌∣◌}
@@ -13,7 +13,7 @@ use Rattle.msp_class.specs.declared.class.Env.{Env}
 use Rattle.msp_class.specs.declared.class.Env.TheVariants.{Q2, Q, R2, R}
 use Rattle.msp_class.specs.declared.class.Times.TheVariants.{General}
 use Rattle.msp_class.specs.declared.class.Crit.{Crit}
-use Rattle.msp_class.specs.declared.class.Crit.TheVariants.{Cmax, Lmax, Fmax, SumC, SumWC, SumU, SumWU, SumT, SumWT}
+use Rattle.msp_class.specs.declared.class.Crit.TheVariants.{SumU, SumWU}
 use Rattle.msp_class.specs.declared.environments.EnvKind.TheVariants.{Uniform, Unrelated}
 use Rattle.msp_class.specs.Crit.{uses_due, uses_curve}
 use Rattle.msp_class.specs.Env.{kind_of, fixed_machines}
@@ -36,6 +36,7 @@ use Rattle.msp_pieces.proofs.costs.Charges.{charge_of, cost-multiple, job_cost-s
 use Rattle.msp_table.specs.Rows.{goes_of, table}
 use Rattle.msp_route.specs.Law.{Rate, Applies, IsLower, IsPositive, IsForth, IsBack}
 use Rattle.msp_route.proofs.Applied.{part_and_condition}
+use Rattle.msp_route.proofs.InnerChanges.{HasNearDues-map}
 use Rattle.msp_route.specs.Rates.{least_common_multiple, cost_factor, speed_rate}
 use Rattle.msp_machines.specs.Unrelated.{only_time, stretched, led_by_speeds, stretched_schedule, shrunk_schedule}
 use Rattle.msp_machines.specs.laws.NeedsBy.{get_or-needs_by, HasNeeds-needs_by}
@@ -148,10 +149,8 @@ module _ (row : ℕ) (i : Instance) (e : Env) (from : kind_of i.class.env ≡ Un
   job_is a l = job_at-map i lower (stretched n i.speeds) refl a l
 
   near : HasNearDues (2 * GREATEST * inner_factor (kind_of e)) lower
-  near = subst (λ k. HasNearDues (2 * GREATEST * inner_factor k) lower) (sym to) (λ j k a b.
-      let p : j < length i.jobs = omega (arith, count) in let q : k < length i.jobs = omega (arith, count) in
-      subst₂ (λ x y. (x.due -ℤ y.due) ≤ℤ pos (2 * GREATEST * GREATEST_MULTIPLE)) (sym (job_is j p)) (sym (job_is k q))
-      (near-product n factor_small (job_at i j).due (job_at i k).due (2 * GREATEST) (subst (λ k. HasNearDues (2 * GREATEST * inner_factor k) i) from inner.dues j k p q)))
+  near = subst (λ k. HasNearDues (2 * GREATEST * inner_factor k) lower) (sym to) (HasNearDues-map _ i lower (stretched n i.speeds) refl (λ j k p q.
+      near-product n factor_small (job_at i j).due (job_at i k).due (2 * GREATEST) (subst (λ k. HasNearDues (2 * GREATEST * inner_factor k) i) from inner.dues j k p q)))
 
   lower_inner : Inner lower
   lower_inner = Inner-in_environment i e i.machines [] (map (stretched n i.speeds) i.jobs) count machines
@@ -326,15 +325,9 @@ module _ (row : ℕ) (i : Instance) (e : Env) (from : kind_of i.class.env ≡ Un
   IsPositive-speeds = record { factor = some i.class.crit; scale = omega arith }
     where
       some : (c : Crit) → 1 ≤ cost_factor c n
-      some Cmax = factor_some
-      some Lmax = factor_some
-      some Fmax = factor_some
-      some SumC = factor_some
-      some SumWC = factor_some
       some SumU = omega arith
       some SumWU = omega arith
-      some SumT = factor_some
-      some SumWT = factor_some
+      some _ = factor_some
 
 -- ---- the two rows
 -- what the law says, and how large the factor may be

@@ -3,7 +3,7 @@ use Rattle.std.proofs.Common.{◌≡◌, ℕ, ◌*◌, Bool, true, false, List, 
 use Rattle.std.specs.Prelude.{int_lt}
 use Rattle.std.specs.Int.{int_max}
 use Rattle.msp_class.specs.declared.class.Crit.{Crit}
-use Rattle.msp_class.specs.declared.class.Crit.TheVariants.{Cmax, Lmax, Fmax, SumC, SumWC, SumU, SumWU, SumT, SumWT}
+use Rattle.msp_class.specs.declared.class.Crit.TheVariants.{Lmax, Fmax, SumU, SumWU, SumT, SumWT}
 use Rattle.msp_class.proofs.IntegerRing.{one-*ℤ, *ℤ-zero, *ℤ_assoc, *ℤ_comm, *ℤ_exchange, *ℤ-add}
 use Rattle.msp_class.proofs.Sums.{sum_by-agree, sum_by-scale, sum_by-map}
 use Rattle.msp_instance.specs.declared.Step.{Step}
@@ -47,12 +47,10 @@ module _ (n : ℕ) (speeds : List ℕ) (unit x : ℤ) where
       by false = *ℤ-zero (pos n)
 
   pub job_cost-stretched : (crit : Crit) (a : Job) → pos (cost_factor crit n) *ℤ job_cost crit wide a x ≡ pos n *ℤ job_cost crit unit (stretched n speeds a) x
-  job_cost-stretched Cmax a = refl
   job_cost-stretched Lmax a = ap (λ z. pos n *ℤ z) (sym (lateness-stretched a))
   job_cost-stretched Fmax a = ap (λ z. pos n *ℤ ((pos a.curve.slope *ℤ x) +ℤ z)) (sym (level-stretched a.curve))
-  job_cost-stretched SumC a = refl
-  job_cost-stretched SumWC a = refl
   job_cost-stretched SumU a = one-*ℤ (late wide a x) ∙ sym (late-stretched a)
   job_cost-stretched SumWU a = one-*ℤ (pos a.weight *ℤ late wide a x) ∙ ap (λ z. pos a.weight *ℤ z) (sym (late-stretched a)) ∙ *ℤ_exchange (pos a.weight) (pos n) (late unit (stretched n speeds a) x)
   job_cost-stretched SumT a = ap (λ z. pos n *ℤ int_max (pos 0) z) (sym (lateness-stretched a))
   job_cost-stretched SumWT a = ap (λ z. pos n *ℤ (pos a.weight *ℤ int_max (pos 0) z)) (sym (lateness-stretched a))
+  job_cost-stretched _ a = refl

@@ -1,12 +1,12 @@
 -- The row from the greatest lateness to the greatest cost by curves: charges are the same.
-use Rattle.std.proofs.Common.{◌≡◌, ℕ, ◌*◌, ◌<◌, ◌≤◌, length, get_or, map, All, ℤ, pos, neg_ℤ, ◌+ℤ◌, ◌-ℤ◌, ◌*ℤ◌, ◌≤ℤ◌, Some, refl, sym, ap, subst, ◌∙◌, arith}
+use Rattle.std.proofs.Common.{◌≡◌, ℕ, ◌*◌, ◌≤◌, get_or, map, All, ℤ, pos, neg_ℤ, ◌+ℤ◌, ◌-ℤ◌, ◌*ℤ◌, Some, refl, sym, ap, subst, ◌∙◌, arith}
 use Rattle.std.proofs.lemmas.Bool.{eqb-true}
 use Rattle.std.proofs.lemmas.Int.{ints}
 use Rattle.std.proofs.lemmas.List.{length-map}
 use Rattle.std.proofs.lemmas.List.Elements.{All-map, All-nil}
 use Rattle.msp_class.specs.declared.class.Crit.TheVariants.{Lmax, Fmax}
 use Rattle.msp_class.specs.declared.environments.EnvKind.{EnvKind}
-use Rattle.msp_class.specs.declared.environments.EnvKind.TheVariants.{Identical, Uniform, Unrelated, OpenShop, FlowShop, JobShop}
+use Rattle.msp_class.specs.declared.environments.EnvKind.TheVariants.{Identical}
 use Rattle.msp_class.specs.Env.{kind_of}
 use Rattle.msp_class.specs.Crit.{is_greatest, uses_due, uses_weight}
 use Rattle.msp_class.proofs.RankLemmas.{crit_number-injective}
@@ -14,16 +14,14 @@ use Rattle.msp_class.proofs.IntegerRing.{one-*ℤ, *ℤ-neg, +ℤ_idr}
 use Rattle.msp_class.specs.declared.sizes.TheConstants.{GREATEST, GREATEST_MULTIPLE}
 use Rattle.msp_instance.specs.declared.Job.{Job}
 use Rattle.msp_instance.specs.declared.Instance.{Instance}
-use Rattle.msp_instance.specs.Instance.{job_at}
 use Rattle.msp_instance.specs.Conditions.{IsJobOf, HasSameTimes, HasDue, HasWeight, LiesWithin, Inner, inner_limits, inner_factor}
 use Rattle.msp_pieces.specs.Cost.{job_cost, lateness}
-use Rattle.msp_pieces.proofs.feasible.Frames.{job_at-map}
 use Rattle.msp_pieces.proofs.costs.Charges.{SameCharges-from_map}
 use Rattle.msp_pieces.proofs.changes.Serves.{SameNeeds-from_map, SameWork-from_map}
 use Rattle.msp_table.specs.Rows.{goes_of, table}
 use Rattle.msp_route.specs.Law.{Applies}
 use Rattle.msp_plain.specs.Changes.{by_curve, led_by_curves}
-use Rattle.msp_route.proofs.InnerChanges.{changed, common_time-map, Inner-changed}
+use Rattle.msp_route.proofs.InnerChanges.{changed, common_time-map, Inner-changed, IsJobOf-recast, HasNearDues-map}
 use Rattle.msp_route.specs.Stays.{SchedulesStay}
 use Rattle.msp_route.proofs.Alike.{Alike-led, stay-alike}
 use Rattle.msp_route.specs.Sizes.{greatest_row_date}
@@ -49,29 +47,15 @@ curve_charge unit a x =
 by_curve_inner : (i : Instance) → i.class.crit ≡ Lmax → Inner i → Inner (changed i i.class.order i.class.heads i.class.times Fmax (map by_curve i.jobs))
 by_curve_inner i e inner = Inner-changed i i.class.order i.class.heads i.class.times Fmax (map by_curve i.jobs) (length-map i.jobs by_curve)
     (All-map (IsJobOf (inner_limits (kind_of i.class.env)) lower) by_curve i.jobs (λ k d l. own (get_or i.jobs k d) (inner.conditions.jobs k d l)))
-    inner.conditions.arcs (λ j l. inner.conditions.degree j (omega (arith, length-map i.jobs by_curve))) near inner
+    inner.conditions.arcs (λ j l. inner.conditions.degree j (omega (arith, length-map i.jobs by_curve))) (HasNearDues-map _ i lower by_curve refl (λ m n a b. omega (arith, ints))) inner
   where
     lower : Instance
     lower = changed i i.class.order i.class.heads i.class.times Fmax (map by_curve i.jobs)
 
     own : (a : Job) → IsJobOf (inner_limits (kind_of i.class.env)) i a → IsJobOf (inner_limits (kind_of i.class.env)) lower (by_curve a)
-    own a h = record {
-      needs = record { shape = h.needs.shape; times = h.needs.times; some = h.needs.some };
-      times = subst (λ t. HasSameTimes i.class.times t a.needs) (sym (common_time-map i lower by_curve refl (λ a. refl) inner.conditions.some)) h.times;
-      release = h.release;
-      due = refl;
-      weight = subst (λ c. HasWeight (uses_weight c) a.weight) e h.weight;
-      curve = record { slope = omega arith; base = turned_sign _ a.due (dated i e a h); few = omega arith; steps = All-nil _ };
-    }
-
-    near : (j k : ℕ) → j < length lower.jobs → k < length lower.jobs → ((job_at lower j).due -ℤ (job_at lower k).due) ≤ℤ pos (2 * GREATEST * inner_factor (kind_of i.class.env))
-    near j k a b = apart _ _ _ (none j a) (none k b)
-      where
-        none : (j : ℕ) → j < length lower.jobs → (job_at lower j).due ≡ pos 0
-        none j a = ap (λ x. x.due) (job_at-map i lower by_curve refl j (omega (arith, length-map i.jobs by_curve)))
-
-        apart : (n : ℕ) (x y : ℤ) → x ≡ pos 0 → y ≡ pos 0 → (x -ℤ y) ≤ℤ pos n
-        apart n x y e f = omega (arith, ints)
+    own a h = IsJobOf-recast h.needs refl refl h.needs.times
+        (subst (λ t. HasSameTimes i.class.times t a.needs) (sym (common_time-map i lower by_curve refl (λ a. refl) inner.conditions.some)) h.times) h.release refl
+        (subst (λ c. HasWeight (uses_weight c) a.weight) e h.weight) (record { slope = omega arith; base = turned_sign _ a.due (dated i e a h); few = omega arith; steps = All-nil _ })
 
 pub stay_9 : (i : Instance) → Inner i → Applies 9 i → SchedulesStay 9 i (led_by_curves i)
 unfolding goes_of table
@@ -89,11 +73,7 @@ stay_9 i inner h = let (b, g) = part_alone _ _ h in by (crit_number-injective _ 
 -- due dates fit their type, with either sign
 factor_bound : (k : EnvKind) → inner_factor k ≤ GREATEST_MULTIPLE
 factor_bound Identical = omega arith
-factor_bound Uniform = omega arith
-factor_bound Unrelated = omega arith
-factor_bound OpenShop = omega arith
-factor_bound FlowShop = omega arith
-factor_bound JobShop = omega arith
+factor_bound _ = omega arith
 
 pub date_fits : (k : EnvKind) (d : ℤ) → LiesWithin (2 * GREATEST * inner_factor k) d → LiesWithin greatest_row_date d
 date_fits k d h = let b = factor_bound k in (omega (arith, ints, h.0, b), omega (arith, ints, h.1, b))

@@ -1,5 +1,5 @@
 -- The row from equal times to unit times: both instances have the same schedules on another scale.
-use Rattle.std.proofs.Common.{◌≡◌, ℕ, ◌+◌, ◌*◌, ◌<◌, ◌≤◌, ◌⊎◌, Bool, true, false, List, length, get_or, map, inl, inr, ℤ, pos, nat_abs, ◌+ℤ◌, ◌-ℤ◌, ◌*ℤ◌, ◌≤ℤ◌, Some, unwrap_or}
+use Rattle.std.proofs.Common.{◌≡◌, ℕ, ◌+◌, ◌*◌, ◌<◌, ◌≤◌, ◌⊎◌, Bool, true, false, List, length, get_or, map, inl, inr, ℤ, pos, nat_abs, ◌+ℤ◌, ◌*ℤ◌, ◌≤ℤ◌, Some, unwrap_or}
 use Rattle.std.proofs.Common.{refl, sym, ap, subst, ◌∙◌, arith, ◌^◌}
 use Rattle.std.specs.Prelude.{◌||◌}
 use Rattle.std.proofs.lemmas.Bool.{eqb-true}
@@ -12,16 +12,16 @@ use Rattle.msp_class.specs.declared.class.Env.{Env}
 use Rattle.msp_class.specs.declared.class.Times.TheVariants.{Unit as UnitTimes, Equal}
 use Rattle.msp_class.specs.declared.class.Crit.TheVariants.{Cmax, SumC, SumWC}
 use Rattle.msp_class.specs.declared.environments.EnvKind.{EnvKind}
-use Rattle.msp_class.specs.declared.environments.EnvKind.TheVariants.{Identical, Uniform, Unrelated, OpenShop, FlowShop, JobShop}
+use Rattle.msp_class.specs.declared.environments.EnvKind.TheVariants.{Identical, Uniform, JobShop}
 use Rattle.msp_class.specs.Env.{kind_of}
 use Rattle.msp_class.proofs.RankLemmas.{flag_number-injective, times_number-injective, crit_number-injective}
 use Rattle.msp_class.proofs.IntegerRing.{pos-le, one-*ℤ, zero-*ℤ, +ℤ_idr, *ℤ_assoc, *ℤ_comm, *ℤ-mono, *ℤ-mono_nonneg, ≤ℤ_trans, ≤ℤ_of_same}
-use Rattle.msp_class.specs.declared.sizes.TheConstants.{MOST_JOBS, MOST_OPERATIONS, GREATEST, GREATEST_EQUAL_TIME, GREATEST_UNIT}
+use Rattle.msp_class.specs.declared.sizes.TheConstants.{MOST_JOBS, MOST_OPERATIONS, GREATEST_EQUAL_TIME, GREATEST_UNIT}
 use Rattle.msp_instance.specs.declared.Need.{Need}
 use Rattle.msp_instance.specs.declared.Job.{Job}
 use Rattle.msp_instance.specs.declared.Instance.{Instance}
 use Rattle.msp_instance.specs.Instance.{no_need, no_job, job_at, common_time}
-use Rattle.msp_instance.specs.Conditions.{Limits, IsJobOf, HasShape, HasTimes, HasRelease, Inner, inner_limits, inner_factor, least_time, greatest_time}
+use Rattle.msp_instance.specs.Conditions.{Limits, IsJobOf, HasShape, HasTimes, HasRelease, Inner, inner_limits, least_time, greatest_time}
 use Rattle.msp_pieces.specs.declared.Schedule.{Schedule}
 use Rattle.msp_pieces.specs.Feasible.{Feasible}
 use Rattle.msp_pieces.specs.Cost.{cost_of, end_of}
@@ -34,7 +34,7 @@ use Rattle.msp_table.specs.Rows.{goes_of, table}
 use Rattle.msp_route.specs.Law.{Applies, IsLower, IsPositive, IsForth, IsBack, IsReordered}
 use Rattle.msp_route.specs.Bounds.{EndsBy}
 use Rattle.msp_route.specs.declared.bounds.TheConstants.{GREATEST_CLOSED_UP}
-use Rattle.msp_route.proofs.InnerChanges.{changed, Inner-changed}
+use Rattle.msp_route.proofs.InnerChanges.{changed, Inner-changed, HasNearDues-map}
 use Rattle.msp_route.proofs.Applied.{part_and_condition}
 use Rattle.msp_plain.specs.Equal.{unit_need, unit_job, led_to_unit, over_time, closed, closed_up}
 use Rattle.msp_route.specs.Rates.{by_common_time}
@@ -77,21 +77,6 @@ led_is i h = ap (λ o. record i { class = unwrap_or o i.class; jobs = map unit_j
 shape_of_units : (k : EnvKind) (e : Env) (m : ℕ) (needs : List Need) → HasShape k e m needs → HasShape k e m (map unit_need needs)
 shape_of_units Identical e m needs h = (length-map needs unit_need ∙ h.0, All-map (λ n. n.machine ≡ 0) unit_need needs h.1)
 shape_of_units Uniform e m needs h = (length-map needs unit_need ∙ h.0, All-map (λ n. n.machine ≡ 0) unit_need needs h.1)
-shape_of_units Unrelated e m needs h = (
-  length-map needs unit_need ∙ h.0,
-  λ k l. let inside : k < length needs = omega (arith, length-map needs unit_need) in
-      ap (λ n. n.machine) (get_or-map unit_need needs k no_need no_need inside) ∙ h.1 k inside,
-)
-shape_of_units OpenShop e m needs h = (
-  length-map needs unit_need ∙ h.0,
-  λ k l. let inside : k < length needs = omega (arith, length-map needs unit_need) in
-      ap (λ n. n.machine) (get_or-map unit_need needs k no_need no_need inside) ∙ h.1 k inside,
-)
-shape_of_units FlowShop e m needs h = (
-  length-map needs unit_need ∙ h.0,
-  λ k l. let inside : k < length needs = omega (arith, length-map needs unit_need) in
-      ap (λ n. n.machine) (get_or-map unit_need needs k no_need no_need inside) ∙ h.1 k inside,
-)
 shape_of_units JobShop e m needs h = record {
   some = omega (arith, h.some, length-map needs unit_need);
   few = omega (arith, h.few, length-map needs unit_need);
@@ -101,27 +86,24 @@ shape_of_units JobShop e m needs h = record {
       let next = get_or-map unit_need needs (k + 1) d d (omega arith) in
       λ e. h.moves k d (omega arith) (sym (ap (λ n. n.machine) here) ∙ e ∙ ap (λ n. n.machine) next);
 }
+shape_of_units _ e m needs h = (
+  length-map needs unit_need ∙ h.0,
+  λ k l. let inside : k < length needs = omega (arith, length-map needs unit_need) in
+      ap (λ n. n.machine) (get_or-map unit_need needs k no_need no_need inside) ∙ h.1 k inside,
+)
 
 least_of_units : (k : EnvKind) → least_time k UnitTimes ≤ 1
 least_of_units Identical = omega arith
-least_of_units Uniform = omega arith
-least_of_units Unrelated = omega arith
-least_of_units OpenShop = omega arith
-least_of_units FlowShop = omega arith
-least_of_units JobShop = omega arith
+least_of_units _ = omega arith
 
 greatest_of_units : (k : EnvKind) → 1 ≤ greatest_time (inner_limits k) UnitTimes
 greatest_of_units Identical = omega arith
-greatest_of_units Uniform = omega arith
-greatest_of_units Unrelated = omega arith
-greatest_of_units OpenShop = omega arith
-greatest_of_units FlowShop = omega arith
-greatest_of_units JobShop = omega arith
+greatest_of_units _ = omega arith
 
 unit_inner : (i : Instance) → Inner i → Inner (unit_of i)
 unit_inner i inner = Inner-changed i i.class.order i.class.heads UnitTimes i.class.crit (map unit_job i.jobs) (length-map i.jobs unit_job)
     (All-map (IsJobOf (inner_limits (kind_of i.class.env)) (unit_of i)) unit_job i.jobs (λ k d l. own (get_or i.jobs k d) (inner.conditions.jobs k d l)))
-    inner.conditions.arcs (λ j l. inner.conditions.degree j (omega (arith, length-map i.jobs unit_job))) near inner
+    inner.conditions.arcs (λ j l. inner.conditions.degree j (omega (arith, length-map i.jobs unit_job))) (HasNearDues-map _ i (unit_of i) unit_job refl inner.dues) inner
   where
     own : (a : Job) → IsJobOf (inner_limits (kind_of i.class.env)) i a → IsJobOf (inner_limits (kind_of i.class.env)) (unit_of i) (unit_job a)
     own a h = record {
@@ -137,17 +119,6 @@ unit_inner i inner = Inner-changed i i.class.order i.class.heads UnitTimes i.cla
       weight = h.weight;
       curve = h.curve;
     }
-
-    near : (j k : ℕ) → j < length (map unit_job i.jobs) → k < length (map unit_job i.jobs)
-        → ((job_at (unit_of i) j).due -ℤ (job_at (unit_of i) k).due) ≤ℤ pos (2 * GREATEST * inner_factor (kind_of i.class.env))
-    near j k a b =
-        let more = length-map i.jobs unit_job in
-        let c : j < length i.jobs = omega arith in
-        let d : k < length i.jobs = omega arith in
-        apart _ _ _ _ _ (ap (λ x. x.due) (job_at-map i (unit_of i) unit_job refl j c)) (ap (λ x. x.due) (job_at-map i (unit_of i) unit_job refl k d)) (inner.dues j k c d)
-      where
-        apart : (n : ℕ) (x y u v : ℤ) → u ≡ x → v ≡ y → (x -ℤ y) ≤ℤ pos n → (u -ℤ v) ≤ℤ pos n
-        apart n x y u v e f h = omega (arith, ints)
 
 -- ---- costs
 -- a cost times a unit, where both are on another scale

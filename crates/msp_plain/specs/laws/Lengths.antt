@@ -1,12 +1,12 @@
 -- How long all pieces are together where all times are 1, and how late a schedule of them ends without its idle stretches.
-use Rattle.std.proofs.Common.{◌≡◌, ℕ, ◌*◌, ◌<◌, ◌≤◌, Bool, true, false, cond, eqb, List, [], ◌∷◌, length, get_or, map, filter, All, ℤ, pos, negsuc, nat_abs, ◌+ℤ◌, ◌*ℤ◌, ◌≤ℤ◌}
+use Rattle.std.proofs.Common.{◌≡◌, ℕ, ◌*◌, ◌<◌, ◌≤◌, Bool, eqb, List, [], ◌∷◌, length, get_or, map, filter, All, ℤ, pos, negsuc, nat_abs, ◌+ℤ◌, ◌*ℤ◌, ◌≤ℤ◌}
 use Rattle.std.proofs.Common.{sum_by, refl, sym, ap, ap₂, subst, ◌∙◌, arith}
 use Rattle.std.specs.Prelude.{◌==◌, ◌&&◌}
 use Rattle.std.proofs.lemmas.Int.{ints}
 use Rattle.std.proofs.lemmas.Nat.{mul-le}
 use Rattle.std.proofs.lemmas.List.Elements.{All-head, All-tail, All-filter}
 use Rattle.msp_class.specs.declared.class.Env.{Env}
-use Rattle.msp_class.specs.declared.class.Env.TheVariants.{One, P2, P3, P as Parallel, Q2, Q, R2, R, O2, O3, O, F2, F3, F, J2Short, JShort, J2, J}
+use Rattle.msp_class.specs.declared.class.Env.TheVariants.{One}
 use Rattle.msp_class.specs.declared.class.Times.TheVariants.{Unit as UnitTimes}
 use Rattle.msp_class.specs.declared.environments.EnvKind.{EnvKind}
 use Rattle.msp_class.specs.declared.environments.EnvKind.TheVariants.{Identical, Uniform, Unrelated, OpenShop, FlowShop, JobShop}
@@ -18,6 +18,7 @@ use Rattle.msp_instance.specs.declared.Need.{Need}
 use Rattle.msp_instance.specs.declared.Instance.{Instance}
 use Rattle.msp_instance.specs.Instance.{no_need, no_job, job_at, need_at}
 use Rattle.msp_instance.specs.Conditions.{Limits, MeetsConditions, HasShape, HasSpeeds, HasSameTimes}
+use Rattle.msp_pieces.proofs.lists.Places.{filter-both}
 use Rattle.msp_pieces.specs.declared.Piece.{Piece}
 use Rattle.msp_pieces.specs.declared.Schedule.{Schedule}
 use Rattle.msp_pieces.specs.Piece.{length_of, start, finish, IsTimed}
@@ -29,16 +30,6 @@ use Rattle.msp_pieces.proofs.feasible.Frames.{of_operation, of_operation-named, 
 use Rattle.msp_pieces.proofs.changes.Moves.{total-cons}
 
 -- ---- a sum by two keys
-module _ {X : Type 0} (p q : X → Bool) where
-  filter_both : (xs : List X) → filter q (filter p xs) ≡ filter (λ x. p x && q x) xs
-  filter_both [] = refl
-  filter_both (x ∷ xs) = by (p x) (q x) (filter_both xs)
-    where
-      by : (a b : Bool) → filter q (filter p xs) ≡ filter (λ x. p x && q x) xs
-          → filter q (cond a (x ∷ filter p xs) (filter p xs)) ≡ cond (a && q x) (x ∷ filter (λ x. p x && q x) xs) (filter (λ x. p x && q x) xs)
-      by true b e = ap (λ l. cond (q x) (x ∷ l) l) e
-      by false b e = e
-
 sum_by-two_keys : {X : Type 0} (a b f : X → ℕ) (n w most : ℕ) (xs : List X) → All (λ x. (a x < n) × (b x < w)) xs
     → ((i o : ℕ) → i < n → o < w → sum_by f (filter (λ x. eqb (a x) i && eqb (b x) o) xs) ≤ most) → sum_by f xs ≤ n * (w * most)
 sum_by-two_keys a b f n w most xs keys each =
@@ -47,7 +38,7 @@ sum_by-two_keys a b f n w most xs keys each =
     let mine = filter (λ x. eqb (a x) i) xs in
     subst (λ m. m ≤ w * most) (sym (sum_by-by_key_filter b f w mine (All-filter (λ x. eqb (a x) i) (λ x. b x < w) xs (λ k d h. (keys k d h).1))))
     (total_below-bound w most (λ o. sum_by f (filter (λ x. eqb (b x) o) mine)) (λ o h.
-    subst (λ ys. sum_by f ys ≤ most) (sym (filter_both (λ x. eqb (a x) i) (λ x. eqb (b x) o) xs)) (each i o l h)))))
+    subst (λ ys. sum_by f ys ≤ most) (sym (filter-both (λ x. eqb (a x) i) (λ x. eqb (b x) o) xs)) (each i o l h)))))
 
 -- ---- over a frame
 total-mono : (f g : Piece → ℤ) (ps : List Piece) → All (λ p. f p ≤ℤ g p) ps → total (map f ps) ≤ℤ total (map g ps)
@@ -106,23 +97,7 @@ module _ (f : Frame) (unit : ℤ) (ps : List Piece) (w : ℕ) (fits : Fits f uni
 -- ---- an instance of unit times
 few_operations : (e : Env) → most_operations e ≤ MOST_OPERATIONS
 few_operations One = omega arith
-few_operations P2 = omega arith
-few_operations P3 = omega arith
-few_operations Parallel = omega arith
-few_operations Q2 = omega arith
-few_operations Q = omega arith
-few_operations R2 = omega arith
-few_operations R = omega arith
-few_operations O2 = omega arith
-few_operations O3 = omega arith
-few_operations O = omega arith
-few_operations F2 = omega arith
-few_operations F3 = omega arith
-few_operations F = omega arith
-few_operations J2Short = omega arith
-few_operations JShort = omega arith
-few_operations J2 = omega arith
-few_operations J = omega arith
+few_operations _ = omega arith
 
 product_of_ones : (ns : List Need) → All (λ n. n.time ≡ 1) ns → product_of_times ns ≡ 1
 product_of_ones [] h = refl
@@ -136,28 +111,21 @@ module _ (l : Limits) (i : Instance) (h : MeetsConditions l i) (unit_times : i.c
   time_is o k = ones o no_need k
 
   few_by : (k : EnvKind) → HasShape k i.class.env i.machines (job_at i j).needs → (o : ℕ) → HasOperation k i j o → o < MOST_OPERATIONS
-  few_by Identical s o e = omega (arith, e)
-  few_by Uniform s o e = omega (arith, e)
-  few_by Unrelated s o e = omega (arith, e)
   few_by OpenShop s o e = omega (arith, s.0, e.0, h.machines.1)
   few_by FlowShop s o e = omega (arith, s.0, e.0, h.machines.1)
   few_by JobShop s o e = omega (arith, s.few, e.0, few_operations i.class.env)
+  few_by _ s o e = omega (arith, e)
 
   want_by : (k : EnvKind) → HasShape k i.class.env i.machines (job_at i j).needs → (o : ℕ) → HasOperation k i j o → whole_work k i j o ≡ 1
   want_by Identical s o e = time_is o (omega (arith, s.0, e))
   want_by Uniform s o e = time_is o (omega (arith, s.0, e))
   want_by Unrelated s o e = product_of_ones (job_at i j).needs ones
-  want_by OpenShop s o e = time_is o e.0
-  want_by FlowShop s o e = time_is o e.0
-  want_by JobShop s o e = time_is o e.0
+  want_by _ s o e = time_is o e.0
 
   rate_by : (k : EnvKind) → HasSpeeds k i.machines i.speeds → (k ≡ Unrelated → All (HasTimePerMachine i.machines) i.jobs) → (o m : ℕ) → MayRun k i j o m → 1 ≤ rate_on k i j m
-  rate_by Identical s own o m r = omega arith
   rate_by Uniform s own o m r = (s.1 m 0 (omega (arith, s.0, r))).0
   rate_by Unrelated s own o m r = rate_positive i j m (own refl) inside r
-  rate_by OpenShop s own o m r = omega arith
-  rate_by FlowShop s own o m r = omega arith
-  rate_by JobShop s own o m r = omega arith
+  rate_by _ s own o m r = omega arith
 
 wants_one : (l : Limits) (i : Instance) → MeetsConditions l i → i.class.times ≡ UnitTimes → WantsOne (frame_by (kind_of i.class.env) i) MOST_OPERATIONS
 wants_one l i h e = record {

@@ -1,5 +1,5 @@
 -- The rows that change the class alone: the instances at both ends have the same schedules at the same costs.
-use Rattle.std.proofs.Common.{◌≡◌, ℕ, ◌<◌, ◌≤◌, true, false, List, length, All, Any, ℤ, pos, ◌-ℤ◌, ◌*ℤ◌, ◌≤ℤ◌, Some, refl, sym, ap, subst, ◌∙◌, arith}
+use Rattle.std.proofs.Common.{Bool, ◌≡◌, ℕ, ◌<◌, ◌≤◌, true, false, List, length, All, Any, ℤ, pos, ◌-ℤ◌, ◌*ℤ◌, ◌≤ℤ◌, Some, refl, sym, ap, subst, ◌∙◌, arith}
 use Rattle.std.specs.Int.{int_max}
 use Rattle.std.proofs.lemmas.Bool.{eqb-true}
 use Rattle.std.proofs.lemmas.Int.{ints}
@@ -10,7 +10,7 @@ use Rattle.msp_class.specs.declared.class.Times.TheVariants.{General, Unit as Un
 use Rattle.msp_class.specs.declared.class.Crit.{Crit}
 use Rattle.msp_class.specs.declared.class.Crit.TheVariants.{Cmax, Lmax, SumC, SumWC, SumU, SumWU, SumT, SumWT}
 use Rattle.msp_class.specs.declared.environments.EnvKind.{EnvKind}
-use Rattle.msp_class.specs.declared.environments.EnvKind.TheVariants.{Identical, Uniform, Unrelated, OpenShop, FlowShop, JobShop}
+use Rattle.msp_class.specs.declared.environments.EnvKind.TheVariants.{Identical}
 use Rattle.msp_class.specs.Env.{kind_of}
 use Rattle.msp_class.specs.Crit.{is_greatest, uses_due, uses_weight, uses_curve}
 use Rattle.msp_class.proofs.RankLemmas.{flag_number-injective, order_number-injective, times_number-injective, crit_number-injective}
@@ -20,18 +20,33 @@ use Rattle.msp_instance.specs.declared.Arc.{Arc}
 use Rattle.msp_instance.specs.declared.Job.{Job}
 use Rattle.msp_instance.specs.declared.Instance.{Instance}
 use Rattle.msp_instance.specs.Instance.{no_need, no_job, job_at, common_time}
-use Rattle.msp_instance.specs.Conditions.{Limits, IsJobOf, HasTimes, HasSameTimes, HasRelease, HasDue, HasWeight, HasCurve, HasArcs, HasDegree, Inner, inner_limits, inner_factor}
+use Rattle.msp_instance.specs.Conditions.{Limits, IsJobOf, HasTimes, HasSameTimes, HasRelease, HasDue, HasWeight, HasCurve, HasArcs, HasDegree, Inner, inner_limits}
 use Rattle.msp_instance.specs.Conditions.{least_time, greatest_time}
 use Rattle.msp_pieces.specs.Cost.{job_cost, lateness, tardiness, late}
-use Rattle.msp_pieces.proofs.costs.Charges.{SameCharges-from_class}
+use Rattle.msp_pieces.proofs.costs.Charges.{SameCharges, SameCharges-from_class}
 use Rattle.msp_pieces.proofs.changes.Serves.{SameWork-from_class}
 use Rattle.msp_table.specs.Rows.{goes_of, table}
 use Rattle.msp_route.specs.Law.{Applies}
 use Rattle.msp_route.specs.Changes.{led}
-use Rattle.msp_route.proofs.InnerChanges.{Inner-recast}
+use Rattle.msp_route.proofs.InnerChanges.{changed, Inner-recast, IsJobOf-recast}
+use Rattle.msp_route.proofs.KindLimits.{inner_factor-some}
 use Rattle.msp_route.specs.Stays.{SchedulesStay}
 use Rattle.msp_route.proofs.Alike.{Alike-led, stay-alike}
 use Rattle.msp_route.proofs.Applied.{part_alone}
+
+-- ---- the class changes
+abbrev limits_of : Instance → Limits
+limits_of i = inner_limits (kind_of i.class.env)
+
+-- in it the jobs keep the limits, and are charged the same
+stay_recast : (row : ℕ) (i : Instance) (o : Order) (h : Bool) (t : Times) (c : Crit) → goes_of row i.class ≡ Some (record i.class { order = o; heads = h; times = t; crit = c })
+    → ((a : Job) → IsJobOf (limits_of i) i a → IsJobOf (limits_of i) (changed i o h t c i.jobs) a) → HasArcs o i.arcs → ((j : ℕ) → j < length i.jobs → HasDegree o i.arcs j)
+    → SameCharges i (changed i o h t c i.jobs) → Inner i → SchedulesStay row i (led row i)
+stay_recast row i o h t c g own arcs degree charges inner = stay-alike (Alike-led row i (record i.class { order = o; heads = h; times = t; crit = c }) i.jobs g (record {
+  lower = record { inner = Inner-recast i o h t c own arcs degree inner; class = g };
+  work = SameWork-from_class i (record i.class { order = o; heads = h; times = t; crit = c }) refl refl;
+  charges = charges;
+})) inner
 
 -- ---- precedence
 -- arcs of the one order are arcs of the other
@@ -59,21 +74,10 @@ any_entering = record { arcs = λ l h. h; degree = λ l j e h. tt }
 
 stay_order : (row : ℕ) (from to : Order) → OrderGrows from to
     → (i : Instance) → i.class.order ≡ from → goes_of row i.class ≡ Some (record i.class { order = to }) → Inner i → SchedulesStay row i (led row i)
-stay_order row from to grows i e g inner = stay-alike (Alike-led row i (record i.class { order = to }) i.jobs g (record {
-  lower = record {
-    inner = Inner-recast i to i.class.heads i.class.times i.class.crit (λ a h. record {
-      needs = record { shape = h.needs.shape; times = h.needs.times; some = h.needs.some };
-      times = h.times;
-      release = h.release;
-      due = h.due;
-      weight = h.weight;
-      curve = h.curve;
-    }) (grows.arcs i.arcs arcs) (λ j l. grows.degree i.arcs j arcs (subst (λ o. HasDegree o i.arcs j) e (inner.conditions.degree j l))) inner;
-    class = g;
-  };
-  work = SameWork-from_class i (record i.class { order = to }) refl refl;
-  charges = SameCharges-from_class i (record i.class { order = to }) refl;
-})) inner
+stay_order row from to grows i e g inner = stay_recast row i to i.class.heads i.class.times i.class.crit g
+    (λ a h. IsJobOf-recast h.needs refl refl h.needs.times h.times h.release h.due h.weight h.curve)
+    (grows.arcs i.arcs arcs) (λ j l. grows.degree i.arcs j arcs (subst (λ o. HasDegree o i.arcs j) e (inner.conditions.degree j l)))
+    (SameCharges-from_class i (record i.class { order = to }) refl) inner
   where
     arcs : HasArcs from i.arcs
     arcs = subst (λ o. HasArcs o i.arcs) e inner.conditions.arcs
@@ -99,9 +103,6 @@ unfolding goes_of table
 stay_5 i inner h = let (b, g) = part_alone _ _ h in stay_order 5 Outtree Prec any_entering i (order_number-injective _ Outtree (eqb-true _ _ b)) g inner
 
 -- ---- release dates
-abbrev limits_of : Instance → Limits
-limits_of i = inner_limits (kind_of i.class.env)
-
 none_in_range : (l : Limits) (r : ℕ) → HasRelease l false r → HasRelease l true r
 none_in_range l r h = omega (arith, h)
 
@@ -110,65 +111,21 @@ unfolding goes_of table
 stay_6 i inner h = let (b, g) = part_alone _ _ h in by (flag_number-injective _ false (eqb-true _ _ b)) g
   where
     by : i.class.heads ≡ false → goes_of 6 i.class ≡ Some (record i.class { heads = true }) → SchedulesStay 6 i (led 6 i)
-    by e g = stay-alike (Alike-led 6 i (record i.class { heads = true }) i.jobs g (record {
-      lower = record {
-        inner = Inner-recast i i.class.order true i.class.times i.class.crit (λ a h. record {
-          needs = record { shape = h.needs.shape; times = h.needs.times; some = h.needs.some };
-          times = h.times;
-          release = none_in_range (limits_of i) a.release (subst (λ b. HasRelease (limits_of i) b a.release) e h.release);
-          due = h.due;
-          weight = h.weight;
-          curve = h.curve;
-        }) inner.conditions.arcs inner.conditions.degree inner;
-        class = g;
-      };
-      work = SameWork-from_class i (record i.class { heads = true }) refl refl;
-      charges = SameCharges-from_class i (record i.class { heads = true }) refl;
-    })) inner
+    by e g = stay_recast 6 i i.class.order true i.class.times i.class.crit g
+        (λ a h. IsJobOf-recast h.needs refl refl h.needs.times h.times (none_in_range (limits_of i) a.release (subst (λ b. HasRelease (limits_of i) b a.release) e h.release)) h.due h.weight h.curve)
+        inner.conditions.arcs inner.conditions.degree (SameCharges-from_class i (record i.class { heads = true }) refl) inner
 
 -- ---- times
 stay_times : (row : ℕ) (to : Times) (i : Instance)
     → ((a : Job) → IsJobOf (limits_of i) i a → HasTimes (least_time (kind_of i.class.env) to) (greatest_time (limits_of i) to) a.needs × HasSameTimes to (common_time i) a.needs) →
     goes_of row i.class ≡ Some (record i.class { times = to }) → Inner i → SchedulesStay row i (led row i)
-stay_times row to i own g inner = stay-alike (Alike-led row i (record i.class { times = to }) i.jobs g (record {
-  lower = record {
-    inner = Inner-recast i i.class.order i.class.heads to i.class.crit (λ a h. let t = own a h in record {
-      needs = record { shape = h.needs.shape; times = t.0; some = h.needs.some };
-      times = t.1;
-      release = h.release;
-      due = h.due;
-      weight = h.weight;
-      curve = h.curve;
-    }) inner.conditions.arcs inner.conditions.degree inner;
-    class = g;
-  };
-  work = SameWork-from_class i (record i.class { times = to }) refl refl;
-  charges = SameCharges-from_class i (record i.class { times = to }) refl;
-})) inner
+stay_times row to i own g inner = stay_recast row i i.class.order i.class.heads to i.class.crit g
+    (λ a h. let t = own a h in IsJobOf-recast h.needs refl refl t.0 t.1 h.release h.due h.weight h.curve)
+    inner.conditions.arcs inner.conditions.degree (SameCharges-from_class i (record i.class { times = to }) refl) inner
 
-least_shared : (k : EnvKind) → least_time k Equal ≡ 1
-least_shared Identical = refl
-least_shared Uniform = refl
-least_shared Unrelated = refl
-least_shared OpenShop = refl
-least_shared FlowShop = refl
-least_shared JobShop = refl
-
-least_one : (k : EnvKind) → least_time k General ≤ 1
-least_one Identical = omega arith
-least_one Uniform = omega arith
-least_one Unrelated = omega arith
-least_one OpenShop = omega arith
-least_one FlowShop = omega arith
-least_one JobShop = omega arith
-
-factor_some : (k : EnvKind) → 1 ≤ inner_factor k
-factor_some Identical = omega arith
-factor_some Uniform = omega arith
-factor_some Unrelated = omega arith
-factor_some OpenShop = omega arith
-factor_some FlowShop = omega arith
-factor_some JobShop = omega arith
+least_times : (k : EnvKind) → (least_time k Equal ≡ 1) × (least_time k General ≤ 1)
+least_times Identical = (refl, omega arith)
+least_times _ = (refl, omega arith)
 
 some_need : (needs : List Need) → Any (λ n. 1 ≤ n.time) needs → 0 < length needs
 some_need needs (k, n, l, e, p) = omega arith
@@ -186,11 +143,11 @@ stay_7 i inner h = let (b, g) = part_alone _ _ h in by (times_number-injective _
   where
     by : i.class.times ≡ UnitTimes → goes_of 7 i.class ≡ Some (record i.class { times = Equal }) → SchedulesStay 7 i (led 7 i)
     by e g = stay_times 7 Equal i (λ a h. let ones = units i a e h in
-        ((λ k d l. (omega (arith, ones k d l, least_shared (kind_of i.class.env)), omega (arith, ones k d l))), (λ k d l. ones k d l ∙ sym (shared_unit i e inner)))) g inner
+        ((λ k d l. (omega (arith, ones k d l, (least_times (kind_of i.class.env)).0), omega (arith, ones k d l))), (λ k d l. ones k d l ∙ sym (shared_unit i e inner)))) g inner
 
 equal_in_range : (k : EnvKind) (needs : List Need) → HasTimes (least_time k Equal) (greatest_time (inner_limits k) Equal) needs
     → HasTimes (least_time k General) (greatest_time (inner_limits k) General) needs
-equal_in_range k needs h = λ j d l. let t = h j d l in (omega (arith, t.0, least_shared k, least_one k), omega (arith, t.1, factor_some k))
+equal_in_range k needs h = λ j d l. let t = h j d l in (omega (arith, t.0, least_times k), omega (arith, t.1, inner_factor-some k))
 
 pub stay_53 : (i : Instance) → Inner i → Applies 53 i → SchedulesStay 53 i (led 53 i)
 unfolding goes_of table
@@ -211,26 +168,15 @@ record CritGrows (from to : Crit) : Type 0 where
 
 stay_crit : (row : ℕ) (from to : Crit) → CritGrows from to
     → (i : Instance) → i.class.crit ≡ from → goes_of row i.class ≡ Some (record i.class { crit = to }) → Inner i → SchedulesStay row i (led row i)
-stay_crit row from to grows i e g inner = stay-alike (Alike-led row i (record i.class { crit = to }) i.jobs g (record {
-  lower = record {
-    inner = Inner-recast i i.class.order i.class.heads i.class.times to (λ a h. record {
-      needs = record { shape = h.needs.shape; times = h.needs.times; some = h.needs.some };
-      times = h.times;
-      release = h.release;
-      due = grows.due (limits_of i) a.due (due_of a h);
-      weight = grows.weight a.weight (weight_of a h);
-      curve = subst (λ b. HasCurve (limits_of i) b a.curve) (ap uses_curve e ∙ grows.curve) h.curve;
-    }) inner.conditions.arcs inner.conditions.degree inner;
-    class = g;
-  };
-  work = SameWork-from_class i (record i.class { crit = to }) refl refl;
-  charges = record {
-    count = refl;
-    join = ap is_greatest e ∙ grows.join;
-    charge = λ k l unit x u p. let h = inner.conditions.jobs k no_job l in
-        ap (λ c. job_cost c unit (job_at i k) x) e ∙ grows.charge (limits_of i) (job_at i k) (due_of (job_at i k) h) (weight_of (job_at i k) h) unit x p;
-  };
-})) inner
+stay_crit row from to grows i e g inner = stay_recast row i i.class.order i.class.heads i.class.times to g
+    (λ a h. IsJobOf-recast h.needs refl refl h.needs.times h.times h.release (grows.due (limits_of i) a.due (due_of a h))
+    (grows.weight a.weight (weight_of a h)) (subst (λ b. HasCurve (limits_of i) b a.curve) (ap uses_curve e ∙ grows.curve) h.curve))
+    inner.conditions.arcs inner.conditions.degree (record {
+      count = refl;
+      join = ap is_greatest e ∙ grows.join;
+      charge = λ k l unit x u p. let h = inner.conditions.jobs k no_job l in
+          ap (λ c. job_cost c unit (job_at i k) x) e ∙ grows.charge (limits_of i) (job_at i k) (due_of (job_at i k) h) (weight_of (job_at i k) h) unit x p;
+    }) inner
   where
     due_of : (a : Job) → IsJobOf (limits_of i) i a → HasDue (limits_of i) (uses_due from) a.due
     due_of a h = subst (λ c. HasDue (limits_of i) (uses_due c) a.due) e h.due

@@ -12,11 +12,10 @@ use Rattle.msp_class.specs.Crit.{is_greatest, uses_due, uses_weight, uses_curve}
 use Rattle.msp_class.proofs.IntegerRing.{≤ℤ_trans, int_max-left, ≤ℤ-int_max_left, ≤ℤ-int_max_right}
 use Rattle.msp_class.specs.Sums.{int_total_below}
 use Rattle.msp_class.proofs.Sums.{int_total_below-same}
-use Rattle.msp_class.specs.declared.sizes.TheConstants.{GREATEST}
 use Rattle.msp_instance.specs.declared.Job.{Job}
 use Rattle.msp_instance.specs.declared.Instance.{Instance}
 use Rattle.msp_instance.specs.Instance.{job_at}
-use Rattle.msp_instance.specs.Conditions.{IsJobOf, HasSameTimes, HasDue, HasWeight, HasCurve, LiesWithin, Inner, inner_limits, inner_factor}
+use Rattle.msp_instance.specs.Conditions.{IsJobOf, HasSameTimes, HasDue, HasWeight, HasCurve, LiesWithin, Inner, inner_limits}
 use Rattle.msp_pieces.specs.declared.Schedule.{Schedule}
 use Rattle.msp_pieces.specs.Feasible.{Feasible}
 use Rattle.msp_pieces.specs.Cost.{end_of, job_cost, cost_of}
@@ -27,7 +26,7 @@ use Rattle.msp_pieces.proofs.costs.InTime.{meets_jobs, sum_zero, late_zero, late
 use Rattle.msp_pieces.proofs.changes.Serves.{SameWork, SameWork-sym, SameNeeds-from_map, SameWork-from_map, IsShaped-same, Feasible-same}
 use Rattle.msp_plain.specs.Changes.{raised, shift_of}
 use Rattle.msp_plain.specs.Threshold.{IsThresholdSum, IsThreshold, Meets, IsInTime}
-use Rattle.msp_route.proofs.InnerChanges.{common_time-map, Inner-changed}
+use Rattle.msp_route.proofs.InnerChanges.{common_time-map, Inner-changed, IsJobOf-recast, HasNearDues-map}
 
 -- what both sums have in common with the greatest lateness
 sum_uses : (crit : Crit) → IsThresholdSum crit → (uses_due crit ≡ true) × (uses_weight crit ≡ false) × (uses_curve crit ≡ false)
@@ -38,29 +37,19 @@ pub Inner-shifted : (i : Instance) (bound : ℤ) (crit : Crit) → Inner i → i
     All (λ j. LiesWithin (inner_limits (kind_of i.class.env)).greatest_date (j.due +ℤ bound)) i.jobs → Inner (shift_of bound crit i)
 Inner-shifted i bound crit inner e sum dates = Inner-changed i i.class.order i.class.heads i.class.times crit (map (raised bound) i.jobs) (length-map i.jobs (raised bound))
     (All-map (IsJobOf (inner_limits (kind_of i.class.env)) (shift_of bound crit i)) (raised bound) i.jobs (λ k d l. own (get_or i.jobs k d) (dates k d l) (inner.conditions.jobs k d l)))
-    inner.conditions.arcs (λ j l. inner.conditions.degree j (omega (arith, length-map i.jobs (raised bound)))) near inner
+    inner.conditions.arcs (λ j l. inner.conditions.degree j (omega (arith, length-map i.jobs (raised bound))))
+    (HasNearDues-map _ i (shift_of bound crit i) (raised bound) refl (λ m n a b. closer _ (job_at i m).due (job_at i n).due bound (inner.dues m n a b))) inner
   where
     own : (a : Job) → LiesWithin (inner_limits (kind_of i.class.env)).greatest_date (a.due +ℤ bound)
         → IsJobOf (inner_limits (kind_of i.class.env)) i a → IsJobOf (inner_limits (kind_of i.class.env)) (shift_of bound crit i) (raised bound a)
-    own a d h = record {
-      needs = record { shape = h.needs.shape; times = h.needs.times; some = h.needs.some };
-      times = subst (λ t. HasSameTimes i.class.times t a.needs) (sym (common_time-map i (shift_of bound crit i) (raised bound) refl (λ a. refl) inner.conditions.some)) h.times;
-      release = h.release;
-      due = subst (λ b. HasDue (inner_limits (kind_of i.class.env)) b (a.due +ℤ bound)) (sym (sum_uses crit sum).0) d;
-      weight = subst (λ b. HasWeight b a.weight) (ap uses_weight e ∙ sym (sum_uses crit sum).1) h.weight;
-      curve = subst (λ b. HasCurve (inner_limits (kind_of i.class.env)) b a.curve) (ap uses_curve e ∙ sym (sum_uses crit sum).2) h.curve;
-    }
+    own a d h = IsJobOf-recast h.needs refl refl h.needs.times
+        (subst (λ t. HasSameTimes i.class.times t a.needs) (sym (common_time-map i (shift_of bound crit i) (raised bound) refl (λ a. refl) inner.conditions.some)) h.times)
+        h.release (subst (λ b. HasDue (inner_limits (kind_of i.class.env)) b (a.due +ℤ bound)) (sym (sum_uses crit sum).0) d)
+        (subst (λ b. HasWeight b a.weight) (ap uses_weight e ∙ sym (sum_uses crit sum).1) h.weight)
+        (subst (λ b. HasCurve (inner_limits (kind_of i.class.env)) b a.curve) (ap uses_curve e ∙ sym (sum_uses crit sum).2) h.curve)
 
-    near : (j k : ℕ) → j < length (map (raised bound) i.jobs) → k < length (map (raised bound) i.jobs)
-        → ((job_at (shift_of bound crit i) j).due -ℤ (job_at (shift_of bound crit i) k).due) ≤ℤ pos (2 * GREATEST * inner_factor (kind_of i.class.env))
-    near j k a b = closer _ (job_at i j).due (job_at i k).due _ _ bound
-        (later j a) (later k b) (inner.dues j k (omega (arith, length-map i.jobs (raised bound))) (omega (arith, length-map i.jobs (raised bound))))
-      where
-        later : (j : ℕ) → j < length (map (raised bound) i.jobs) → (job_at (shift_of bound crit i) j).due ≡ (job_at i j).due +ℤ bound
-        later j a = ap (λ x. x.due) (job_at-map i (shift_of bound crit i) (raised bound) refl j (omega (arith, length-map i.jobs (raised bound))))
-
-        closer : (n : ℕ) (x y u v b : ℤ) → u ≡ x +ℤ b → v ≡ y +ℤ b → (x -ℤ y) ≤ℤ pos n → (u -ℤ v) ≤ℤ pos n
-        closer n x y u v b e f h = omega (arith, ints)
+    closer : (n : ℕ) (x y b : ℤ) → (x -ℤ y) ≤ℤ pos n → ((x +ℤ b) -ℤ (y +ℤ b)) ≤ℤ pos n
+    closer n x y b h = omega (arith, ints)
 
 shift_work : (i : Instance) (bound : ℤ) (crit : Crit) → SameWork i (shift_of bound crit i)
 shift_work i bound crit = let j = shift_of bound crit i in SameWork-from_map i j (raised bound) (SameNeeds-from_map i j (raised bound) refl refl refl refl refl (λ a. refl)) refl (λ a. refl) refl

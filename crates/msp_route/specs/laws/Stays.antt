@@ -1,7 +1,7 @@
 -- Rows over which schedules stay as they are: both halves of the law, and costs by the table of rates.
-use Rattle.std.proofs.Common.{if◌then◌else◌, ◌≡◌, ℕ, Bool, true, false, pos, ◌+ℤ◌, ◌*ℤ◌, refl, sym, ap, ◌∙◌, arith}
-use Rattle.std.specs.Prelude.{◌==◌, ◌&&◌, ◌||◌, nat_le}
-use Rattle.std.proofs.lemmas.Bool.{and_parts, eqb-true, leb-true}
+use Rattle.std.proofs.Common.{◌≡◌, ℕ, Bool, true, false, pos, ◌+ℤ◌, ◌*ℤ◌, refl, sym, ap, ◌∙◌, arith}
+use Rattle.std.specs.Prelude.{◌==◌, ◌&&◌, nat_le}
+use Rattle.std.proofs.lemmas.Bool.{and_parts, ne_eqb, leb-true, false≢true}
 use Rattle.msp_class.proofs.IntegerRing.{≤ℤ_of_same, zero-*ℤ, +ℤ_idr}
 use Rattle.msp_instance.specs.declared.Instance.{Instance}
 use Rattle.msp_instance.specs.Conditions.{Inner}
@@ -13,7 +13,7 @@ use Rattle.msp_table.specs.Rows.{carries}
 use Rattle.msp_route.specs.Law.{Applies, IsPositive, IsForth, IsBack, cost_above, cost_below}
 use Rattle.msp_route.specs.Bounds.{keeps_schedule}
 use Rattle.msp_route.specs.Changes.{same_costs}
-use Rattle.msp_route.specs.Rates.{rate_of, speed_rate, raised_costs, greatest_due, by_common_time}
+use Rattle.msp_route.specs.Rates.{rate_of}
 use Rattle.msp_route.specs.Stays.{SchedulesStay, CarriesSame}
 
 pub IsPositive-same : IsPositive same_costs
@@ -21,29 +21,15 @@ IsPositive-same = record { factor = omega arith; scale = omega arith }
 
 -- a row that a test passes is none that it fails
 pub other_row : (test : ℕ → Bool) (row n : ℕ) → test n ≡ false → test row ≡ true → (row == n) ≡ false
-other_row test row n fails passes = by (row == n) refl
-  where
-    by : (b : Bool) → (row == n) ≡ b → (row == n) ≡ false
-    by true e = absurd (apart (sym (ap test (eqb-true row n e) ∙ fails) ∙ passes))
-      where
-        apart : false ≡ true → ⊥
-        apart h = cc
-    by false e = e
+other_row test row n fails passes = ne_eqb row n (λ e. false≢true (sym (ap test e ∙ fails) ∙ passes))
 
--- where the schedule is kept, costs stay
+-- where the schedule is kept, the row is none that changes it
+pub kept_row : (row n : ℕ) → keeps_schedule row ≡ true → keeps_schedule n ≡ false → (row == n) ≡ false
+kept_row row n h e = other_row keeps_schedule row n e h
+
+-- and costs stay
 pub rate-kept : (row : ℕ) (i : Instance) → keeps_schedule row ≡ true → same_costs ≡ rate_of row i
-rate-kept row i h = sym (shape (row == 26) (row == 27) (row == 48) (row == 54) (none 26 refl) (none 27 refl) (none 48 refl) (none 54 refl))
-  where
-    none : (n : ℕ) → keeps_schedule n ≡ false → (row == n) ≡ false
-    none n e = other_row keeps_schedule row n e h
-
-    shape : (a b c d : Bool) → a ≡ false → b ≡ false → c ≡ false → d ≡ false
-        → (if a || b then speed_rate i else if c then raised_costs (greatest_due i) else if d then by_common_time i else same_costs) ≡ same_costs
-    shape a b c d p q r s =
-        ap (λ x. if x || b then speed_rate i else if c then raised_costs (greatest_due i) else if d then by_common_time i else same_costs) p
-        ∙ ap (λ x. if x then speed_rate i else if c then raised_costs (greatest_due i) else if d then by_common_time i else same_costs) q
-        ∙ ap (λ x. if x then raised_costs (greatest_due i) else if d then by_common_time i else same_costs) r
-        ∙ ap (λ x. if x then by_common_time i else same_costs) s
+rate-kept row i h = sym (rw (kept_row row 26 h refl, kept_row row 27 h refl, kept_row row 48 h refl, kept_row row 54 h refl) refl)
 
 module _ {row : ℕ} {i j : Instance} (h : SchedulesStay row i j) where
   translated : (s : Schedule) → Feasible i s → cost_above same_costs i s ≡ cost_below same_costs j s

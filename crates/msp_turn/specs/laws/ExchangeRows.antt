@@ -1,5 +1,5 @@
 -- The rows between intrees and outtrees by exchange: the instances at both ends are each other's exchange.
-use Rattle.std.proofs.Common.{◌≡◌, ℕ, ◌*◌, ◌<◌, ◌≤◌, false, List, [], ◌∷◌, reverse, length, get_or, map, All, AllPairs, Contains, pos, nat_abs, ◌-ℤ◌, ◌≤ℤ◌, Some, unwrap_or, refl}
+use Rattle.std.proofs.Common.{◌≡◌, ℕ, ◌*◌, ◌<◌, ◌≤◌, true, false, List, [], ◌∷◌, reverse, length, get_or, map, All, AllPairs, Contains, nat_abs, ◌≤ℤ◌, Some, unwrap_or, refl}
 use Rattle.std.proofs.Common.{sym, ap, subst, subst₂, ◌∙◌, arith}
 use Rattle.std.specs.Prelude.{slice_index_or}
 use Rattle.std.specs.List.{range_with_len}
@@ -27,7 +27,7 @@ use Rattle.msp_instance.specs.declared.Need.{Need}
 use Rattle.msp_instance.specs.declared.Job.{Job}
 use Rattle.msp_instance.specs.declared.Instance.{Instance}
 use Rattle.msp_instance.specs.Instance.{no_need, job_at, common_time}
-use Rattle.msp_instance.specs.Conditions.{IsJobOf, HasShape, HasTimes, HasSameTimes, HasWeight, HasNearDues, Inner, inner_limits, inner_factor, least_time, greatest_time}
+use Rattle.msp_instance.specs.Conditions.{IsJobOf, HasShape, HasTimes, HasSameTimes, HasWeight, Inner, inner_limits, least_time, greatest_time}
 use Rattle.msp_pieces.specs.declared.Schedule.{Schedule}
 use Rattle.msp_pieces.specs.Feasible.{Feasible}
 use Rattle.msp_pieces.specs.Cost.{end_of}
@@ -37,10 +37,12 @@ use Rattle.msp_pieces.specs.BackToBack.{time_at}
 use Rattle.msp_pieces.specs.LineUp.{lined_up, sorted_by, order_of_ends}
 use Rattle.msp_pieces.proofs.changes.LineUp.{IsLine, order_of_ends-once, order_of_ends-rises}
 use Rattle.msp_pieces.proofs.changes.Exchange.{Exchanges, Feasible-exchanged, cost-exchanged}
-use Rattle.msp_table.specs.Rows.{goes_of, table}
+use Rattle.msp_table.specs.Parts.{OrderIs, has_all}
+use Rattle.msp_table.specs.Rows.{goes_of, table, exchangeable}
 use Rattle.msp_route.specs.Law.{Applies, IsLower, IsForth, IsBack}
 use Rattle.msp_route.specs.Changes.{same_costs}
 use Rattle.msp_route.proofs.Applied.{parts_and_condition}
+use Rattle.msp_route.proofs.InnerChanges.{HasNearDues-map}
 use Rattle.msp_turn.specs.Turned.{turned_arc, turned_arcs}
 use Rattle.msp_turn.specs.laws.TurnedArcs.{turned_with, Inner-turned}
 use Rattle.msp_turn.specs.LinedUp.{from_last}
@@ -97,17 +99,10 @@ module _ (from : Order) (i : Instance) (class : IsExchangeClass from i.class) (i
         curve = h.curve;
       }
 
-  same_due : (k : ℕ) → k < length (map exchanged_job i.jobs) → (job_at other k).due ≡ (job_at i k).due
-  same_due k l = ap (λ a. a.due) (job_at-map i other exchanged_job refl k (omega (arith, length-map i.jobs exchanged_job)))
-
-  near : HasNearDues (2 * GREATEST * inner_factor (kind_of i.class.env)) other
-  near j k a b = subst₂ (λ x y. (x -ℤ y) ≤ℤ pos (2 * GREATEST * inner_factor (kind_of i.class.env))) (sym (same_due j a))
-      (sym (same_due k b)) (inner.dues j k (omega (arith, length-map i.jobs exchanged_job)) (omega (arith, length-map i.jobs exchanged_job)))
-
   pub Inner-exchanged : Inner other
   Inner-exchanged = Inner-turned i i.class.heads i.class.crit (map exchanged_job i.jobs) (length-map i.jobs exchanged_job)
       (All-map (IsJobOf (inner_limits (kind_of i.class.env)) other) exchanged_job i.jobs (λ k d l. exchanged_own (get_or i.jobs k d) (exchangeable_jobs k d l) (inner.conditions.jobs k d l)))
-      near inner
+      (HasNearDues-map _ i other exchanged_job refl inner.dues) inner
 
 -- ---- instances that are each other's exchange
 abbrev pub Exchanged : Instance → Instance → Type 0
@@ -205,34 +200,25 @@ module _ (row : ℕ) (i j : Instance) (x : IsExchange row i j) (inner : Inner i)
   pub from_last-below : (t : Schedule) → from_last i t ≡ lined_up i (nat_abs t.unit) (reverse (order_of_ends j t))
   from_last-below t = ap (λ n. lined_up i (nat_abs t.unit) (reverse (sorted_by (end_of t) (range_with_len 0 n)))) x.exchange.0.count
 
-pub exchange_51 : (i : Instance) → Inner i → Applies 51 i → IsExchange 51 i (exchanged 51 i)
-unfolding goes_of table
-exchange_51 i inner h =
-    let (left, given, g) = parts_and_condition _ _ _ h in
+exchange_at : (row : ℕ) (from to : Order) → turned from ≡ to → (i : Instance) → (has_all i.class (OrderIs from ∷ []) ≡ true) × (exchangeable i.class ≡ true)
+    × (goes_of row i.class ≡ Some (record i.class { order = to })) → Inner i → IsExchange row i (exchanged row i)
+exchange_at row from to e i (left, given, g) inner =
     let (env, more) = and_parts _ _ given in
     let (cut, rest) = and_parts _ _ more in
     let (heads, last) = and_parts _ _ rest in
     let (times, crit) = and_parts _ _ last in
-    exchange_of_trees 51 Intree Outtree i refl (record {
-      order = order_number-injective _ Intree (eqb-true _ _ (and_parts _ _ left).0);
+    exchange_of_trees row from to i e (record {
+      order = order_number-injective _ from (eqb-true _ _ (and_parts _ _ left).0);
       env = env_number-injective _ One (eqb-true _ _ env);
       heads = flag_number-injective _ false (eqb-true _ _ heads);
       times = times_number-injective _ General (eqb-true _ _ times);
       crit = crit_number-injective _ SumWC (eqb-true _ _ (and_parts _ _ crit).0);
     }) g inner
 
+pub exchange_51 : (i : Instance) → Inner i → Applies 51 i → IsExchange 51 i (exchanged 51 i)
+unfolding goes_of table
+exchange_51 i inner h = exchange_at 51 Intree Outtree refl i (parts_and_condition _ _ _ h) inner
+
 pub exchange_52 : (i : Instance) → Inner i → Applies 52 i → IsExchange 52 i (exchanged 52 i)
 unfolding goes_of table
-exchange_52 i inner h =
-    let (left, given, g) = parts_and_condition _ _ _ h in
-    let (env, more) = and_parts _ _ given in
-    let (cut, rest) = and_parts _ _ more in
-    let (heads, last) = and_parts _ _ rest in
-    let (times, crit) = and_parts _ _ last in
-    exchange_of_trees 52 Outtree Intree i refl (record {
-      order = order_number-injective _ Outtree (eqb-true _ _ (and_parts _ _ left).0);
-      env = env_number-injective _ One (eqb-true _ _ env);
-      heads = flag_number-injective _ false (eqb-true _ _ heads);
-      times = times_number-injective _ General (eqb-true _ _ times);
-      crit = crit_number-injective _ SumWC (eqb-true _ _ (and_parts _ _ crit).0);
-    }) g inner
+exchange_52 i inner h = exchange_at 52 Outtree Intree refl i (parts_and_condition _ _ _ h) inner

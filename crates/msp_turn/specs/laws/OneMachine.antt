@@ -12,7 +12,7 @@ use Rattle.msp_class.proofs.IntegerRing.{natural, ≤ℤ_of_same}
 use Rattle.msp_class.proofs.Sums.{OnceBelow}
 use Rattle.msp_instance.specs.declared.Instance.{Instance}
 use Rattle.msp_instance.specs.Instance.{job_at}
-use Rattle.msp_instance.specs.Conditions.{Inner, MeetsConditions, inner_limits}
+use Rattle.msp_instance.specs.Conditions.{Inner, inner_limits}
 use Rattle.msp_pieces.specs.declared.Schedule.{Schedule}
 use Rattle.msp_pieces.specs.Feasible.{Feasible}
 use Rattle.msp_pieces.specs.Cost.{cost_of, end_of}
@@ -22,10 +22,12 @@ use Rattle.msp_pieces.proofs.costs.Charges.{SameCharges, SameCharges-from_class,
 use Rattle.msp_pieces.proofs.feasible.Series.{MayPrecede}
 use Rattle.msp_pieces.specs.LineUp.{lined_up, order_of_ends}
 use Rattle.msp_pieces.proofs.changes.LineUp.{IsLine, IsLine-from_conditions, SameLine, Feasible-lined_up, cost-lined_up, forward_by_ends, loose_by_ends, order_of_ends-once, order_of_ends-rises}
-use Rattle.msp_table.specs.Rows.{goes_of, table}
+use Rattle.msp_table.specs.Parts.{CutIs, has}
+use Rattle.msp_table.specs.Rows.{goes_of, table, one_machine_no_r}
 use Rattle.msp_route.specs.Law.{Applies, IsLower, IsForth, IsBack}
 use Rattle.msp_route.specs.Changes.{led, same_costs}
 use Rattle.msp_route.proofs.Applied.{part_and_condition}
+use Rattle.msp_route.proofs.InnerChanges.{Inner-remade, IsJobOf-recast}
 use Rattle.msp_turn.specs.LinedUp.{by_ends}
 use Rattle.msp_turn.specs.laws.SameRate.{costs_down, costs_back}
 
@@ -40,29 +42,24 @@ pub record Recuts (row : ℕ) (cut : Bool) (i : Instance) : Type 0 where
   pub was : i.class.cut ≡ not cut
   pub goes : goes_of row i.class ≡ Some (record i.class { cut = cut })
 
-pub Recuts-49 : (i : Instance) → Applies 49 i → Recuts 49 false i
-unfolding goes_of table
-Recuts-49 i h =
-    let (cut, given, goes) = part_and_condition _ _ _ h in
+recuts : (row : ℕ) (cut : Bool) (i : Instance) → (has i.class (CutIs (not cut)) ≡ true) × (one_machine_no_r i.class ≡ true) × (goes_of row i.class ≡ Some (record i.class { cut = cut }))
+    → Recuts row cut i
+recuts row cut i (was, given, goes) =
     let (env, more) = and_parts _ _ given in
     record {
       env = env_number-injective _ One (eqb-true _ _ env);
       heads = flag_number-injective _ false (eqb-true _ _ (and_parts _ _ more).0);
-      was = flag_number-injective _ true (eqb-true _ _ cut);
+      was = flag_number-injective _ (not cut) (eqb-true _ _ was);
       goes = goes;
     }
 
+pub Recuts-49 : (i : Instance) → Applies 49 i → Recuts 49 false i
+unfolding goes_of table
+Recuts-49 i h = recuts 49 false i (part_and_condition _ _ _ h)
+
 pub Recuts-50 : (i : Instance) → Applies 50 i → Recuts 50 true i
 unfolding goes_of table
-Recuts-50 i h =
-    let (cut, given, goes) = part_and_condition _ _ _ h in
-    let (env, more) = and_parts _ _ given in
-    record {
-      env = env_number-injective _ One (eqb-true _ _ env);
-      heads = flag_number-injective _ false (eqb-true _ _ (and_parts _ _ more).0);
-      was = flag_number-injective _ false (eqb-true _ _ cut);
-      goes = goes;
-    }
+Recuts-50 i h = recuts 50 true i (part_and_condition _ _ _ h)
 
 pub led-recut : (row : ℕ) (cut : Bool) (i : Instance) → Recuts row cut i → led row i ≡ recut cut i
 led-recut row cut i r = ap (λ o. record i { class = unwrap_or o i.class }) r.goes
@@ -75,32 +72,8 @@ led-cost row cut i r t u = cost-same_charges i (recut cut i) t (SameCharges-from
 
 -- ---- it is an inner instance, on one line
 pub Inner-recut : (cut : Bool) (i : Instance) → Inner i → Inner (recut cut i)
-Inner-recut cut i inner = record {
-  conditions = record {
-    some = was.some;
-    few = was.few;
-    machines = was.machines;
-    speeds = was.speeds;
-    multiple = was.multiple;
-    jobs = λ k d l. let h = was.jobs k d l in record {
-      needs = record { shape = h.needs.shape; times = h.needs.times; some = h.needs.some };
-      times = h.times;
-      release = h.release;
-      due = h.due;
-      weight = h.weight;
-      curve = h.curve;
-    };
-    arcs = was.arcs;
-    ends = was.ends;
-    once = was.once;
-    degree = was.degree;
-  };
-  dues = inner.dues;
-  acyclic = let (order, listed, forward) = inner.acyclic in (order, record { whole = listed.whole; each = listed.each }, forward);
-}
-  where
-    was : MeetsConditions (inner_limits (kind_of i.class.env)) i
-    was = inner.conditions
+Inner-recut cut i inner = let was = inner.conditions in Inner-remade i (record i.class { cut = cut }) i.machines i.speeds i.jobs refl was.machines was.speeds was.multiple
+    (λ k d l. let h = was.jobs k d l in IsJobOf-recast h.needs refl refl h.needs.times h.times h.release h.due h.weight h.curve) was.arcs was.degree inner.dues inner
 
 pub line_of : (i : Instance) → i.class.env ≡ One → Inner i → IsLine i
 line_of i e inner = IsLine-from_conditions (inner_limits (kind_of i.class.env)) i e inner.conditions

@@ -1,12 +1,11 @@
 -- The rows that read schedules from their end, and in which release dates and due dates take each other's places.
-use Rattle.std.proofs.Common.{◌≡◌, ℕ, suc, ◌*◌, ◌<◌, ◌≤◌, Bool, true, false, List, [], ◌∷◌, length, get_or, map, fold, All, Contains, inl, inr, ℤ, pos, negsuc, neg_ℤ, ◌+ℤ◌, ◌-ℤ◌}
-use Rattle.std.proofs.Common.{◌*ℤ◌, ◌≤ℤ◌, Some, unwrap_or, refl, sym, ap, subst, subst₂, ◌∙◌, arith}
+use Rattle.std.proofs.Common.{◌≡◌, ℕ, ◌*◌, ◌<◌, ◌≤◌, Bool, true, false, List, length, get_or, map, All, ℤ, pos, negsuc, neg_ℤ, ◌+ℤ◌, ◌-ℤ◌}
+use Rattle.std.proofs.Common.{◌*ℤ◌, ◌≤ℤ◌, Some, unwrap_or, refl, sym, ap, subst, ◌∙◌, arith}
 use Rattle.std.specs.Prelude.{unsigned_abs}
-use Rattle.std.specs.Int.{int_max}
 use Rattle.std.proofs.lemmas.Bool.{eqb-true, and_parts}
-use Rattle.std.proofs.lemmas.Int.{ints, fold-int_max_bounds, fold-int_max_reached}
+use Rattle.std.proofs.lemmas.Int.{ints}
 use Rattle.std.proofs.lemmas.List.{length-map, get_or-map, get_or_default}
-use Rattle.std.proofs.lemmas.List.Elements.{All-map, All-nil, All-cons}
+use Rattle.std.proofs.lemmas.List.Elements.{All-map}
 use Rattle.msp_class.specs.declared.class.Crit.{Crit}
 use Rattle.msp_class.specs.declared.class.Crit.TheVariants.{Cmax, Lmax}
 use Rattle.msp_class.specs.declared.environments.EnvKind.{EnvKind}
@@ -22,12 +21,13 @@ use Rattle.msp_instance.specs.declared.Instance.{Instance}
 use Rattle.msp_instance.specs.Instance.{no_job, job_at}
 use Rattle.msp_instance.specs.Conditions.{Limits, LiesWithin, IsJobOf, HasSameTimes, HasRelease, HasDue, HasWeight, HasCurve, Inner, inner_limits, inner_factor}
 use Rattle.msp_pieces.specs.Cost.{job_cost, greatest}
+use Rattle.msp_pieces.proofs.costs.Charges.{greatest-bound, greatest-reached}
 use Rattle.msp_pieces.proofs.feasible.Frames.{no_heads, job_at-map}
 use Rattle.msp_pieces.proofs.changes.Serves.{SameNeeds-from_map}
 use Rattle.msp_pieces.proofs.changes.Mirror.{turned_arcs as arcs_turned, turned_back}
 use Rattle.msp_table.specs.Rows.{goes_of, table}
 use Rattle.msp_route.specs.Law.{Applies}
-use Rattle.msp_route.proofs.InnerChanges.{common_time-map}
+use Rattle.msp_route.proofs.InnerChanges.{common_time-map, IsJobOf-recast, HasNearDues-map}
 use Rattle.msp_route.specs.Sizes.{greatest_row_date}
 use Rattle.msp_route.proofs.Applied.{parts_and_condition}
 use Rattle.msp_turn.specs.Turned.{turned_arcs}
@@ -58,27 +58,16 @@ module _ (i : Instance) (h : Bool) (from to : Crit) (f : Job → Job) (keeps : (
 
   IsJobOf-dated : i.class.crit ≡ from → uses_weight from ≡ uses_weight to
       → uses_curve from ≡ uses_curve to → 0 < length i.jobs → (a : Job) → HasDates a → IsJobOf (limits_of i) i a → IsJobOf (limits_of i) below (f a)
-  IsJobOf-dated e w c some a dated own = subst (IsJobOf (limits_of i) below) (sym (keeps a)) (record {
-    needs = record { shape = own.needs.shape; times = own.needs.times; some = own.needs.some };
-    times = subst (λ t. HasSameTimes i.class.times t a.needs) (sym (common_time-map i below f refl (λ b. ap (λ x. x.needs) (keeps b)) some)) own.times;
-    release = dated.0;
-    due = dated.1;
-    weight = subst (λ b. HasWeight b a.weight) (ap uses_weight e ∙ w) own.weight;
-    curve = subst (λ b. HasCurve (limits_of i) b a.curve) (ap uses_curve e ∙ c) own.curve;
-  })
+  IsJobOf-dated e w c some a dated own = subst (IsJobOf (limits_of i) below) (sym (keeps a)) (IsJobOf-recast own.needs refl refl own.needs.times
+      (subst (λ t. HasSameTimes i.class.times t a.needs) (sym (common_time-map i below f refl (λ b. ap (λ x. x.needs) (keeps b)) some)) own.times)
+      dated.0 dated.1 (subst (λ b. HasWeight b a.weight) (ap uses_weight e ∙ w) own.weight) (subst (λ b. HasCurve (limits_of i) b a.curve) (ap uses_curve e ∙ c) own.curve))
 
   pub Inner-dated : i.class.crit ≡ from → uses_weight from ≡ uses_weight to → uses_curve from ≡ uses_curve to → ((k : ℕ) → k < length i.jobs → HasDates (job_at i k)) →
       ((j k : ℕ) → j < length i.jobs → k < length i.jobs → ((f (job_at i j)).due -ℤ (f (job_at i k)).due) ≤ℤ pos (dates i)) → Inner i → Inner below
   Inner-dated e w c dated close inner = Inner-turned i h to jobs (length-map i.jobs f)
       (All-map (IsJobOf (limits_of i) below) f i.jobs
       (λ k d l. let own = inner.conditions.jobs k d l in IsJobOf-dated e w c inner.conditions.some (get_or i.jobs k d) (subst HasDates (get_or_default i.jobs k no_job d l) (dated k l)) own))
-      near inner
-    where
-      near : (j k : ℕ) → j < length jobs → k < length jobs → ((job_at below j).due -ℤ (job_at below k).due) ≤ℤ pos (dates i)
-      near j k a b =
-          let p : j < length i.jobs = omega (arith, length-map i.jobs f) in
-          let q : k < length i.jobs = omega (arith, length-map i.jobs f) in
-          subst₂ (λ x y. (x.due -ℤ y.due) ≤ℤ pos (dates i)) (sym (job_at-map i below f refl j p)) (sym (job_at-map i below f refl k q)) (close j k p q)
+      (HasNearDues-map _ i below f refl close) inner
 
   -- the reverse, where the charges fit
   pub IsReverse-dated : (addend : ℤ) → is_mirror i.class.env ≡ true → is_greatest i.class.crit ≡ true → is_greatest to ≡ true →
@@ -156,15 +145,6 @@ releases_fit i inner k d l = release_fits (kind_of i.class.env) i.class.heads (g
 pub size_of_natural : (z : ℤ) → pos 0 ≤ℤ z → pos (unsigned_abs z) ≡ z
 size_of_natural (pos n) h = refl
 size_of_natural (negsuc n) h = absurd (omega (arith, ints))
-
--- the greatest due date is one, and none is greater
-greatest-bound : (xs : List ℤ) → All (λ x. x ≤ℤ greatest xs) xs
-greatest-bound [] = All-nil (λ x. x ≤ℤ pos 0)
-greatest-bound (x ∷ xs) = let h = fold-int_max_bounds x xs (fold int_max x xs) refl in All-cons (λ y. y ≤ℤ fold int_max x xs) x xs h.0 h.1
-
-greatest-reached : (xs : List ℤ) → 0 < length xs → Contains xs (greatest xs)
-greatest-reached [] h = absurd (omega arith)
-greatest-reached (x ∷ xs) h = elim (fold-int_max_reached x xs (fold int_max x xs) refl) [ inl e ↦ (0, omega arith, sym e) | inr c ↦ (suc c.0, omega (arith, c.1), c.2) ]
 
 latest : (i : Instance) (k : ℕ) → k < length i.jobs → (job_at i k).due ≤ℤ greatest_due i
 latest i k l = subst (λ x. x ≤ℤ greatest_due i) (get_or-map (λ j. j.due) i.jobs k no_job (pos 0) l) (greatest-bound (map (λ j. j.due) i.jobs) k (pos 0) (omega (arith, length-map i.jobs (λ j. j.due))))

@@ -1,5 +1,5 @@
 -- The rows that read schedules from their end: the instances at both ends are each other's reverse.
-use Rattle.std.proofs.Common.{◌≡◌, ℕ, ◌<◌, true, false, length, get_or, ℤ, pos, ◌+ℤ◌, ◌*ℤ◌, Some, unwrap_or, refl, sym, ap, subst, ◌∙◌}
+use Rattle.std.proofs.Common.{◌≡◌, ℕ, ◌<◌, true, false, [], ◌∷◌, length, ℤ, pos, ◌+ℤ◌, ◌*ℤ◌, Some, unwrap_or, refl, sym, ap, subst, ◌∙◌}
 use Rattle.std.proofs.lemmas.Bool.{eqb-true, and_parts}
 use Rattle.msp_class.specs.declared.class.Class.{Class}
 use Rattle.msp_class.specs.declared.class.Order.{Order}
@@ -14,13 +14,15 @@ use Rattle.msp_class.proofs.IntegerRing.{zero-*ℤ, *ℤ-zero}
 use Rattle.msp_instance.specs.declared.Job.{Job}
 use Rattle.msp_instance.specs.declared.Instance.{Instance}
 use Rattle.msp_instance.specs.Instance.{job_at}
-use Rattle.msp_instance.specs.Conditions.{IsJobOf, Inner, inner_limits}
+use Rattle.msp_instance.specs.Conditions.{Inner, inner_limits}
 use Rattle.msp_pieces.specs.Cost.{job_cost}
 use Rattle.msp_pieces.proofs.feasible.Frames.{no_heads}
 use Rattle.msp_pieces.proofs.changes.Mirror.{turned_arcs as arcs_turned, turned_back}
-use Rattle.msp_table.specs.Rows.{goes_of, table, turns_dates}
+use Rattle.msp_table.specs.Parts.{OrderIs, has_all}
+use Rattle.msp_table.specs.Rows.{goes_of, table, turns_dates, mirror_no_r_cmax}
 use Rattle.msp_route.specs.Law.{Applies, IsLower}
 use Rattle.msp_route.proofs.Applied.{parts_and_condition}
+use Rattle.msp_route.proofs.InnerChanges.{IsJobOf-recast}
 use Rattle.msp_turn.specs.Turned.{turned_arcs}
 use Rattle.msp_turn.specs.laws.TurnedArcs.{turned_with, Inner-turned}
 use Rattle.msp_turn.specs.Reversal.{led_turned}
@@ -67,40 +69,25 @@ reversal_of_trees row from to i e t g inner =
     none k l = no_heads (inner_limits (kind_of i.class.env)) i t.heads inner.conditions k l
 
     turned_inner : Inner (turned_with i i.class.heads i.class.crit i.jobs)
-    turned_inner = Inner-turned i i.class.heads i.class.crit i.jobs refl (λ k d l. own (get_or i.jobs k d) (inner.conditions.jobs k d l)) inner.dues inner
-      where
-        own : (a : Job) → IsJobOf (inner_limits (kind_of i.class.env)) i a → IsJobOf (inner_limits (kind_of i.class.env)) (turned_with i i.class.heads i.class.crit i.jobs) a
-        own a h = record {
-          needs = record { shape = h.needs.shape; times = h.needs.times; some = h.needs.some };
-          times = h.times;
-          release = h.release;
-          due = h.due;
-          weight = h.weight;
-          curve = h.curve;
-        }
+    turned_inner = Inner-turned i i.class.heads i.class.crit i.jobs refl
+        (λ k d l. let h = inner.conditions.jobs k d l in IsJobOf-recast h.needs refl refl h.needs.times h.times h.release h.due h.weight h.curve) inner.dues inner
+
+reversal_at : (row : ℕ) (from to : Order) → turned from ≡ to → (i : Instance) → (has_all i.class (OrderIs from ∷ []) ≡ true) × (mirror_no_r_cmax i.class ≡ true)
+    × (goes_of row i.class ≡ Some (record i.class { order = to })) → Inner i → IsReversal row (pos 0) i (led_turned row i)
+reversal_at row from to e i (left, given, g) inner =
+    let (mirror, more) = and_parts _ _ given in
+    let (heads, crit) = and_parts _ _ more in
+    reversal_of_trees row from to i e (record {
+      order = order_number-injective _ from (eqb-true _ _ (and_parts _ _ left).0);
+      mirror = mirror;
+      heads = flag_number-injective _ false (eqb-true _ _ heads);
+      crit = crit_number-injective _ Cmax (eqb-true _ _ (and_parts _ _ crit).0);
+    }) g inner
 
 pub reversal_45 : (i : Instance) → Inner i → Applies 45 i → IsReversal 45 (pos 0) i (led_turned 45 i)
 unfolding goes_of table
-reversal_45 i inner h =
-    let (left, given, g) = parts_and_condition _ _ _ h in
-    let (mirror, more) = and_parts _ _ given in
-    let (heads, crit) = and_parts _ _ more in
-    reversal_of_trees 45 Intree Outtree i refl (record {
-      order = order_number-injective _ Intree (eqb-true _ _ (and_parts _ _ left).0);
-      mirror = mirror;
-      heads = flag_number-injective _ false (eqb-true _ _ heads);
-      crit = crit_number-injective _ Cmax (eqb-true _ _ (and_parts _ _ crit).0);
-    }) g inner
+reversal_45 i inner h = reversal_at 45 Intree Outtree refl i (parts_and_condition _ _ _ h) inner
 
 pub reversal_46 : (i : Instance) → Inner i → Applies 46 i → IsReversal 46 (pos 0) i (led_turned 46 i)
 unfolding goes_of table
-reversal_46 i inner h =
-    let (left, given, g) = parts_and_condition _ _ _ h in
-    let (mirror, more) = and_parts _ _ given in
-    let (heads, crit) = and_parts _ _ more in
-    reversal_of_trees 46 Outtree Intree i refl (record {
-      order = order_number-injective _ Outtree (eqb-true _ _ (and_parts _ _ left).0);
-      mirror = mirror;
-      heads = flag_number-injective _ false (eqb-true _ _ heads);
-      crit = crit_number-injective _ Cmax (eqb-true _ _ (and_parts _ _ crit).0);
-    }) g inner
+reversal_46 i inner h = reversal_at 46 Outtree Intree refl i (parts_and_condition _ _ _ h) inner

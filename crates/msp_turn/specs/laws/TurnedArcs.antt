@@ -5,7 +5,7 @@ use Rattle.std.proofs.lemmas.List.{length-map, length-reverse, get_or-reverse}
 use Rattle.std.proofs.lemmas.List.Elements.{All-map}
 use Rattle.std.proofs.lemmas.Option.{slice_get-get_or, slice_get_within, get_or_from_slice_get}
 use Rattle.msp_class.specs.declared.class.Order.{Order}
-use Rattle.msp_class.specs.declared.class.Order.TheVariants.{Free, Chains, Intree, Outtree, Prec}
+use Rattle.msp_class.specs.declared.class.Order.TheVariants.{Free, Chains, Intree, Outtree}
 use Rattle.msp_class.specs.declared.class.Crit.{Crit}
 use Rattle.msp_class.specs.Order.{turned}
 use Rattle.msp_class.specs.Env.{kind_of}
@@ -26,18 +26,14 @@ entering-turned : (arcs : List Arc) (j : ℕ) → entering (turned_arcs arcs) j 
 entering-turned arcs j = sum_by-map (λ a. cond (a.after == j) 1 0) turned_arc arcs
 
 HasDegree-turned : (o : Order) (arcs : List Arc) (j : ℕ) → HasDegree o arcs j → HasDegree (turned o) (turned_arcs arcs) j
-HasDegree-turned Free arcs j h = tt
 HasDegree-turned Chains arcs j h = (omega (arith, h.1, leaving-turned arcs j), omega (arith, h.0, entering-turned arcs j))
 HasDegree-turned Intree arcs j h = omega (arith, h, entering-turned arcs j)
 HasDegree-turned Outtree arcs j h = omega (arith, h, leaving-turned arcs j)
-HasDegree-turned Prec arcs j h = tt
+HasDegree-turned _ arcs j h = tt
 
 HasArcs-turned : (o : Order) (arcs : List Arc) → HasArcs o arcs → HasArcs (turned o) (turned_arcs arcs)
 HasArcs-turned Free arcs h = ap turned_arcs h
-HasArcs-turned Chains arcs h = omega (arith, h, length-map arcs turned_arc)
-HasArcs-turned Intree arcs h = omega (arith, h, length-map arcs turned_arc)
-HasArcs-turned Outtree arcs h = omega (arith, h, length-map arcs turned_arc)
-HasArcs-turned Prec arcs h = omega (arith, h, length-map arcs turned_arc)
+HasArcs-turned _ arcs h = omega (arith, h, length-map arcs turned_arc)
 
 -- ---- the list read from its end
 read_back : (xs : List ℕ) (p x : ℕ) → p < length xs → get_or xs p x ≡ x → slice_get (reverse xs) (length xs - 1 - p) ≡ Some x

@@ -1,30 +1,19 @@
-use Rattle.std.proofs.Common.{◌≡◌, length, arith, subst, ◌∙◌, IsPermutation}
-use Rattle.std.proofs.lemmas.List.{get_or_default}
-use Rattle.std.specs.List.{SwappedAt}
-use Rattle.msp_matching.specs.Passing.{at}
+use Rattle.std.proofs.Common.{length, arith, ◌∙◌}
 use Rattle.msp_matching.proofs.Lists.{whole_slice}
 use Rattle.msp_timetable.proofs.Lists.{IsPermuted-size}
-use Rattle.msp_timetable.proofs.Ways.{IsTree-read, IsBetter-read}
+use Rattle.msp_timetable.proofs.Ways.{read_turned, IsTree-read, IsBetter-read}
 use Rattle.msp_timetable.proofs.matching.give.Goals as goal
 
 pub pass_on-requires : goal.pass_on-requires
 pass_on-requires c =
-    let last : c.index-last.result.now ≡ at c.args.seats.now.owner.items c.in_ok-search.search.free = c.index-last.ensures
-    ∙ get_or_default c.args.seats.now.owner.items c.in_ok-search.search.free c.index-last.result.now 0 (omega (arith, c.requires.owners.size, c.in_ok-search.ensures.inside)) in
-    let value = c.as_mut_slice-columns.ensures.value in
-    let swapped : SwappedAt c.args.seats.now.columns.items c.swap.new.self c.args.row c.index-last.result.now =
-    subst (λ xs. SwappedAt xs c.swap.new.self c.args.row c.index-last.result.now) value c.swap.ensures.by_index in
-    let same : IsPermutation c.args.seats.now.columns.items c.swap.new.self = subst (λ xs. IsPermutation xs c.swap.new.self) value c.swap.ensures.permutation in
+    let (last, swapped, same) = read_turned c.args.seats.now.columns.items c.args.seats.now.owner.items _ c.swap.new.self c.args.row c.in_ok-search.search.free c.index-last.result.now
+    c.as_mut_slice-columns.ensures.value (omega (arith, c.requires.owners.size, c.in_ok-search.ensures.inside)) c.index-last.ensures c.swap.ensures.by_index c.swap.ensures.permutation in
     IsTree-read _ _ _ _ c.requires.permuted c.requires.owners _ _ _ _ _ c.in_ok-search.ensures last _ swapped same _ _ c.as_slice.ensures.value c.as_slice-2.ensures.value
 
 pub note_owners-requires : goal.note_owners-requires
 note_owners-requires c =
-    let last : c.index-last.result.now ≡ at c.args.seats.now.owner.items c.in_ok-search.search.free = c.index-last.ensures
-    ∙ get_or_default c.args.seats.now.owner.items c.in_ok-search.search.free c.index-last.result.now 0 (omega (arith, c.requires.owners.size, c.in_ok-search.ensures.inside)) in
-    let value = c.as_mut_slice-columns.ensures.value in
-    let swapped : SwappedAt c.args.seats.now.columns.items c.swap.new.self c.args.row c.index-last.result.now =
-    subst (λ xs. SwappedAt xs c.swap.new.self c.args.row c.index-last.result.now) value c.swap.ensures.by_index in
-    let same : IsPermutation c.args.seats.now.columns.items c.swap.new.self = subst (λ xs. IsPermutation xs c.swap.new.self) value c.swap.ensures.permutation in
+    let (last, swapped, same) = read_turned c.args.seats.now.columns.items c.args.seats.now.owner.items _ c.swap.new.self c.args.row c.in_ok-search.search.free c.index-last.result.now
+    c.as_mut_slice-columns.ensures.value (omega (arith, c.requires.owners.size, c.in_ok-search.ensures.inside)) c.index-last.ensures c.swap.ensures.by_index c.swap.ensures.permutation in
     let whole = whole_slice c.args.seats.now.columns.len (length c.pass_on.new.columns)
     c.pass_on.new.columns c.args.seats.now.columns.items (c.pass_on.auto.columns ∙ c.swap.ensures.len ∙ c.as_mut_slice-columns.ensures.len) in
     let better = IsBetter-read _ _ _ _ c.requires.permuted c.requires.owners _ _ _ _ _ c.in_ok-search.ensures
@@ -33,12 +22,8 @@ note_owners-requires c =
 
 pub returns-clause-better : goal.returns-clause-better
 returns-clause-better c =
-    let last : c.index-last.result.now ≡ at c.args.seats.now.owner.items c.in_ok-search.search.free = c.index-last.ensures
-    ∙ get_or_default c.args.seats.now.owner.items c.in_ok-search.search.free c.index-last.result.now 0 (omega (arith, c.requires.owners.size, c.in_ok-search.ensures.inside)) in
-    let value = c.as_mut_slice-columns.ensures.value in
-    let swapped : SwappedAt c.args.seats.now.columns.items c.swap.new.self c.args.row c.index-last.result.now =
-    subst (λ xs. SwappedAt xs c.swap.new.self c.args.row c.index-last.result.now) value c.swap.ensures.by_index in
-    let same : IsPermutation c.args.seats.now.columns.items c.swap.new.self = subst (λ xs. IsPermutation xs c.swap.new.self) value c.swap.ensures.permutation in
+    let (last, swapped, same) = read_turned c.args.seats.now.columns.items c.args.seats.now.owner.items _ c.swap.new.self c.args.row c.in_ok-search.search.free c.index-last.result.now
+    c.as_mut_slice-columns.ensures.value (omega (arith, c.requires.owners.size, c.in_ok-search.ensures.inside)) c.index-last.ensures c.swap.ensures.by_index c.swap.ensures.permutation in
     let whole = whole_slice c.args.seats.now.columns.len (length c.pass_on.new.columns)
     c.pass_on.new.columns c.args.seats.now.columns.items (c.pass_on.auto.columns ∙ c.swap.ensures.len ∙ c.as_mut_slice-columns.ensures.len) in
     IsBetter-read _ _ _ _ c.requires.permuted c.requires.owners _ _ _ _ _ c.in_ok-search.ensures
