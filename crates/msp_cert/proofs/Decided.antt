@@ -14,7 +14,7 @@ use Rattle.msp_pieces.specs.declared.Frac.{Frac}
 use Rattle.msp_pieces.specs.Levels.{level_bound}
 use Rattle.msp_pieces.specs.Blocks.{IsBlockValue, LeadsToNone, cost_at, total_time}
 use Rattle.msp_cert.specs.declared.Proof.{Proof}
-use Rattle.msp_cert.specs.declared.Proof.TheVariants.{Group, Machine, Line, Levels, Segments, Block, Prices}
+use Rattle.msp_cert.specs.declared.Proof.TheVariants.{Group, Machine, Line, Levels, Block}
 use Rattle.msp_cert.specs.Certificates.{speeds_of, IsSpeedOfFastest, IsGroup, AreSteps, of_job, HoldsFor, IsValue, IsShown}
 use Rattle.msp_cert.specs.Small.{time_there}
 use Rattle.msp_cert.specs.Search.{HasValue}
@@ -59,12 +59,8 @@ block_at_most i heads jobs a b h g =
 
 value_same : (i : Instance) (b : Frac) (p : Proof) (num m : ℤ) (den d : ℕ) → HoldsFor i p → IsValue i p num den → IsValue i p m d → (num ≡ m) × (den ≡ d)
 value_same i b (Group jobs) num m den d holds h g = (h.0 ∙ sym g.0, speed_same i (length jobs) den d holds.some h.1 g.1)
-value_same i b (Machine machine) num m den d holds h g = (h.0 ∙ sym g.0, h.1 ∙ sym g.1)
-value_same i b (Line job) num m den d holds h g = (h.0 ∙ sym g.0, h.1 ∙ sym g.1)
-value_same i b (Levels level tail) num m den d holds h g = (h.0 ∙ sym g.0, h.1 ∙ sym g.1)
-value_same i b (Segments lists) num m den d holds h g = (h.0 ∙ sym g.0, h.1 ∙ sym g.1)
 value_same i b (Block head jobs) num m den d holds h g = (≤ℤ_antisym (block_at_most i head jobs num m h.0 g.0) (block_at_most i head jobs m num g.0 h.0), h.1 ∙ sym g.1)
-value_same i b (Prices row column) num m den d holds h g = (h.0 ∙ sym g.0, h.1 ∙ sym g.1)
+value_same i b _ num m den d holds h g = (h.0 ∙ sym g.0, h.1 ∙ sym g.1)
 
 -- one comparison with the value decides whether a bound is shown, or just the cost is
 module _ (i : Instance) (b v : Frac) (p : Proof) (x : Bool) (w : HoldsFor i p × ((den : ℕ) × (v.den ≡ pos den) × IsValue i p v.num den)) where

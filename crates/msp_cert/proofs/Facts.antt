@@ -1,9 +1,9 @@
 -- What an instance of its class says of the numbers that are added up.
 use Rattle.std.proofs.Common.{IsPermutation, inl, inr, ℕ, ◌<◌, ◌≤◌, List, length, get_or, All, sym, subst, arith}
 use Rattle.msp_class.specs.declared.class.Env.{Env}
-use Rattle.msp_class.specs.declared.class.Env.TheVariants.{J2Short, JShort}
+use Rattle.msp_class.specs.declared.class.Env.TheVariants.{J2Short}
 use Rattle.msp_class.specs.declared.class.Times.{Times}
-use Rattle.msp_class.specs.declared.class.Times.TheVariants.{General, Unit as UnitTimes, Equal}
+use Rattle.msp_class.specs.declared.class.Times.TheVariants.{General}
 use Rattle.msp_class.specs.declared.environments.EnvKind.{EnvKind}
 use Rattle.msp_class.specs.declared.environments.EnvKind.TheVariants as kind
 use Rattle.msp_class.specs.Env.{kind_of, most_operations}
@@ -20,21 +20,17 @@ use Rattle.msp_cert.specs.Small.{HasSmallNeeds}
 
 short_times : (t : Times) → greatest_time text_limits t ≤ GREATEST
 short_times General = omega arith
-short_times UnitTimes = omega arith
-short_times Equal = omega arith
+short_times _ = omega arith
 
 few_operations : (e : Env) → most_operations e ≤ MOST_OPERATIONS
 few_operations J2Short = omega arith
-few_operations JShort = omega arith
 few_operations _ = omega arith
 
 some_few : (k : EnvKind) (e : Env) (m : ℕ) (needs : List Need) → 1 ≤ m → m ≤ MOST_MACHINES → HasShape k e m needs → (1 ≤ length needs) × (length needs ≤ MOST_OPERATIONS)
 some_few kind.Identical e m needs some few shape = (omega (arith, shape.0), omega (arith, shape.0))
 some_few kind.Uniform e m needs some few shape = (omega (arith, shape.0), omega (arith, shape.0))
-some_few kind.Unrelated e m needs some few shape = (omega (arith, shape.0, some), omega (arith, shape.0, few))
-some_few kind.OpenShop e m needs some few shape = (omega (arith, shape.0, some), omega (arith, shape.0, few))
-some_few kind.FlowShop e m needs some few shape = (omega (arith, shape.0, some), omega (arith, shape.0, few))
 some_few kind.JobShop e m needs some few shape = (omega (arith, shape.some), omega (arith, shape.few, few_operations e))
+some_few _ e m needs some few shape = (omega (arith, shape.0, some), omega (arith, shape.0, few))
 
 pub small_needs : (i : Instance) → InClass i → All HasSmallNeeds i.jobs
 small_needs i c k d l =

@@ -10,7 +10,7 @@ use Rattle.msp_instance.specs.declared.Instance.{Instance}
 use Rattle.msp_instance.specs.Conditions.{InClass}
 use Rattle.msp_pieces.specs.declared.Frac.{Frac}
 use Rattle.msp_cert.specs.declared.Proof.{Proof}
-use Rattle.msp_cert.specs.declared.Proof.TheVariants.{Group, Machine, Line, Levels, Segments, Block, Prices}
+use Rattle.msp_cert.specs.declared.Proof.TheVariants.{Group, Machine, Line, Levels}
 use Rattle.msp_cert.specs.Search.{AreLongestFirst, AreAllLevels, HasValue, IsFound, groups, machines, lines, tails, tried}
 use Rattle.msp_cert.proofs.Tails.{levels_small}
 use Rattle.msp_cert.proofs.Tried.{all_longest}
@@ -21,9 +21,7 @@ KeepsWithin i (Group jobs) = (length jobs ≤ length i.jobs) × All (λ j. j < l
 KeepsWithin i (Machine machine) = machine < i.machines
 KeepsWithin i (Line job) = job < length i.jobs
 KeepsWithin i (Levels level tail) = (length level ≡ length i.jobs) × All (λ l. l < length i.jobs) level × (tail < length i.jobs)
-KeepsWithin i (Segments lists) = ⊥
-KeepsWithin i (Block head jobs) = ⊥
-KeepsWithin i (Prices row column) = ⊥
+KeepsWithin i _ = ⊥
 
 below : (n : ℕ) → All (λ k. k < n) (range_with_len 0 n)
 below n = (OnceBelow-range n).within

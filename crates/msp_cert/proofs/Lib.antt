@@ -1,4 +1,5 @@
 pub mod Fastest
+pub mod LeastForms
 pub mod Soundness
 pub mod Facts
 pub mod Decided

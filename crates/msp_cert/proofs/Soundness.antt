@@ -36,19 +36,15 @@ use Rattle.msp_cert.specs.Certificates.{speeds_of, IsSpeedOfFastest, IsGroup, of
 use Rattle.msp_cert.proofs.Fastest.{some_threshold, first_some}
 
 -- a product and a bound over 1
-pub over_one : (num u cost : ℤ) (n den : ℕ) → num ≡ pos n → den ≡ 1 → (u *ℤ pos n) ≤ℤ cost → (1 ≤ den) × ((num *ℤ u) ≤ℤ (cost *ℤ pos den))
-over_one num u cost n den e one h = (
-  omega (arith, one),
-  subst (λ d. (num *ℤ u) ≤ℤ (cost *ℤ pos d)) (sym one)
-      (≤ℤ_trans (≤ℤ_of_same (ap (λ x. x *ℤ u) e ∙ *ℤ_comm (pos n) u)) (≤ℤ_trans h (≤ℤ_of_same (sym (*ℤ-one cost))))),
-)
-
 pub whole_over_one : (num u cost : ℤ) (den : ℕ) → den ≡ 1 → (u *ℤ num) ≤ℤ cost → (1 ≤ den) × ((num *ℤ u) ≤ℤ (cost *ℤ pos den))
 whole_over_one num u cost den one h = (
   omega (arith, one),
   subst (λ d. (num *ℤ u) ≤ℤ (cost *ℤ pos d)) (sym one)
       (≤ℤ_trans (≤ℤ_of_same (*ℤ_comm num u)) (≤ℤ_trans h (≤ℤ_of_same (sym (*ℤ-one cost))))),
 )
+
+pub over_one : (num u cost : ℤ) (n den : ℕ) → num ≡ pos n → den ≡ 1 → (u *ℤ pos n) ≤ℤ cost → (1 ≤ den) × ((num *ℤ u) ≤ℤ (cost *ℤ pos den))
+over_one num u cost n den e one h = whole_over_one num u cost den one (subst (λ x. (u *ℤ x) ≤ℤ cost) (sym e) h)
 
 -- a fraction that is at most another one, below which nothing costs
 pub below_value : (b d num u cost : ℤ) (den : ℕ) → 1 ≤ den → pos 1 ≤ℤ d → pos 1 ≤ℤ u → (b *ℤ pos den) ≤ℤ (num *ℤ d) → (num *ℤ u) ≤ℤ (cost *ℤ pos den) → (b *ℤ u) ≤ℤ (cost *ℤ d)

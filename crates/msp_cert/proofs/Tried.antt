@@ -77,10 +77,10 @@ speed_small_at : (speeds : List ℕ) (k : ℕ) → All (λ s. s ≤ GREATEST_SPE
 speed_small_at speeds k h = elim (cases_lt k (length speeds)) [ inl l ↦ h k 0 l | inr past ↦ omega (arith, get_or_past speeds k 0 past) ]
 
 sum_more : (xs : List ℕ) (k : ℕ) → sum (take (suc k) xs) ≡ sum (take k xs) + get_or xs k 0
-sum_more [] zero = omega arith
-sum_more [] (suc k) = omega arith
 sum_more (x ∷ xs) zero = omega (arith, sum_by-cons (λ y. y) x (take 0 xs))
 sum_more (x ∷ xs) (suc k) = omega (arith, sum_by-cons (λ y. y) x (take (suc k) xs), sum_by-cons (λ y. y) x (take k xs), sum_more xs k)
+sum_more [] zero = omega arith
+sum_more [] _ = omega arith
 
 -- the times of the first jobs together, and the speeds of as many of the first machines
 pub record AreTogether (i : Instance) (longest speeds : List ℕ) (k time speed : ℕ) : Type 0 where

@@ -18,7 +18,9 @@ use Rattle.msp_table.specs.declared.row.Chain.{Chain}
 use Rattle.msp_table.specs.Chains.{Reaches, IsNearest}
 use Rattle.msp_closure.specs.Entries.{IsFirst, here, later, IsWay}
 use Rattle.msp_closure.proofs.WayLemmas.{IsFirst-among, one_is}
+use Rattle.msp_route.specs.declared.answer.SolverName.{SolverName}
 use Rattle.msp_dispatch.specs.declared.solved_list.SolvedClass.{SolvedClass}
+use Rattle.msp_dispatch.specs.declared.solved_list.TheConstants.{SOLVERS}
 use Rattle.msp_dispatch.specs.declared.pick.Pick.{Pick}
 use Rattle.msp_dispatch.specs.Solved.{solves, solved_list, solved_classes, Fits}
 use Rattle.msp_dispatch.specs.Dispatch.{IsTarget, IsReported, IsAnswered, HasNoTarget, IsUnfit, IsFault}
@@ -51,16 +53,40 @@ module _ (i : Instance) (s t : Schedule) (best : Best i s) (same : cost_of i t *
 -- ---- routes
 -- each entry has the class that its solver solves
 all_solved : map (λ e. class_of e.solver) solved_list ≡ map (λ e. Some e.class) solved_list
+unfolding class_of
 all_solved = refl
+
+some_same : {X : Type 0} {x y : X} → Some x ≡ Some y → x ≡ y
+some_same e = cc
 
 solved_at : (n : ℕ) (e : SolvedClass) → slice_get solved_list n ≡ Some e → class_of e.solver ≡ Some e.class
 solved_at n e at =
     let left : slice_get (map (λ x. class_of x.solver) solved_list) n ≡ Some (class_of e.solver) = slice_get-map (λ x. class_of x.solver) solved_list n ∙ ap (option_map (λ x. class_of x.solver)) at in
     let right : slice_get (map (λ x. Some x.class) solved_list) n ≡ Some (Some e.class) = slice_get-map (λ x. Some x.class) solved_list n ∙ ap (option_map (λ x. Some x.class)) at in
     some_same (sym left ∙ ap (λ xs. slice_get xs n) all_solved ∙ right)
+
+-- the table has the solvers of the list
+solvers_listed : map (λ e. e.solver) solved_list ≡ SOLVERS
+solvers_listed = refl
+
+solver_at : (n : ℕ) → option_map (λ e. e.solver) (slice_get solved_list n) ≡ slice_get SOLVERS n
+solver_at n = sym (slice_get-map (λ e. e.solver) solved_list n) ∙ ap (λ xs. slice_get xs n) solvers_listed
+
+pub entry_listed : (n : ℕ) (name : SolverName) (c : Class) → slice_get SOLVERS n ≡ Some name → class_of name ≡ Some c → Some (solves c name) ≡ slice_get solved_list n
+entry_listed n name c at is = by (slice_get solved_list n) refl (solver_at n ∙ at)
   where
-    some_same : {x y : Option Class} → Some x ≡ Some y → x ≡ y
-    some_same e = cc
+    by : (o : Option SolvedClass) → slice_get solved_list n ≡ o → option_map (λ e. e.solver) o ≡ Some name → Some (solves c name) ≡ slice_get solved_list n
+    by None there same = cc
+    by (Some e) there same =
+        let solver : e.solver ≡ name = some_same same in
+        sym (there ∙ ap Some (ap₂ solves (some_same (sym (solved_at n e there) ∙ ap class_of solver ∙ is)) solver))
+
+pub none_listed : (n : ℕ) → slice_get SOLVERS n ≡ None → None ≡ slice_get solved_list n
+none_listed n at = by (slice_get solved_list n) (solver_at n ∙ at)
+  where
+    by : (o : Option SolvedClass) → option_map (λ e. e.solver) o ≡ None → None ≡ o
+    by None e = refl
+    by (Some x) e = cc
 
 listed_at : (n : ℕ) (e : SolvedClass) → slice_get solved_list n ≡ Some e → Contains solved_list e
 listed_at n e at = (n, slice_get_within solved_list n e at, get_or_from_slice_get solved_list n e e at)
@@ -170,12 +196,9 @@ stopped i at p (Ok a) h stop = tt
 
 -- an instance of a class without a target is not solved
 pub untargeted : (i : Instance) (at : Option Class) (e : Cannot) → HasNoTarget i.class at e → IsFault i at e
-untargeted i at (NoSolver c) h = h
-untargeted i at (NotSolved c) h = h
-untargeted i at (NoRoute a b) h = h
 untargeted i None (Unfit c) h = absurd h
 untargeted i (Some at) (Unfit c) h = absurd h
-untargeted i at Memory h = h
+untargeted i at _ h = h
 
 -- the pick that is found first
 pub IsPick-first : (from : Class) (n : ℕ) (found : Option Pick) (p : Pick) → found ≡ Some p → IfSome found (λ q. StandsAt n q.entry × IsRoute from q)

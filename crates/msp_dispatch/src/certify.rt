@@ -131,6 +131,7 @@ fn by_block(alloc: Global, inst: &Instance) -> Result<Certified, NoMemory>
 }
 
 /// A best solution by the solver, and a certificate of its cost.
+#[tactic(auto, using(crate::proofs::evidence::Certified::maker_rules))]
 fn certified_by(alloc: Global, inst: &Instance, maker: Maker) -> Result<Certified, NoMemory>
     requires inside { InClass inst.now }
     requires class { inst.now.class ≡ class_of maker }

@@ -36,6 +36,7 @@ fn fits_along<S: Solver>(
 }
 
 /// Whether the instance at the end of the chain fits the solver of the name. It is carried there only where a solver has a limit.
+#[tactic(auto, unfolding(crate::specs::Pick::class_of))]
 pub(crate) fn fits_at(
     alloc: Global,
     inst: &Instance,

@@ -10,6 +10,7 @@
 
 ghost use Rattle.std.specs.Prelude.{◌≡◌};
 
+mod by_name;
 mod certify;
 mod fit;
 mod pick;

@@ -101,11 +101,10 @@ more : (order : Order) (n k : ℕ) (arcs : List Arc) → KeepsArcs order n k arc
 more order n k arcs h = subst (KeepsArcs order n (suc k)) (sym (append-nil arcs)) (record { few = omega (arith, h.few); forward = h.forward; ordered = by order h.ordered })
   where
     by : (order : Order) → KeepsOrder order k arcs → KeepsOrder order (suc k) arcs
-    by Free o = o
     by Chains o = (rising_more (λ a. a.before) k (suc k) arcs (omega arith) o.0, rising_more (λ a. a.after) (k + 1) (suc k + 1) arcs (omega arith) o.1)
     by Intree o = rising_more (λ a. a.before) k (suc k) arcs (omega arith) o
     by Outtree o = rising_more (λ a. a.after) (k + 1) (suc k + 1) arcs (omega arith) o
-    by Prec o = o
+    by _ o = o
 
 one : (order : Order) (n k : ℕ) (arcs : List Arc) (a : Arc)
     → a.before < a.after → a.after < n → KeepsOrder order (suc k) (arcs ++ a ∷ []) → KeepsArcs order n k arcs → KeepsArcs order n (suc k) (arcs ++ a ∷ [])
@@ -172,15 +171,11 @@ pub degree_fits : (order : Order) (n k : ℕ) (arcs : List Arc) → KeepsArcs or
 degree_fits order n k arcs h j = by order h.ordered
   where
     by : (order : Order) → KeepsOrder order k arcs → HasDegree order arcs j
-    by Free o = tt
     by Chains o = (rising_once (λ a. a.before) k arcs o.0 j, rising_once (λ a. a.after) (k + 1) arcs o.1 j)
     by Intree o = rising_once (λ a. a.before) k arcs o j
     by Outtree o = rising_once (λ a. a.after) (k + 1) arcs o j
-    by Prec o = tt
+    by _ o = tt
 
 pub number_fits : (order : Order) (n : ℕ) (arcs : List Arc) → n ≤ MOST_JOBS → KeepsArcs order n (arc_turns order n) arcs → HasArcs order arcs
 number_fits Free n arcs l h = h.ordered
-number_fits Chains n arcs l h = omega (arith, h.few, l)
-number_fits Intree n arcs l h = omega (arith, h.few, l)
-number_fits Outtree n arcs l h = omega (arith, h.few, l)
-number_fits Prec n arcs l h = omega (arith, h.few, l)
+number_fits _ n arcs l h = omega (arith, h.few, l)

@@ -5,7 +5,7 @@ use Rattle.std.proofs.lemmas.Int.{ints}
 use Rattle.std.proofs.lemmas.List.Elements.{All-nil}
 use Rattle.msp_class.specs.declared.class.Class.{Class}
 use Rattle.msp_class.specs.declared.class.Env.{Env}
-use Rattle.msp_class.specs.declared.class.Env.TheVariants.{J2Short, JShort}
+use Rattle.msp_class.specs.declared.class.Env.TheVariants.{J2Short}
 use Rattle.msp_class.specs.declared.class.Times.{Times}
 use Rattle.msp_class.specs.declared.class.Times.TheVariants.{General, Unit as UnitTimes, Equal}
 use Rattle.msp_class.specs.declared.environments.EnvKind.{EnvKind}
@@ -33,7 +33,6 @@ pub record AreDrawnNeeds (k : EnvKind) (e : Env) (times : Times) (m shared : ℕ
 
 some_route : (e : Env) → 2 ≤ most_operations e
 some_route J2Short = omega arith
-some_route JShort = omega arith
 some_route _ = omega arith
 
 pub needs_fit : (k : EnvKind) (c : Class) (m shared s : ℕ) → 1 ≤ m → (k ≡ JobShop → 2 ≤ m) → IsSharedTime c.times shared → AreDrawnNeeds k c.env c.times m shared (draw_needs k c m shared s).value
@@ -126,8 +125,7 @@ jobs_fit c m shared n s one two ok =
 -- ---- what the conditions say of the needs in an instance
 wide : (t : Times) → 100 ≤ greatest_time text_limits t
 wide General = omega arith
-wide UnitTimes = omega arith
-wide Equal = omega arith
+wide _ = omega arith
 
 pub times_within : (least : ℕ) (times : Times) (shared : ℕ) (needs : List Need) → HasDrawnTimes times shared least needs → HasTimes least (greatest_time text_limits times) needs
 times_within least times shared needs h k d l = let t = h k d l in ((t.least_met, omega (arith, t.few, wide times)))
@@ -138,9 +136,8 @@ same_times UnitTimes shared common least needs e h = λ k d l. (h k d l).fits
 same_times Equal shared common least needs e h = λ k d l. (h k d l).fits ∙ sym (e refl)
 
 pub shared_by_first : (t : Times) (shared least : ℕ) (needs : List Need) → Any (λ n. 1 ≤ n.time) needs → HasDrawnTimes t shared least needs → t ≡ Equal → (get_or needs 0 no_need).time ≡ shared
-shared_by_first General shared least needs some h e = absurd (cc)
-shared_by_first UnitTimes shared least needs some h e = absurd (cc)
 shared_by_first Equal shared least needs some h e = (h 0 no_need (omega (arith, some.2))).fits
+shared_by_first _ shared least needs some h e = absurd (cc)
 
 -- ---- speeds
 abbrev pub AreDrawnSpeeds : ℕ → List ℕ → Type 0
@@ -153,12 +150,8 @@ speeds_drawn m s =
     (omega (arith, length-append before ((draw_from_one 4 t).value ∷ []), h.0), all_behind (λ x. (1 ≤ x) × (x ≤ 4)) before (draw_from_one 4 t).value h.1 (omega arith, omega (arith, below))))
 
 pub speeds_fit : (k : EnvKind) (m s : ℕ) → HasSpeeds k m (draw_speeds k m s).value
-speeds_fit Identical m s = refl
 speeds_fit Uniform m s = let h = speeds_drawn m s in (h.0, λ k d l. ((h.1 k d l).0, omega (arith, (h.1 k d l).1)))
-speeds_fit Unrelated m s = refl
-speeds_fit OpenShop m s = refl
-speeds_fit FlowShop m s = refl
-speeds_fit JobShop m s = refl
+speeds_fit _ m s = refl
 
 divides_twelve : (s : ℕ) → 1 ≤ s → s ≤ 4 → (times : ℕ) × (12 ≡ times * s)
 divides_twelve zero l h = absurd (omega (arith, l))
@@ -172,9 +165,5 @@ no_speeds : HasSmallMultiple []
 no_speeds = (1, omega arith, omega arith, All-nil (λ s. (times : ℕ) × (1 ≡ times * s)))
 
 pub multiple_fits : (k : EnvKind) (m s : ℕ) → HasSmallMultiple (draw_speeds k m s).value
-multiple_fits Identical m s = no_speeds
 multiple_fits Uniform m s = let h = speeds_drawn m s in (12, omega arith, omega arith, λ k d l. divides_twelve _ (h.1 k d l).0 (h.1 k d l).1)
-multiple_fits Unrelated m s = no_speeds
-multiple_fits OpenShop m s = no_speeds
-multiple_fits FlowShop m s = no_speeds
-multiple_fits JobShop m s = no_speeds
+multiple_fits _ m s = no_speeds

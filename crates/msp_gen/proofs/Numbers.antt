@@ -37,21 +37,19 @@ pub record IsTime (times : Times) (shared least time : ℕ) : Type 0 where
 
 pub some_time : (times : Times) (shared s : ℕ) → IsSharedTime times shared → IsTime times shared 1 (draw_some_time times shared s).value
 some_time General shared s h = let l = draw_below 100 s (omega arith) in record { least_met = omega arith; few = omega (arith, l); fits = tt }
-some_time UnitTimes shared s h = record { least_met = h.some; few = h.few; fits = h.fits }
-some_time Equal shared s h = record { least_met = h.some; few = h.few; fits = h.fits }
+some_time _ shared s h = record { least_met = h.some; few = h.few; fits = h.fits }
 
 pub shop_time : (times : Times) (shared machine s : ℕ) → IsSharedTime times shared → IsTime times shared (least_shop_time times) (draw_shop_time times shared machine s).value
 shop_time General shared zero s h = let l = draw_below 100 s (omega arith) in record { least_met = omega arith; few = omega (arith, l); fits = tt }
 shop_time General shared (suc k) s h = let l = draw_below 101 s (omega arith) in record { least_met = omega arith; few = omega (arith, l); fits = tt }
-shop_time UnitTimes shared zero s h = record { least_met = omega arith; few = h.few; fits = h.fits }
-shop_time UnitTimes shared (suc k) s h = record { least_met = omega arith; few = h.few; fits = h.fits }
 shop_time Equal shared zero s h = record { least_met = h.some; few = h.few; fits = h.fits }
 shop_time Equal shared (suc k) s h = record { least_met = h.some; few = h.few; fits = h.fits }
+shop_time UnitTimes shared zero s h = record { least_met = omega arith; few = h.few; fits = h.fits }
+shop_time UnitTimes shared _ s h = record { least_met = omega arith; few = h.few; fits = h.fits }
 
 pub first_shop_time : (times : Times) (shared s : ℕ) → IsSharedTime times shared → 1 ≤ (draw_shop_time times shared 0 s).value
 first_shop_time General shared s h = omega arith
-first_shop_time UnitTimes shared s h = h.some
-first_shop_time Equal shared s h = h.some
+first_shop_time _ shared s h = h.some
 
 pub release : (has : Bool) (s : ℕ) → HasRelease text_limits has (draw_where has (draw 1000) 0 s).value
 release true s = let l = draw_below 1000 s (omega arith) in omega (arith, l)

@@ -1,7 +1,7 @@
 -- Fractions that are the same number, and what a stated schedule lies within.
-use Rattle.std.proofs.Common.{◌≡◌, ◌++◌, Result, Ok, Err, OnOk, codes, ◌↔◌, Bool, true, false, to_z, of_z, SFits, ℕ, zero, suc, List, negsuc, ◌≤ℤ◌, ◌*◌, ◌<◌, ℤ, pos, ◌*ℤ◌, unsigned_abs}
-use Rattle.std.proofs.Common.{neg_ℤ, ◌<ℤ◌, ◌^◌, inl, refl, sym, ap, ◌∙◌, subst, append_assoc, arith}
-use Rattle.std.proofs.lemmas.Int.{ints, to_z-of_z}
+use Rattle.std.proofs.Common.{◌≡◌, ◌++◌, Result, Ok, Err, OnOk, codes, ◌↔◌, Bool, true, false, to_z, of_z, SFits, ℕ, ◌+◌, List, ◌≤ℤ◌, ◌*◌, ◌<◌, ℤ, pos, ◌*ℤ◌, unsigned_abs}
+use Rattle.std.proofs.Common.{neg_ℤ, ◌<ℤ◌, ◌^◌, inl, sym, ap, ◌∙◌, subst, append_assoc, arith}
+use Rattle.std.proofs.lemmas.Int.{ints, to_z-of_z, unsigned_abs-mul}
 use Rattle.std.specs.Int.{IsGcd, w128}
 use Rattle.msp_class.proofs.IntegerRing.{natural_some, *ℤ_assoc, *ℤ_comm, *ℤ_exchange, *ℤ-cancel_same}
 use Rattle.msp_instance.specs.declared.Instance.{Instance}
@@ -13,9 +13,9 @@ use Rattle.msp_pieces.specs.Fraction.{IsOver, IsSameFraction, IsLowest}
 use Rattle.msp_pieces.specs.Within.{Within}
 use Rattle.msp_class.specs.declared.NoMemory.{NoMemory}
 use Rattle.msp_schedule.specs.declared.breaks.Break.{Break}
+use Rattle.msp_cert.proofs.LeastForms.{least_form}
 use Rattle.msp_grammar.specs.ScheduleText.{IsStated, line_feed, fraction_text}
 use Rattle.msp_report.specs.CheckText.{break_text, broken_lines, yes_or_no, cost_lines}
-use Rattle.msp_report.proofs.Divided.{IsPrimeTo-from_gcd, lowest_is_least}
 
 pub differ : {X : Type 0} → false ≡ true → X
 differ e = cc
@@ -74,22 +74,11 @@ same_through a b c d e f some p q =
     through a b c e f n (omega (arith, ints, some, is)) (subst (λ x. a *ℤ x ≡ c *ℤ b) is p) (subst (λ x. c *ℤ f ≡ e *ℤ x) is q)
 
 -- ---- lowest terms
-abs_natural : (x : ℤ) (n : ℕ) → x ≡ pos n → unsigned_abs x ≡ n
-abs_natural x n e = ap unsigned_abs e
-
-abs_negated : (a : ℕ) → unsigned_abs (neg_ℤ (pos a)) ≡ a
-abs_negated zero = refl
-abs_negated (suc a) = refl
-
-abs_product : (x : ℤ) (n : ℕ) → unsigned_abs (x *ℤ pos n) ≡ unsigned_abs x * n
-abs_product (pos a) n = refl
-abs_product (negsuc a) n = abs_negated (suc a * n)
-
 denominators : (x y : ℤ) (n m : ℕ) → 0 < n → 0 < m → IsGcd (unsigned_abs x) n 1 → IsGcd (unsigned_abs y) m 1 → x *ℤ pos m ≡ y *ℤ pos n → n ≡ m
 denominators x y n m some more p q e =
-    let sizes : unsigned_abs x * m ≡ unsigned_abs y * n = sym (abs_product x m) ∙ ap unsigned_abs e ∙ abs_product y n in
-    let (below, least) = lowest_is_least (unsigned_abs x) n (unsigned_abs y) m (IsPrimeTo-from_gcd _ _ p) some more sizes in
-    let (above, other) = lowest_is_least (unsigned_abs y) m (unsigned_abs x) n (IsPrimeTo-from_gcd _ _ q) more some (sym sizes) in
+    let sizes : unsigned_abs x * m ≡ unsigned_abs y * n = sym (unsigned_abs-mul x (pos m)) ∙ ap unsigned_abs e ∙ unsigned_abs-mul y (pos n) in
+    let (least, below) = least_form (unsigned_abs x + n) (unsigned_abs x) n (unsigned_abs y) m (omega arith) some more p sizes in
+    let (other, above) = least_form (unsigned_abs y + m) (unsigned_abs y) m (unsigned_abs x) n (omega arith) more some q (sym sizes) in
     omega (arith, below, above)
 
 -- fractions in lowest terms are the same number only where they have the same numerator and the same denominator

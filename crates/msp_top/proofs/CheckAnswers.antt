@@ -53,8 +53,7 @@ front_right IsRightOf input rest f r h e right = answers-along (OfRest IsRightOf
 pub rest_unchecked : (filed : Filed) (line : ℕ) (rest : List ℕ) (why : Refusal)
     → IsCutOnUnrelated filed.instance.class → why ≡ of_unchecked filed.instance.class → Answers (OfRest CheckIsRight filed line rest) (Err why)
 rest_unchecked filed line rest why cut e =
-    let Q : Refusal → Type 0 = λ w. Answers (OfRest CheckIsRight filed line rest) (Err w) in
-    subst Q (sym e) (inr (λ input begins. unchecked filed line rest begins cut))
+    subst (λ (w : Refusal). Answers (OfRest CheckIsRight filed line rest) (Err w)) (sym e) (inr (λ input begins. unchecked filed line rest begins cut))
 
 -- ---- the status
 pub status_broken : (i : Instance) (s : Stated) (broken : Option Break) (b : Break) → broken ≡ Some b → (IsNone broken ↔ Feasible i s.schedule) → HasCheckStatus i s 1

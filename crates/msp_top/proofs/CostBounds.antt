@@ -5,7 +5,7 @@ use Rattle.std.specs.Int.{int_max}
 use Rattle.std.proofs.lemmas.Int.{ints, clamps, fold-int_max_reached}
 use Rattle.std.proofs.lemmas.List.Elements.{All-head, All-tail, All-contains}
 use Rattle.msp_class.specs.declared.class.Crit.{Crit}
-use Rattle.msp_class.specs.declared.class.Crit.TheVariants.{Cmax, Lmax, Fmax, SumC, SumWC, SumU, SumWU, SumT, SumWT}
+use Rattle.msp_class.specs.declared.class.Crit.TheVariants.{Lmax, Fmax, SumWC, SumU, SumWU, SumT, SumWT}
 use Rattle.msp_class.specs.Crit.{is_greatest}
 use Rattle.msp_class.specs.declared.sizes.TheConstants.{MOST_JOBS, GREATEST}
 use Rattle.msp_instance.specs.declared.Instance.{Instance}
@@ -51,15 +51,14 @@ sloped w x y small m h = along (pos w *ℤ x) y
     along x y h k = (omega (arith, ints, h, k), omega (arith, ints, h, k))
 
 job_cost_small : (crit : Crit) (unit x : ℤ) (j : Job) → IsUnit unit → IsMoment x → HasSmallCost unit j → LiesWithin greatest_cost (job_cost crit unit j x)
-job_cost_small Cmax unit x j u m h = moment_within x m
 job_cost_small Lmax unit x j u m h = wider _ (late_by x (unit *ℤ j.due) m h.due)
 job_cost_small Fmax unit x j u m h = sloped j.curve.slope x _ h.slope m (h.base (jumps unit j.curve x) (jumps_le unit x j.curve.steps))
-job_cost_small SumC unit x j u m h = moment_within x m
 job_cost_small SumWC unit x j u m h = weighted j.weight x h.weight (omega (arith, ints, m), omega (arith, ints, m))
 job_cost_small SumU unit x j u m h = wider _ (unit_or_none (int_lt (unit *ℤ j.due) x) unit u)
 job_cost_small SumWU unit x j u m h = weighted j.weight _ h.weight (unit_or_none (int_lt (unit *ℤ j.due) x) unit u)
 job_cost_small SumT unit x j u m h = wider _ (above_zero _ (late_by x (unit *ℤ j.due) m h.due))
 job_cost_small SumWT unit x j u m h = weighted j.weight _ h.weight (above_zero _ (late_by x (unit *ℤ j.due) m h.due))
+job_cost_small _ unit x j u m h = moment_within x m
 
 -- ---- all jobs
 abbrev IsSmall : ℤ → Type 0

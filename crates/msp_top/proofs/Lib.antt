@@ -2,10 +2,13 @@ pub mod Exits
 pub mod CostBounds
 pub mod Stated
 pub mod PutsLemmas
+pub mod NameWords
 pub mod WordLemmas
 pub mod TrialWords
 pub mod OneCommand
+pub mod OutcomeStatuses
 pub mod Endings
+pub mod Served
 pub mod StreamCounts
 pub mod QuestionAnswers
 pub mod SolveAnswers

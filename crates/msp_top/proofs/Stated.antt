@@ -1,9 +1,9 @@
 -- A solution in the form of a report can be written as a text.
-use Rattle.std.proofs.Common.{◌≡◌, ℕ, zero, suc, ◌*◌, ◌<◌, ◌≤◌, List, length, get_or, ℤ, pos, negsuc, neg_ℤ, ◌*ℤ◌, unsigned_abs, refl, sym, ap, ◌∙◌, subst, arith}
-use Rattle.std.proofs.lemmas.Int.{ints}
+use Rattle.std.proofs.Common.{◌≡◌, ℕ, ◌+◌, ◌*◌, ◌<◌, ◌≤◌, List, length, get_or, ℤ, pos, negsuc, ◌*ℤ◌, unsigned_abs, sym, ap, ◌∙◌, subst, arith}
+use Rattle.std.proofs.lemmas.Int.{ints, unsigned_abs-mul}
 use Rattle.std.specs.Int.{IsGcd}
 use Rattle.msp_class.specs.declared.class.Env.{Env}
-use Rattle.msp_class.specs.declared.class.Env.TheVariants.{J2Short, JShort}
+use Rattle.msp_class.specs.declared.class.Env.TheVariants.{J2Short}
 use Rattle.msp_class.specs.declared.environments.EnvKind.{EnvKind}
 use Rattle.msp_class.specs.declared.environments.EnvKind.TheVariants as kind
 use Rattle.msp_class.specs.declared.sizes.TheConstants.{MOST_MACHINES, MOST_OPERATIONS}
@@ -21,7 +21,7 @@ use Rattle.msp_pieces.specs.Fraction.{IsOver, IsLowest}
 use Rattle.msp_pieces.specs.Within.{IsUnit, greatest_total}
 use Rattle.msp_grammar.specs.ScheduleText.{IsStatedCost, IsStated}
 use Rattle.msp_dispatch.specs.Dispatch.{IsReported}
-use Rattle.msp_report.proofs.Divided.{IsPrimeTo-from_gcd, lowest_is_least}
+use Rattle.msp_cert.proofs.LeastForms.{least_form}
 use Rattle.msp_top.proofs.CostBounds.{cost_of_small}
 
 -- ---- the cost
@@ -33,22 +33,15 @@ within_abs : (x : ℤ) (n : ℕ) → unsigned_abs x ≤ n → LiesWithin n x
 within_abs (pos a) n h = (omega (arith, ints, h), omega (arith, ints, h))
 within_abs (negsuc a) n h = (omega (arith, ints, h), omega (arith, ints, h))
 
-abs_negated : (a : ℕ) → unsigned_abs (neg_ℤ (pos a)) ≡ a
-abs_negated zero = refl
-abs_negated (suc a) = refl
-
-abs_product : (x : ℤ) (n : ℕ) → unsigned_abs (x *ℤ pos n) ≡ unsigned_abs x * n
-abs_product (pos a) n = refl
-abs_product (negsuc a) n = abs_negated (suc a * n)
-
 stated_cost : (f : Frac) (c unit : ℤ) → IsOver f c unit → IsLowest f → IsUnit unit → LiesWithin greatest_total c → IsStatedCost f
 stated_cost f c unit over low u small =
     let (n, unit_is) = natural_some unit (omega (arith, ints, u)) in
     let (d, den_is) = natural_some f.den (omega (arith, ints, f.positive)) in
     let e : f.num *ℤ pos n ≡ c *ℤ pos d = subst (λ y. f.num *ℤ pos n ≡ c *ℤ y) den_is (subst (λ y. f.num *ℤ y ≡ c *ℤ f.den) unit_is over) in
-    let sizes : unsigned_abs f.num * n ≡ unsigned_abs c * d = sym (abs_product f.num n) ∙ ap unsigned_abs e ∙ abs_product c d in
+    let sizes : unsigned_abs f.num * n ≡ unsigned_abs c * d = sym (unsigned_abs-mul f.num (pos n)) ∙ ap unsigned_abs e ∙ unsigned_abs-mul c (pos d) in
     let prime : IsGcd (unsigned_abs f.num) d 1 = subst (λ y. IsGcd (unsigned_abs f.num) (unsigned_abs y) 1) den_is low in
-    let (less, least) = lowest_is_least (unsigned_abs f.num) d (unsigned_abs c) n (IsPrimeTo-from_gcd _ _ prime) (omega (arith, ints, f.positive, den_is)) (omega (arith, ints, u, unit_is)) sizes in
+    let (least, less) = least_form (unsigned_abs f.num + d) (unsigned_abs f.num) d (unsigned_abs c) n (omega arith)
+    (omega (arith, ints, f.positive, den_is)) (omega (arith, ints, u, unit_is)) prime sizes in
     let bound = abs_within c greatest_total small in
     record {
       num = within_abs f.num _ (omega (arith, least, bound));
@@ -58,25 +51,20 @@ stated_cost f c unit over low u small =
 -- ---- the pieces
 few_operations : (e : Env) → most_operations e ≤ MOST_OPERATIONS
 few_operations J2Short = omega arith
-few_operations JShort = omega arith
 few_operations _ = omega arith
 
 operation_small : (k : EnvKind) (e : Env) (i : Instance) (j o : ℕ) → i.machines ≤ MOST_MACHINES → HasShape k e i.machines (job_at i j).needs → HasOperation k i j o → o < MOST_OPERATIONS
-operation_small kind.Identical e i j o few shape h = omega (arith, h)
-operation_small kind.Uniform e i j o few shape h = omega (arith, h)
-operation_small kind.Unrelated e i j o few shape h = omega (arith, h)
 operation_small kind.OpenShop e i j o few shape h = omega (arith, h.0, shape.0, few)
 operation_small kind.FlowShop e i j o few shape h = omega (arith, h.0, shape.0, few)
 operation_small kind.JobShop e i j o few shape h = omega (arith, h.0, shape.few, few_operations e)
+operation_small _ e i j o few shape h = omega (arith, h)
 
 machine_small : (k : EnvKind) (e : Env) (i : Instance) (j o m : ℕ)
     → i.machines ≤ MOST_MACHINES → HasShape k e i.machines (job_at i j).needs → HasOperation k i j o → MayRun k i j o m → m < MOST_MACHINES
-machine_small kind.Identical e i j o m few shape h r = omega (arith, r, few)
-machine_small kind.Uniform e i j o m few shape h r = omega (arith, r, few)
-machine_small kind.Unrelated e i j o m few shape h r = omega (arith, r, few)
 machine_small kind.OpenShop e i j o m few shape h r = let same = shape.1 o h.0 in omega (arith, r, same, h.0, shape.0, few)
 machine_small kind.FlowShop e i j o m few shape h r = let same = shape.1 o h.0 in omega (arith, r, same, h.0, shape.0, few)
 machine_small kind.JobShop e i j o m few shape h r = let below = shape.machines o no_need h.0 in omega (arith, r, below, few)
+machine_small _ e i j o m few shape h r = omega (arith, r, few)
 
 shape_of : (i : Instance) (j : ℕ) → InClass i → j < length i.jobs → HasShape (kind_of i.class.env) i.class.env i.machines (job_at i j).needs
 shape_of i j h l = (h.conditions.jobs j no_job l).needs.shape

@@ -46,14 +46,11 @@ which : (status : ℕ) → status ≤ 9 → Which status
 which zero h = of_report (omega arith)
 which (suc zero) h = of_report (omega arith)
 which (suc (suc zero)) h = of_misfit refl
-which (suc (suc (suc zero))) h = of_refusal (omega arith) (omega arith)
-which (suc (suc (suc (suc zero)))) h = of_refusal (omega arith) (omega arith)
-which (suc (suc (suc (suc (suc zero))))) h = of_refusal (omega arith) (omega arith)
-which (suc (suc (suc (suc (suc (suc zero)))))) h = of_refusal (omega arith) (omega arith)
 which (suc (suc (suc (suc (suc (suc (suc zero))))))) h = of_read refl
 which (suc (suc (suc (suc (suc (suc (suc (suc zero)))))))) h = of_write refl
 which (suc (suc (suc (suc (suc (suc (suc (suc (suc zero))))))))) h = of_memory refl
 which (suc (suc (suc (suc (suc (suc (suc (suc (suc (suc n)))))))))) h = absurd (omega (arith, h))
+which _ h = of_refusal (omega arith) (omega arith)
 
 -- a front of bytes is as long as it says
 front_length : (count : ℕ) (text : List ℕ) → count < length text → length (take count text) ≡ count

@@ -19,8 +19,7 @@ cannot_first trial cannot h = inr (unsolved cannot (λ e. cc) h)
 
 pub trial_unsolved : (trial : Trial) (i : Instance) (cannot : Cannot) (why : Refusal) → i ≡ instance_of trial → IsFault i None cannot → why ≡ of_cannot cannot → Answers (TrialIsRight trial) (Err why)
 trial_unsolved trial i cannot why made fault e =
-    let Q : Refusal → Type 0 = λ w. Answers (TrialIsRight trial) (Err w) in
-    subst Q (sym e) (cannot_first trial cannot (subst (λ j. IsFault j None cannot) made fault))
+    subst (λ (w : Refusal). Answers (TrialIsRight trial) (Err w)) (sym e) (cannot_first trial cannot (subst (λ j. IsFault j None cannot) made fault))
 
 pub trial_solved : (trial : Trial) (i : Instance) (answer : Answer) (text : List ℕ)
     → i ≡ instance_of trial → IsAnswered i None answer → text ≡ trial_report i trial.seed answer → TrialIsRight trial (report 0 text)

@@ -1,5 +1,5 @@
 -- The words after `trial`.
-use Rattle.std.proofs.Common.{◌≡◌, ℕ, ◌<◌, ◌≤◌, Bool, true, false, ◌&&◌, nat_le, List, [], ◌∷◌, length, get_or, map, Option, Some, None, Result, Err, ℤ, pos, negsuc, if◌then◌else◌}
+use Rattle.std.proofs.Common.{◌≡◌, ℕ, ◌<◌, ◌≤◌, Bool, true, false, ◌&&◌, nat_le, List, [], ◌∷◌, length, get_or, map, Option, Some, None, Result, Err, ℤ, pos, if◌then◌else◌}
 use Rattle.std.proofs.Common.{refl, sym, ap, ◌∙◌, subst, arith}
 use Rattle.std.proofs.lemmas.Bool.{lt-ltb, le-leb, leb-true}
 use Rattle.msp_class.specs.declared.list.TheConstants.{PLACES}
@@ -15,7 +15,7 @@ use Rattle.msp_top.specs.declared.words.Misfit.TheVariants.{Form}
 use Rattle.msp_top.specs.Commands.{IsNameWord, IsNumberWord, Asks, AsksForTrial, Misfits}
 use Rattle.msp_top.specs.Usage.{name_then, number_within, number_then, text_of_number, misfit_text}
 use Rattle.msp_top.specs.Words.{ReadsWords, ReadsName, ReadsNumber, ReadsTrial}
-use Rattle.msp_top.proofs.WordLemmas.{trial_word, rows_word, first_word, asks_first, cons_heads, cons_tails, not_word}
+use Rattle.msp_top.proofs.WordLemmas.{trial_word, rows_word, first_word, asks_first, cons_heads, cons_tails, not_word, refused_as}
 
 -- ---- numbers in a range
 within_range : (least greatest n m : ℕ) (a b : Bool)
@@ -27,9 +27,8 @@ within_range least greatest n m true true p q e =
     (ap (λ k. Some (pos k)) same, subst (λ k. least ≤ k) same (leb-true least n p), subst (λ k. k ≤ greatest) same (leb-true n greatest q))
 
 within_found : (least greatest : ℕ) (o : Option ℤ) (m : ℕ) → number_within least greatest o ≡ Some m → (o ≡ Some (pos m)) × (least ≤ m) × (m ≤ greatest)
-within_found least greatest None m e = absurd cc
-within_found least greatest (Some (negsuc n)) m e = absurd cc
 within_found least greatest (Some (pos n)) m e = within_range least greatest n m (nat_le least n) (nat_le n greatest) refl refl e
+within_found least greatest _ m e = absurd cc
 
 within_there : (least greatest m : ℕ) → least ≤ m → m ≤ greatest → number_within least greatest (Some (pos m)) ≡ Some m
 within_there least greatest m low high =
@@ -63,10 +62,12 @@ number_then-short place least greatest word bytes later r short e reads =
 pub same_words : {a b c x y z : List ℕ} → trial_word ∷ a ∷ b ∷ c ∷ [] ≡ trial_word ∷ x ∷ y ∷ z ∷ [] → (x ≡ a) × (y ≡ b) × (z ≡ c)
 same_words e = (sym (cons_heads (cons_tails e)), sym (cons_heads (cons_tails (cons_tails e))), sym (cons_heads (cons_tails (cons_tails (cons_tails e)))))
 
+trial_as : (words : List (List ℕ)) (first misfit : Misfit) → misfit ≡ first → ReadsTrial words (Err first) → ReadsTrial words (Err misfit)
+trial_as words first misfit same h = subst (λ (m : Misfit). ReadsTrial words (Err m)) (sym same) h
+
 pub refuses_name : (name count start : List ℕ) (first misfit : Misfit) → ReadsName name 2 (Err first) → misfit ≡ first → ReadsTrial (name ∷ count ∷ start ∷ []) (Err misfit)
 refuses_name name count start first misfit (text, none) same =
-    let P : Misfit → Type 0 = λ m. ReadsTrial (name ∷ count ∷ start ∷ []) (Err m) in
-    subst P (sym same) (no_trial, text (number_then 3 1 MOST_JOBS count (number_then 4 0 GREATEST_SEED start misfit_text)))
+    trial_as _ first misfit same (no_trial, text (number_then 3 1 MOST_JOBS count (number_then 4 0 GREATEST_SEED start misfit_text)))
   where
     no_trial : (trial : Trial) → ¬ AsksForTrial (trial_word ∷ name ∷ count ∷ start ∷ []) trial
     no_trial trial h = none trial.class (subst (λ w. IsNameWord w trial.class) (same_words h.form).0 h.class)
@@ -74,9 +75,8 @@ refuses_name name count start first misfit (text, none) same =
 pub refuses_count : (name count start : List ℕ) (first misfit : Misfit) → ((later : List ℕ) → name_then 2 name later ≡ later)
     → ReadsNumber 1 MOST_JOBS count 3 (Err first) → misfit ≡ first → ReadsTrial (name ∷ count ∷ start ∷ []) (Err misfit)
 refuses_count name count start first misfit named (text, none) same =
-    let P : Misfit → Type 0 = λ m. ReadsTrial (name ∷ count ∷ start ∷ []) (Err m) in
     let seeds : List ℕ = number_then 4 0 GREATEST_SEED start misfit_text in
-    subst P (sym same) (no_trial, text seeds ∙ sym (named (number_then 3 1 MOST_JOBS count seeds)))
+    trial_as _ first misfit same (no_trial, text seeds ∙ sym (named (number_then 3 1 MOST_JOBS count seeds)))
   where
     no_trial : (trial : Trial) → ¬ AsksForTrial (trial_word ∷ name ∷ count ∷ start ∷ []) trial
     no_trial trial h = none trial.jobs (subst (λ w. IsNumberWord 1 MOST_JOBS w trial.jobs) (same_words h.form).1 h.jobs)
@@ -84,9 +84,8 @@ refuses_count name count start first misfit named (text, none) same =
 pub refuses_start : (name count start : List ℕ) (first misfit : Misfit) → ((later : List ℕ) → name_then 2 name later ≡ later)
     → ((later : List ℕ) → number_then 3 1 MOST_JOBS count later ≡ later) → ReadsNumber 0 GREATEST_SEED start 4 (Err first) → misfit ≡ first → ReadsTrial (name ∷ count ∷ start ∷ []) (Err misfit)
 refuses_start name count start first misfit named counted (text, none) same =
-    let P : Misfit → Type 0 = λ m. ReadsTrial (name ∷ count ∷ start ∷ []) (Err m) in
     let seeds : List ℕ = number_then 4 0 GREATEST_SEED start misfit_text in
-    subst P (sym same) (no_trial, text misfit_text ∙ sym (counted seeds) ∙ sym (named (number_then 3 1 MOST_JOBS count seeds)))
+    trial_as _ first misfit same (no_trial, text misfit_text ∙ sym (counted seeds) ∙ sym (named (number_then 3 1 MOST_JOBS count seeds)))
   where
     no_trial : (trial : Trial) → ¬ AsksForTrial (trial_word ∷ name ∷ count ∷ start ∷ []) trial
     no_trial trial h = none trial.seed (subst (λ w. IsNumberWord 0 GREATEST_SEED w trial.seed) (same_words h.form).2 h.seed)
@@ -137,7 +136,4 @@ pub reads_trial : (word : List ℕ) (words : List (List ℕ)) (trial : Trial) �
 reads_trial word words trial e h = subst (λ w. AsksForTrial (w ∷ words) trial) (sym e) h
 
 pub refuses_trial : (word : List ℕ) (words : List (List ℕ)) (misfit why : Misfit) → word ≡ trial_word → ReadsTrial words (Err misfit) → why ≡ misfit → ReadsWords (word ∷ words) (Err why)
-refuses_trial word words misfit why e (none, text) is =
-    let P : List ℕ → Type 0 = λ w. ReadsWords (w ∷ words) (Err misfit) in
-    let Q : Misfit → Type 0 = λ r. ReadsWords (word ∷ words) (Err r) in
-    subst Q (sym is) (subst P (sym e) (reads_trial_misfit words none, text))
+refuses_trial word words misfit why e (none, text) is = refused_as word trial_word words misfit why e is (reads_trial_misfit words none, text)

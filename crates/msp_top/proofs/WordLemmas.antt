@@ -1,16 +1,10 @@
--- The texts for words that are no names.
-use Rattle.std.proofs.Common.{◌≡◌, ℕ, zero, suc, ◌+◌, ◌<◌, ◌≤◌, ◌-◌, true, false, List, [], ◌∷◌, ◌++◌, length, get_or, take, drop, map, Option, Some, None, Result, Ok, Err}
-use Rattle.std.proofs.Common.{if◌then◌else◌, ◌↔◌, refl, sym, ap, ◌∙◌, subst, codes, bytes_eq, arith}
+-- What the words after the first are decides what all words are.
+use Rattle.std.proofs.Common.{◌≡◌, ℕ, ◌<◌, ◌≤◌, ◌-◌, true, false, List, [], ◌∷◌, length, get_or, take, drop, map, Option, Some, None, Result, Ok, Err}
+use Rattle.std.proofs.Common.{if◌then◌else◌, refl, sym, ap, ◌∙◌, subst, codes, bytes_eq, arith}
 use Rattle.std.specs.List.{AllZip}
-use Rattle.std.proofs.Math.Seq.{drop-cons}
-use Rattle.std.proofs.lemmas.List.{get_or-map, take_more, take_all, length-map, length-drop}
+use Rattle.std.proofs.lemmas.List.{take_all, length-drop}
 use Rattle.std.proofs.lemmas.Slice.Eq.{bytes_eq-Decides}
-use Rattle.std.proofs.lemmas.Bool.{lt-ltb}
-use Rattle.msp_class.specs.declared.list.TheConstants.{PLACES}
 use Rattle.msp_class.specs.declared.class.Class.{Class}
-use Rattle.msp_name.specs.declared.fault.NameFault.{NameFault}
-use Rattle.msp_name.specs.Names.{NameOf}
-use Rattle.msp_name.specs.Reading.{reading_of}
 use Rattle.msp_top.specs.declared.command.Command.{Command}
 use Rattle.msp_top.specs.declared.command.Command.TheVariants.{Solve, Certify, Check, Accept, Answer}
 use Rattle.msp_top.specs.declared.command.Question.TheVariants.{Label, Frontier, Why}
@@ -18,105 +12,8 @@ use Rattle.msp_top.specs.declared.command.Request.{Request}
 use Rattle.msp_top.specs.declared.words.Misfit.{Misfit}
 use Rattle.msp_top.specs.declared.words.Misfit.TheVariants.{Form}
 use Rattle.msp_top.specs.Commands.{IsNameWord, Asks, Misfits}
-use Rattle.msp_top.specs.Usage.{names_text, name_text, name_then, text_of_reading, misspelled_text, misfit_text, option_text, trial_text, later_text}
-use Rattle.msp_top.specs.Note.{usage_note}
+use Rattle.msp_top.specs.Usage.{names_text, name_text, misfit_text, option_text, trial_text, later_text}
 use Rattle.msp_top.specs.Words.{AsksForLabels, ReadsWords, ReadsName, AreNames, ReadsOneName, ReadsOption, AreNoneAlone, ReadsAlone}
-
--- the text of a word that is to be a name, where it is short
-pub name_then-short : (place : ℕ) (word later : List ℕ) → length word < PLACES → name_then place word later ≡ text_of_reading place (reading_of word) later
-name_then-short place word later short = ap (λ b. if b then text_of_reading place (reading_of word) later else misfit_text) (lt-ltb (length word) PLACES short)
-
-pub name_then-fault : (place : ℕ) (word bytes later : List ℕ) (r : Result Class NameFault) (fault : NameFault)
-    → length word < PLACES → bytes ≡ word → r ≡ reading_of bytes → r ≡ Err fault → misspelled_text place fault ≡ name_then place word later
-name_then-fault place word bytes later r fault short e reads is =
-    sym (name_then-short place word later short ∙ ap (λ s. text_of_reading place s later) (ap reading_of (sym e) ∙ sym reads ∙ is))
-
--- ---- lists side by side
-AllZip-more : {A B : Type 0} (R : A → B → Type 0) (xs : List A) (ys : List B) (x : A) (y : B) → AllZip R xs ys → R x y → AllZip R (xs ++ x ∷ []) (ys ++ y ∷ [])
-AllZip-more R [] [] x y h r = (r, tt)
-AllZip-more R [] (b ∷ ys) x y h r = absurd h
-AllZip-more R (a ∷ xs) [] x y h r = absurd h
-AllZip-more R (a ∷ xs) (b ∷ ys) x y h r = (h.0, AllZip-more R xs ys x y h.1 r)
-
-AllZip-at : {A B : Type 0} (R : A → B → Type 0) (xs : List A) (ys : List B) (k : ℕ) (d : A) → AllZip R xs ys → k < length xs → (y : B) × R (get_or xs k d) y
-AllZip-at R [] ys k d h l = absurd (omega arith)
-AllZip-at R (a ∷ xs) [] k d h l = absurd h
-AllZip-at R (a ∷ xs) (b ∷ ys) zero d h l = (b, h.0)
-AllZip-at R (a ∷ xs) (b ∷ ys) (suc k) d h l = AllZip-at R xs ys k d h.1 (omega arith)
-
--- ---- names one by one
--- the first k words are names, and the text of what is wrong is that of the rest
-pub record HasNames (words : List (List ℕ)) (k : ℕ) : Type 0 where
-  pub classes : List Class
-  pub front : AllZip IsNameWord (take k words) classes
-  pub text : names_text 2 words ≡ names_text (k + 2) (drop k words)
-
-word_at : {X : Type 0} (f : X → List ℕ) (xs : List X) (k : ℕ) (x : X) → k < length xs → x ≡ get_or xs k x → get_or (map f xs) k (f x) ≡ f x
-word_at f xs k x l is = get_or-map f xs k x (f x) l ∙ ap f (sym is)
-
-rest_at : {X : Type 0} (f : X → List ℕ) (xs : List X) (k : ℕ) (x : X) → k < length xs → x ≡ get_or xs k x → drop k (map f xs) ≡ f x ∷ drop (k + 1) (map f xs)
-rest_at f xs k x l is =
-    let more : suc k ≡ k + 1 = omega arith in
-    drop-cons (map f xs) k (f x) (omega (arith, length-map xs f))
-    ∙ ap (λ w. w ∷ drop (suc k) (map f xs)) (word_at f xs k x l is) ∙ ap (λ n. f x ∷ drop n (map f xs)) more
-
-front_at : {X : Type 0} (f : X → List ℕ) (xs : List X) (k : ℕ) (x : X) → k < length xs → x ≡ get_or xs k x → take (k + 1) (map f xs) ≡ take k (map f xs) ++ f x ∷ []
-front_at f xs k x l is = take_more (map f xs) k (f x) (omega (arith, length-map xs f)) ∙ ap (λ w. take k (map f xs) ++ w ∷ []) (word_at f xs k x l is)
-
-pub HasNames-next : {X : Type 0} (f : X → List ℕ) (xs : List X) (k : ℕ) (x : X) (word : List ℕ) (c : Class) → k < length xs → x ≡ get_or xs k x → word ≡ f x → IsNameWord word c →
-    ((later : List ℕ) → name_then (k + 2) word later ≡ later) → HasNames (map f xs) k → HasNames (map f xs) (k + 1)
-HasNames-next f xs k x word c l is e named step h = record {
-  classes = h.classes ++ c ∷ [];
-  front = subst (λ ws. AllZip IsNameWord ws (h.classes ++ c ∷ []))
-      (sym (front_at f xs k x l is)) (AllZip-more IsNameWord (take k (map f xs)) h.classes (f x) c h.front (subst (λ w. IsNameWord w c) e named));
-  text = h.text ∙ ap (names_text (k + 2)) (rest_at f xs k x l is) ∙ ap (λ w. names_text (k + 2) (w ∷ drop (k + 1) (map f xs))) (sym e)
-      ∙ step (names_text ((k + 2) + 1) (drop (k + 1) (map f xs))) ∙ ap (λ n. names_text n (drop (k + 1) (map f xs))) (places k);
-}
-  where
-    places : (k : ℕ) → (k + 2) + 1 ≡ (k + 1) + 2
-    places k = omega arith
-
-pub HasNames-fault : {X : Type 0} (f : X → List ℕ) (xs : List X) (k : ℕ) (x : X) (word text : List ℕ) → k < length xs → x ≡ get_or xs k x → word ≡ f x →
-    ((later : List ℕ) → text ≡ name_then (k + 2) word later) → HasNames (map f xs) k → text ≡ names_text 2 (map f xs)
-HasNames-fault f xs k x word text l is e fault h =
-    fault (names_text ((k + 2) + 1) (drop (k + 1) (map f xs))) ∙ ap (λ w. names_text (k + 2) (w ∷ drop (k + 1) (map f xs))) e ∙ sym (ap (names_text (k + 2)) (rest_at f xs k x l is)) ∙ sym h.text
-
--- where a word is no name, not all are names
-pub not_all_names : {X : Type 0} (f : X → List ℕ) (xs : List X) (k : ℕ) (x : X) (word : List ℕ) → k < length xs → x ≡ get_or xs k x → word ≡ f x → ((c : Class) → ¬ IsNameWord word c) →
-    (classes : List Class) → ¬ AllZip IsNameWord (map f xs) classes
-not_all_names f xs k x word l is e no_name classes h =
-    let at = AllZip-at IsNameWord (map f xs) classes k (f x) h (omega (arith, length-map xs f)) in
-    no_name at.0 (subst (λ w. IsNameWord w at.0) (word_at f xs k x l is ∙ sym e) at.1)
-
--- ---- the classes of names
-pub classes_more : {X : Type 0} (f : X → List ℕ) (xs : List X) (k : ℕ) (x : X) (word : List ℕ) (c : Class) (before after : List Class)
-    → k < length xs → x ≡ get_or xs k x → word ≡ f x → IsNameWord word c → after ≡ before ++ c ∷ [] →
-    AllZip IsNameWord (take k (map f xs)) before → AllZip IsNameWord (take (k + 1) (map f xs)) after
-classes_more f xs k x word c before after l is e named grown h =
-    subst (λ cs. AllZip IsNameWord (take (k + 1) (map f xs)) cs) (sym grown)
-    (subst (λ ws. AllZip IsNameWord ws (before ++ c ∷ [])) (sym (front_at f xs k x l is)) (AllZip-more IsNameWord (take k (map f xs)) before (f x) c h (subst (λ w. IsNameWord w c) e named)))
-
-pub all_classes : (words : List (List ℕ)) (k : ℕ) (classes : List Class) → k ≡ length words → AllZip IsNameWord (take k words) classes → AllZip IsNameWord words classes
-all_classes words k classes all h = subst (λ ws. AllZip IsNameWord ws classes) (take_all k words (omega (arith, all))) h
-
--- all words are names
-pub are_names : (words : List (List ℕ)) (k : ℕ) (done : Unit {0}) → k ≡ length words → HasNames words k → AreNames words (Ok done)
-are_names words k done all h = (h.classes, all_classes words k h.classes all h.front)
-
--- a word that is no name
-pub refuses_names : (words : List (List ℕ)) (first why : Misfit)
-    → usage_note first ≡ names_text 2 words → ((classes : List Class) → ¬ AllZip IsNameWord words classes) → why ≡ first → AreNames words (Err why)
-refuses_names words first why text none is =
-    let Q : Misfit → Type 0 = λ r. AreNames words (Err r) in
-    subst Q (sym is) (none, text)
-
--- a word that is refused is no name
-pub no_name_word : (word bytes : List ℕ) (r : Result Class NameFault) (fault : NameFault)
-    → bytes ≡ word → r ≡ Err fault → ((c : Class) → (r ≡ Ok c) ↔ NameOf bytes c) → (c : Class) → ¬ IsNameWord word c
-no_name_word word bytes r fault e is named c h = ok_is_not_err (sym ((named c).1 (subst (λ w. NameOf w c) (sym e) h.named)) ∙ is)
-  where
-    ok_is_not_err : {d : Class} {f : NameFault} → Ok d ≡ Err f → ⊥
-    ok_is_not_err q = cc
 
 -- ---- the words after the first
 abbrev pub label_word : List ℕ
@@ -172,14 +69,10 @@ first_word (Answer Frontier) = frontier_word
 first_word (Answer (Why class)) = why_word
 
 pub asks_first : (words : List (List ℕ)) (command : Command) → Asks words command → (later : List (List ℕ)) × (words ≡ first_word command ∷ later)
-asks_first words (Solve None) h = ([], h)
 asks_first words (Solve (Some class)) (name, h, named) = (codes "--at" ∷ name ∷ [], h)
-asks_first words Certify h = ([], h)
-asks_first words Check h = ([], h)
-asks_first words Accept h = ([], h)
 asks_first words (Answer (Label classes)) (names, h, zip) = (names, h)
-asks_first words (Answer Frontier) h = ([], h)
 asks_first words (Answer (Why class)) (name, h, named) = (name ∷ [], h)
+asks_first words _ h = ([], h)
 
 begins : (word : List ℕ) (words : List (List ℕ)) (command : Command) → Asks (word ∷ words) command → word ≡ first_word command
 begins word words command h = cons_heads (asks_first (word ∷ words) command h).1
@@ -195,36 +88,35 @@ nothing_asked = record {
   no_trial = λ trial h. none_is_some h.form;
 }
 
--- ---- what the words after the first are decides what all words are
+first_misfit : (first : List ℕ) (words : List (List ℕ)) → bytes_eq first rows_word ≡ false → bytes_eq first trial_word ≡ false
+    → ((command : Command) → ¬ Asks (first ∷ words) command) → Misfits (first ∷ words)
+first_misfit first words rows trial none = record {
+  no_command = none;
+  no_rows = λ h. not_word first rows_word rows (cons_heads h);
+  no_trial = λ t h. not_word first trial_word trial (cons_heads h.form);
+}
+
+-- the same words where the first is known, and the same misfit
+pub refused_as : (word first : List ℕ) (words : List (List ℕ)) (misfit why : Misfit) → word ≡ first → why ≡ misfit → ReadsWords (first ∷ words) (Err misfit) → ReadsWords (word ∷ words) (Err why)
+refused_as word first words misfit why e is h =
+    subst (λ (r : Misfit). ReadsWords (word ∷ words) (Err r)) (sym is) (subst (λ (w : List ℕ). ReadsWords (w ∷ words) (Err misfit)) (sym e) h)
 
 reads_label_misfit : (names : List (List ℕ)) → ((classes : List Class) → ¬ AllZip IsNameWord names classes) → Misfits (label_word ∷ names)
-reads_label_misfit names none = record {
-  no_command = no_command;
-  no_rows = λ h. not_word label_word rows_word refl (cons_heads h);
-  no_trial = λ trial h. not_word label_word trial_word refl (cons_heads h.form);
-}
+reads_label_misfit names none = first_misfit label_word names refl refl no_command
   where
     no_command : (command : Command) → ¬ Asks (label_word ∷ names) command
     no_command (Answer (Label classes)) (others, h, zip) = none classes (subst (λ ws. AllZip IsNameWord ws classes) (sym (cons_tails h)) zip)
     no_command command h = not_word label_word (first_word command) refl (begins _ _ command h)
 
 reads_why_misfit : (words : List (List ℕ)) → ((name : List ℕ) (class : Class) → words ≡ name ∷ [] → ¬ IsNameWord name class) → Misfits (why_word ∷ words)
-reads_why_misfit words none = record {
-  no_command = no_command;
-  no_rows = λ h. not_word why_word rows_word refl (cons_heads h);
-  no_trial = λ trial h. not_word why_word trial_word refl (cons_heads h.form);
-}
+reads_why_misfit words none = first_misfit why_word words refl refl no_command
   where
     no_command : (command : Command) → ¬ Asks (why_word ∷ words) command
     no_command (Answer (Why class)) (name, h, named) = none name class (cons_tails h) named
     no_command command h = not_word why_word (first_word command) refl (begins _ _ command h)
 
 reads_solve_misfit : (options : List (List ℕ)) → ((at : Option Class) → ¬ Asks (solve_word ∷ options) (Solve at)) → Misfits (solve_word ∷ options)
-reads_solve_misfit options none = record {
-  no_command = no_command;
-  no_rows = λ h. not_word solve_word rows_word refl (cons_heads h);
-  no_trial = λ trial h. not_word solve_word trial_word refl (cons_heads h.form);
-}
+reads_solve_misfit options none = first_misfit solve_word options refl refl no_command
   where
     no_command : (command : Command) → ¬ Asks (solve_word ∷ options) command
     no_command (Solve at) h = none at h
@@ -235,10 +127,7 @@ pub reads_label : (word : List ℕ) (names : List (List ℕ)) → word ≡ label
 reads_label word names e (classes, h) = (classes, (names, ap (λ w. w ∷ names) e, h))
 
 pub refuses_label : (word : List ℕ) (names : List (List ℕ)) (misfit why : Misfit) → word ≡ label_word → AreNames names (Err misfit) → why ≡ misfit → ReadsWords (word ∷ names) (Err why)
-refuses_label word names misfit why e (none, text) is =
-    let P : List ℕ → Type 0 = λ w. ReadsWords (w ∷ names) (Err misfit) in
-    let Q : Misfit → Type 0 = λ r. ReadsWords (word ∷ names) (Err r) in
-    subst Q (sym is) (subst P (sym e) (reads_label_misfit names none, text))
+refuses_label word names misfit why e (none, text) is = refused_as word label_word names misfit why e is (reads_label_misfit names none, text)
 
 -- the words that labels are asked for are the first and those after it
 pub label_words : {X : Type 0} (f : X → List ℕ) (xs : List X) → AsksForLabels (map f xs) → (classes : List Class) × AllZip IsNameWord (map f (drop 1 xs)) classes
@@ -258,19 +147,13 @@ pub reads_why : (word : List ℕ) (words : List (List ℕ)) (class : Class) → 
 reads_why word words class e (name, h, named) = (name, ap (λ w. w ∷ words) e ∙ ap (λ ws. why_word ∷ ws) h, named)
 
 pub refuses_why : (word : List ℕ) (words : List (List ℕ)) (misfit why : Misfit) → word ≡ why_word → ReadsOneName words (Err misfit) → why ≡ misfit → ReadsWords (word ∷ words) (Err why)
-refuses_why word words misfit why e (none, text) is =
-    let P : List ℕ → Type 0 = λ w. ReadsWords (w ∷ words) (Err misfit) in
-    let Q : Misfit → Type 0 = λ r. ReadsWords (word ∷ words) (Err r) in
-    subst Q (sym is) (subst P (sym e) (reads_why_misfit words none, text))
+refuses_why word words misfit why e (none, text) is = refused_as word why_word words misfit why e is (reads_why_misfit words none, text)
 
 pub reads_solve : (word : List ℕ) (options : List (List ℕ)) (at : Option Class) → word ≡ solve_word → Asks (solve_word ∷ options) (Solve at) → Asks (word ∷ options) (Solve at)
 reads_solve word options at e h = subst (λ w. Asks (w ∷ options) (Solve at)) (sym e) h
 
 pub refuses_solve : (word : List ℕ) (options : List (List ℕ)) (misfit why : Misfit) → word ≡ solve_word → ReadsOption options (Err misfit) → why ≡ misfit → ReadsWords (word ∷ options) (Err why)
-refuses_solve word options misfit why e (none, text) is =
-    let P : List ℕ → Type 0 = λ w. ReadsWords (w ∷ options) (Err misfit) in
-    let Q : Misfit → Type 0 = λ r. ReadsWords (word ∷ options) (Err r) in
-    subst Q (sym is) (subst P (sym e) (reads_solve_misfit options none, text))
+refuses_solve word options misfit why e (none, text) is = refused_as word solve_word options misfit why e is (reads_solve_misfit options none, text)
 
 pub none_of : {X : Type 0} (xs : List X) → length xs ≡ 0 → xs ≡ []
 none_of [] e = refl
@@ -300,8 +183,7 @@ pub refuses_all : (word : List ℕ) (words : List (List ℕ)) (misfit why : Misf
     → bytes_eq word label_word ≡ false → bytes_eq word why_word ≡ false → bytes_eq word solve_word ≡ false → bytes_eq word trial_word ≡ false →
     ReadsAlone (word ∷ words) (Err misfit) → why ≡ misfit → ReadsWords (word ∷ words) (Err why)
 refuses_all word words misfit why label why_not solve trial_not (none, form) is =
-    let Q : Misfit → Type 0 = λ r. ReadsWords (word ∷ words) (Err r) in
-    subst Q (sym is) (
+    subst (λ (r : Misfit). ReadsWords (word ∷ words) (Err r)) (sym is) (
       record {
         no_command = no_command;
         no_rows = none.no_rows;
@@ -401,5 +283,4 @@ reads_at_part f (a ∷ b ∷ d ∷ xs) x y option name r l first second p q e h 
 pub refuses_at_part : {X : Type 0} (f : X → List ℕ) (xs : List X) (x y : X) (option name : List ℕ) (first misfit : Misfit) → length xs ≡ 2 → x ≡ get_or xs 0 x
     → y ≡ get_or xs 1 y → option ≡ f x → name ≡ f y → option ≡ at_word → ReadsName name 3 (Err first) → misfit ≡ first → ReadsOption (map f xs) (Err misfit)
 refuses_at_part f xs x y option name first misfit l a b p q e h same =
-    let P : Misfit → Type 0 = λ m. ReadsOption (map f xs) (Err m) in
-    subst P (sym same) (reads_at_part f xs x y option name (Err first) l a b p q e h)
+    subst (λ (m : Misfit). ReadsOption (map f xs) (Err m)) (sym same) (reads_at_part f xs x y option name (Err first) l a b p q e h)

@@ -4,12 +4,13 @@ use Rattle.std.proofs.lemmas.Int.{ints}
 use Rattle.std.proofs.lemmas.List.{get_or-map}
 use Rattle.msp_class.specs.declared.class.Class.{Class}
 use Rattle.msp_class.specs.declared.environments.EnvKind.{EnvKind}
-use Rattle.msp_class.specs.declared.environments.EnvKind.TheVariants.{Identical, Uniform, Unrelated, OpenShop, FlowShop, JobShop}
+use Rattle.msp_class.specs.declared.environments.EnvKind.TheVariants.{Unrelated, OpenShop}
 use Rattle.msp_class.specs.declared.sizes.TheConstants.{GREATEST_UNIT}
 use Rattle.msp_class.specs.Env.{kind_of}
 use Rattle.msp_class.proofs.IntegerRing.{natural, le-pos}
 use Rattle.msp_instance.specs.declared.Instance.{Instance}
 use Rattle.msp_instance.specs.Conditions.{InClass, LiesWithin}
+use Rattle.msp_instance.proofs.Limits.{Inner-from_class}
 use Rattle.msp_pieces.specs.declared.Frac.{Frac}
 use Rattle.msp_pieces.specs.declared.Schedule.{Schedule}
 use Rattle.msp_pieces.specs.declared.limits.TheConstants.{GREATEST_COMPARED_DENOMINATOR}
@@ -34,12 +35,9 @@ use Rattle.msp_dispatch.proofs.evidence.Others.{IsWholeValue}
 
 -- ---- a solver's answer is within the bounds of the calls
 unit_small : (k : EnvKind) (u : ℤ) → u ≤ℤ answer_unit k → u ≤ℤ GREATEST_UNIT
-unit_small Identical u h = h
-unit_small Uniform u h = h
 unit_small Unrelated u h = omega (arith, ints, h)
 unit_small OpenShop u h = omega (arith, ints, h)
-unit_small FlowShop u h = h
-unit_small JobShop u h = h
+unit_small _ u h = h
 
 pub Within-answer : (i : Instance) (s : Schedule) → InClass i → Feasible i s → IsAnswer i s → Within i s
 Within-answer i s c f a = record {
@@ -74,16 +72,12 @@ other_class a b c e differs f = differs (sym e ∙ f)
 
 fits_by : (m : Maker) (i : Instance) → i.class ≡ class_of m → FitsMaker m i → FitsWhereWanted i
 fits_by maker.UniformCut i e h = λ _. h
-fits_by maker.Wrap i e h = λ f. absurd (other_class i.class _ cut_class e (λ g. let x = ap (λ (c : Class). c.env) g in cc) f)
-fits_by maker.OpenCut i e h = λ f. absurd (other_class i.class _ cut_class e (λ g. let x = ap (λ (c : Class). c.env) g in cc) f)
-fits_by maker.Open2 i e h = λ f. absurd (other_class i.class _ cut_class e (λ g. let x = ap (λ (c : Class). c.env) g in cc) f)
-fits_by maker.Levels i e h = λ f. absurd (other_class i.class _ cut_class e (λ g. let x = ap (λ (c : Class). c.env) g in cc) f)
-fits_by maker.Lexical i e h = λ f. absurd (other_class i.class _ cut_class e (λ g. let x = ap (λ (c : Class). c.env) g in cc) f)
-fits_by maker.Unrelated i e h = λ f. absurd (other_class i.class _ cut_class e (λ g. let x = ap (λ (c : Class). c.env) g in cc) f)
-fits_by maker.Blocks i e h = λ f. absurd (other_class i.class _ cut_class e (λ g. let x = ap (λ (c : Class). c.env) g in cc) f)
+fits_by _ i e h = λ f. absurd (other_class i.class _ cut_class e (λ g. let x = ap (λ (c : Class). c.env) g in cc) f)
 
 pub IsCertifiable-made : (i : Instance) (m : Maker) → i.class ≡ class_of m → FitsMaker m i → IsCertifiable i
 IsCertifiable-made i m e h = record { listed = subst HasCertificate (sym e) (listed m); fits = fits_by m i e h }
+
+pub ruleset maker_rules = (Inner-from_class, IsCertifiable-made)
 
 pub searched_class : (c d : Class) → c ≡ d → Contains searched_classes d → Contains searched_classes c
 searched_class c d e h = subst (Contains searched_classes) (sym e) h

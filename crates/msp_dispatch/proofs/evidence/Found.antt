@@ -5,7 +5,7 @@ use Rattle.msp_instance.specs.declared.Instance.{Instance}
 use Rattle.msp_instance.specs.Conditions.{InClass}
 use Rattle.msp_pieces.specs.declared.Frac.{Frac}
 use Rattle.msp_cert.specs.declared.Proof.{Proof}
-use Rattle.msp_cert.specs.declared.Proof.TheVariants.{Group, Machine, Line, Levels, Segments, Block, Prices}
+use Rattle.msp_cert.specs.declared.Proof.TheVariants.{Group, Machine, Line, Levels, Segments}
 use Rattle.msp_cert.specs.Certificates.{KeepsLimits}
 use Rattle.msp_cert.specs.Search.{HasValue, tried, IsFound}
 use Rattle.msp_cert.proofs.Found.{KeepsWithin}
@@ -26,8 +26,7 @@ IsShort-within i (Levels level tail) c h = record {
   levels = (λ k d l. omega (arith, h.1 k d l, c.conditions.few), omega (arith, h.2, c.conditions.few));
 }
 IsShort-within i (Segments lists) c h = absurd h
-IsShort-within i (Block head jobs) c h = absurd h
-IsShort-within i (Prices row column) c h = absurd h
+IsShort-within i _ c h = absurd h
 
 pub found_some : (i : Instance) (cost : Frac) → IsTriedValue i cost → IsFound i cost None → ⊥
 found_some i cost t h =

@@ -1,10 +1,9 @@
 -- Fractions in lowest terms: no other form of them has smaller numbers.
-use Rattle.std.proofs.Common.{◌≡◌, ℕ, zero, suc, ◌+◌, ◌*◌, ◌-◌, ◌<◌, ◌≤◌, inl, inr, ℤ, pos, negsuc, neg_ℤ, ◌*ℤ◌, ◌≤ℤ◌, unsigned_abs, nat_abs, refl, sym, ap, ap₂, ◌∙◌, subst, arith}
+use Rattle.std.proofs.Common.{◌≡◌, ℕ, ◌+◌, ◌*◌, ◌-◌, ◌<◌, ◌≤◌, ℤ, pos, ◌*ℤ◌, ◌≤ℤ◌, unsigned_abs, nat_abs, sym, ap, ap₂, ◌∙◌, subst, arith}
 use Rattle.std.specs.Int.{IsGcd}
-use Rattle.std.proofs.Math.Nat.{eq-one_of_dvd-one, dvd-add, dvd-mul_left, one-dvd}
-use Rattle.std.proofs.lemmas.Bool.{cases_lt}
-use Rattle.std.proofs.lemmas.Nat.Gcd.{dvd_refl, dvd-zero}
-use Rattle.std.proofs.lemmas.Int.{ints}
+use Rattle.std.proofs.Math.Nat.{eq-one_of_dvd-one, dvd-mul_left}
+use Rattle.std.proofs.lemmas.Nat.Gcd.{dvd_refl}
+use Rattle.std.proofs.lemmas.Int.{ints, unsigned_abs-mul}
 use Rattle.msp_class.proofs.IntegerRing.{natural, pos-same, le-pos, zero-le-pos, ≤ℤ_of_same, ≤ℤ_trans, ≤ℤ_antisym, *ℤ_comm, *ℤ_assoc, *ℤ_exchange, *ℤ-cancel_same, *ℤ-zero, *ℤ-one, *ℤ-cancel}
 use Rattle.msp_pieces.specs.declared.Frac.{Frac}
 use Rattle.msp_pieces.specs.declared.Schedule.{Schedule}
@@ -12,68 +11,7 @@ use Rattle.msp_pieces.specs.declared.Solution.{Solution}
 use Rattle.msp_pieces.specs.Fraction.{IsOver, IsLowest, IsSameFraction}
 use Rattle.msp_pieces.specs.Cost.{cost_of, Best, IsBest}
 use Rattle.msp_instance.specs.declared.Instance.{Instance}
-
-pub some_product : (u r : ℕ) → 1 ≤ u → 1 ≤ r → 1 ≤ u * r
-some_product u zero a b = absurd (omega arith)
-some_product u (suc r) a b = omega arith
-
--- a fraction below 1: both numbers of the other form are greater by those of a smaller fraction
-wider : (a r x u : ℕ) → 1 ≤ a → 1 ≤ r → 1 ≤ u → a * u ≡ x * (a + r) → (v : ℕ) × (u ≡ x + v) × (1 ≤ v) × (a * v ≡ x * r)
-wider a r x u some rest unit e = elim (cases_lt x u) [
-  | inl more ↦ (u - x, omega arith, omega arith, left (u - x) (omega arith))
-  | inr less ↦ absurd (no_less (x - u) (omega arith))
-]
-  where
-    no_less : (d : ℕ) → x ≡ u + d → ⊥
-    no_less d is =
-        let f : a * u ≡ (u + d) * (a + r) = e ∙ ap (λ y. y * (a + r)) is in
-        let p = some_product u r unit rest in
-        omega (arith, f, p)
-
-    left : (v : ℕ) → u ≡ x + v → a * v ≡ x * r
-    left v is = let f : a * (x + v) ≡ x * (a + r) = sym (ap (λ y. a * y) is) ∙ e in omega (arith, f)
-
--- a fraction from 1 on: the other form is from 1 on too
-taller : (b r x u : ℕ) → 1 ≤ b → (b + r) * u ≡ x * b → (y : ℕ) × (x ≡ u + y) × (r * u ≡ y * b)
-taller b r x u some e = elim (cases_lt x u) [
-  | inl less ↦ absurd (no_less (u - x - 1) (omega arith))
-  | inr more ↦ (x - u, omega arith, left (x - u) (omega arith))
-]
-  where
-    no_less : (d : ℕ) → u ≡ x + (d + 1) → ⊥
-    no_less d is = let f : (b + r) * (x + (d + 1)) ≡ x * b = sym (ap (λ y. (b + r) * y) is) ∙ e in omega (arith, f, some)
-
-    left : (y : ℕ) → x ≡ u + y → r * u ≡ y * b
-    left y is = let f : (b + r) * u ≡ (u + y) * b = e ∙ ap (λ z. z * b) is in omega (arith, f)
-
-gcd_right : (a r : ℕ) → IsGcd a (a + r) 1 → IsGcd a r 1
-gcd_right a r g = (one-dvd a, one-dvd r, λ d p q. g.2 d p (dvd-add d p q))
-
-gcd_left : (b r : ℕ) → IsGcd (b + r) b 1 → IsGcd r b 1
-gcd_left b r g = (one-dvd r, one-dvd b, λ d p q. g.2 d (dvd-add d q p) q)
-
--- numbers without a common divisor are the least of all forms of their fraction
-pub least_form : (fuel a b x u : ℕ) → a + b ≤ fuel → 1 ≤ b → 1 ≤ u → IsGcd a b 1 → a * u ≡ x * b → (a ≤ x) × (b ≤ u)
-least_form zero a b x u f some unit g e = absurd (omega arith)
-least_form (suc fuel) zero b x u f some unit g e =
-    let one : b ≡ 1 = eq-one_of_dvd-one (g.2 b (dvd-zero b) (dvd_refl b)) in
-    (omega arith, omega (arith, one))
-least_form (suc fuel) (suc a) b x u f some unit g e = elim (cases_lt (suc a) b) [
-  | inl less ↦ below (b - suc a) (omega arith) (omega arith) (λ r v. least_form fuel (suc a) r x v)
-  | inr more ↦ above (suc a - b) (omega arith) (λ r y. least_form fuel r b y u)
-]
-  where
-    below : (r : ℕ) → b ≡ suc a + r → 1 ≤ r → ((r v : ℕ) → suc a + r ≤ fuel → 1 ≤ r → 1 ≤ v → IsGcd (suc a) r 1 → suc a * v ≡ x * r → (suc a ≤ x) × (r ≤ v)) → (suc a ≤ x) × (b ≤ u)
-    below r is rest smaller =
-        let (v, more, positive, h) = wider (suc a) r x u (omega arith) rest unit (e ∙ ap (λ y. x * y) is) in
-        let (p, q) = smaller r v (omega arith) rest positive (gcd_right (suc a) r (subst (λ y. IsGcd (suc a) y 1) is g)) h in
-        (p, omega (arith, is, more, p, q))
-
-    above : (r : ℕ) → suc a ≡ b + r → ((r y : ℕ) → r + b ≤ fuel → 1 ≤ b → 1 ≤ u → IsGcd r b 1 → r * u ≡ y * b → (r ≤ y) × (b ≤ u)) → (suc a ≤ x) × (b ≤ u)
-    above r is smaller =
-        let (y, more, h) = taller b r x u some (sym (ap (λ z. z * u) is) ∙ e) in
-        let (p, q) = smaller r y (omega arith) some unit (gcd_left b r (subst (λ z. IsGcd z b 1) is g)) h in
-        (omega (arith, is, more, p, q), q)
+use Rattle.msp_cert.proofs.LeastForms.{least_form}
 
 -- a fraction in lowest terms by natural numbers
 pub record IsNatural (f : Frac) (x u : ℕ) : Type 0 where
@@ -102,22 +40,13 @@ IsNatural-lowest f x u unit over low =
         least_form (n + d) n d x u (omega arith) some unit common cross
 
 -- a whole number in lowest terms
-size_negated : (a : ℕ) → unsigned_abs (neg_ℤ (pos a)) ≡ a
-size_negated zero = refl
-size_negated (suc a) = refl
-
-size_times : (x : ℤ) (m : ℕ) → unsigned_abs (x *ℤ pos m) ≡ unsigned_abs x * m
-size_times (pos n) m = refl
-size_times (negsuc n) zero = ap unsigned_abs (*ℤ-zero (negsuc n)) ∙ omega arith
-size_times (negsuc n) (suc m) = size_negated (suc n * suc m)
-
 pub whole_lowest : (f : Frac) (x : ℤ) → IsOver f x (pos 1) → IsLowest f → (f.num ≡ x) × (f.den ≡ pos 1)
 whole_lowest f x over low = by (nat_abs f.den) (natural f.den (omega (arith, ints, f.positive)))
   where
     by : (m : ℕ) → f.den ≡ pos m → (f.num ≡ x) × (f.den ≡ pos 1)
     by m den =
         let num : f.num ≡ x *ℤ pos m = sym (*ℤ-one f.num) ∙ over ∙ ap (λ y. x *ℤ y) den in
-        let sizes : IsGcd (unsigned_abs x * m) m 1 = subst (λ y. IsGcd y m 1) (ap unsigned_abs num ∙ size_times x m) (subst (λ y. IsGcd (unsigned_abs f.num) (unsigned_abs y) 1) den low) in
+        let sizes : IsGcd (unsigned_abs x * m) m 1 = subst (λ y. IsGcd y m 1) (ap unsigned_abs num ∙ unsigned_abs-mul x (pos m)) (subst (λ y. IsGcd (unsigned_abs f.num) (unsigned_abs y) 1) den low) in
         let one : m ≡ 1 = eq-one_of_dvd-one (sizes.2 m (dvd-mul_left m (unsigned_abs x)) (dvd_refl m)) in
         (num ∙ ap (λ k. x *ℤ pos k) one ∙ *ℤ-one x, den ∙ ap pos one)
 

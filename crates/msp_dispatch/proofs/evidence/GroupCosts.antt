@@ -38,7 +38,7 @@ use Rattle.msp_wrap.specs.Wrap.{wrap_class, longest_time, total_time as all_time
 use Rattle.msp_wrap.proofs.Facts.{IsWrapInstance, IsWrapInstance-from_class, total_time-is, time_at-longest, longest_time-reached, longest_time-short, total_time-short}
 use Rattle.msp_uniform.specs.Uniform.{cut_class, work, speed, IsUniformCost}
 use Rattle.msp_dispatch.specs.Shown.{IsTriedValue}
-use Rattle.msp_dispatch.proofs.evidence.Fractions.{some_product}
+use Rattle.msp_cert.proofs.LeastForms.{some_product}
 use Rattle.msp_dispatch.proofs.evidence.Tried.{tried-group}
 use Rattle.msp_dispatch.proofs.evidence.Sizes.{work_short}
 use Rattle.msp_dispatch.proofs.evidence.Groups.{longest_falls, first_work, first_speed, first_greatest, first_is, IsSpeedOfFastest-first}

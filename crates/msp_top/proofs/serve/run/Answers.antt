@@ -1,7 +1,7 @@
 -- The goals of `run`: what serving ended with, field by field of what a call leaves.
 use Rattle.std.proofs.Common.{Ok, Err, refl, arith}
-use Rattle.msp_top.proofs.Endings.{is_served, is_refused, report_is_low, refusal_is_high, serves_read_fault, serves_write_fault, serves_rows_status, serves_trial_status}
-use Rattle.msp_top.proofs.Endings.{serves_trial_due, serves_due, are_told}
+use Rattle.msp_top.proofs.Served.{is_served, is_refused, report_is_low, refusal_is_high, serves_read_fault, serves_write_fault, serves_rows_status, serves_trial_status}
+use Rattle.msp_top.proofs.Served.{serves_trial_due, serves_due, are_told}
 use Rattle.msp_top.proofs.serve.run.Goals as goal
 
 pub returns-in-Ok : goal.returns-in-Ok

@@ -2,7 +2,7 @@
 use Rattle.std.proofs.Common.{string_bytes, map}
 use Rattle.msp_top.specs.Words.{AreNames}
 use Rattle.msp_top.proofs.Exits.{exits}
-use Rattle.msp_top.proofs.WordLemmas.{HasNames-next, HasNames-fault, not_all_names, refuses_names}
+use Rattle.msp_top.proofs.NameWords.{HasNames-next, HasNames-fault, not_all_names, refuses_names}
 use Rattle.msp_top.proofs.words.check_names.Goals as goal
 
 pub returns-in_err-read_name : goal.returns-in_err-read_name

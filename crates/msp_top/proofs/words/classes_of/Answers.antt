@@ -1,6 +1,6 @@
 -- The goals of `classes_of` that are proved by lemmas.
 use Rattle.std.proofs.Common.{string_bytes}
-use Rattle.msp_top.proofs.WordLemmas.{not_all_names, classes_more}
+use Rattle.msp_top.proofs.NameWords.{not_all_names, classes_more}
 use Rattle.msp_top.proofs.words.classes_of.Goals as goal
 
 pub unreachable-requires : goal.unreachable-requires

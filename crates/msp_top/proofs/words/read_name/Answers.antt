@@ -1,6 +1,6 @@
 -- The goals of `read_name` that are proved by lemmas.
 use Rattle.std.proofs.Common.{arith}
-use Rattle.msp_top.proofs.WordLemmas.{name_then-fault, no_name_word}
+use Rattle.msp_top.proofs.NameWords.{name_then-fault, no_name_word}
 use Rattle.msp_top.proofs.words.read_name.Goals as goal
 
 pub returns-in-Err-clause-read : goal.returns-in-Err-clause-read
