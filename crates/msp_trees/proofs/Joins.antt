@@ -1,5 +1,5 @@
 -- One block of greatest ratio is joined behind the one that holds what is before it: some cheapest order has it there.
-use Rattle.std.proofs.Common.{◌≡◌, ◌≢◌, ℕ, suc, ◌+◌, ◌*◌, ◌<◌, ◌≤◌, inl, inr, cond, eqb, List, [], ◌∷◌, ◌++◌, get_or, map, All, Contains, IsPermutation, sum_by, le_trans, refl}
+use Rattle.std.proofs.Common.{◌≡◌, ◌≢◌, ℕ, ◌+◌, ◌*◌, ◌<◌, ◌≤◌, inl, inr, cond, eqb, List, [], ◌∷◌, ◌++◌, get_or, map, All, Contains, IsPermutation, sum_by, le_trans, refl}
 use Rattle.std.proofs.Common.{sym, ap, subst, ◌∙◌, arith, Bool, true, false}
 use Rattle.std.specs.List.{concat, range_with_len}
 use Rattle.std.proofs.lemmas.List.{append_assoc, append-nil}
@@ -10,11 +10,13 @@ use Rattle.std.proofs.lemmas.List.Elements.{All-nil, All-cons, All-head, All-tai
 use Rattle.std.proofs.lemmas.List.Sorted.{IsPermutation-sym, IsPermutation-trans, IsPermutation-cons, IsPermutation-middle, IsPermutation-map, IsPermutation-to_front}
 use Rattle.std.proofs.lemmas.List.Sorted.{length_permutation, IsPermutation-append_left, IsPermutation-append_comm, All-permutation}
 use Rattle.std.proofs.lemmas.List.Kept.{AllPairs-cons}
-use Rattle.msp_class.proofs.Sums.{AllPairs-head, AllPairs-tail, Contains-tail, cond-no, range_with_len_last, OnceBelow, OnceBelow-range, OnceBelow-permutation, OnceBelow-distinct, OnceBelow-contains}
+use Rattle.msp_class.proofs.Sums.{AllPairs-head, AllPairs-tail, Contains-tail, cond-no, OnceBelow, OnceBelow-range, OnceBelow-permutation, OnceBelow-distinct, OnceBelow-contains}
 use Rattle.msp_pieces.specs.BackToBack.{weighted_ends}
 use Rattle.msp_pieces.proofs.lists.WeightedEnds.{weighted_ends-later, weighted_ends-append}
 use Rattle.msp_trees.specs.Joining.{IsForward, IsBranch, IsLine, IsJoined, IsCheapest}
-use Rattle.msp_trees.proofs.Lists.{All-left, All-right, pairs_right, pairs_across, pairs_exchanged, taken, parted, concat-permutation, concat-singles, All-concat, permutation_from_counts}
+use Rattle.msp_trees.proofs.Lists.{pairs_across, pairs_exchanged, taken, parted, concat-permutation, concat-singles, All-concat, permutation_from_once}
+use Rattle.msp_pieces.proofs.lists.Pushes.{range-next}
+use Rattle.msp_pieces.proofs.lists.Parts.{All-front, All-back, AllPairs-back}
 
 -- ---- two neighbouring parts of a row change places
 module _ (p w : ℕ → ℕ) where
@@ -150,7 +152,7 @@ module _ (n : ℕ) (before p w : ℕ → ℕ) (tree : IsTree n before p) where
       not_in_middle : All (λ y. y ≢ n) middle
       not_in_middle k d l e =
           let here = started early (Contains-append_right (concat front) vs (before first) behind) (middle ++ (us ++ concat back)) once_flat forward_flat in
-          All-left (λ y. n ≢ y) middle (us ++ concat back) (All-contains (λ x. All (λ y. x ≢ y) (middle ++ (us ++ concat back))) early n apart here) k d l (sym e)
+          All-front (λ y. n ≢ y) middle (us ++ concat back) (All-contains (λ x. All (λ y. x ≢ y) (middle ++ (us ++ concat back))) early n apart here) k d l (sym e)
 
       ratios_all : All (λ b. sum_by w b * sum_by p us ≤ sum_by w us * sum_by p b) between
       ratios_all k d l = ratios k d l (λ c. All-contains (λ y. y ≢ n) (get_or between k d) n (All-concat (λ y. y ≢ n) between not_in_middle k d l) c refl)
@@ -162,10 +164,10 @@ module _ (n : ℕ) (before p w : ℕ → ℕ) (tree : IsTree n before p) where
           let c = before_within before vs first rest branch behind k d l in
           let y = get_or middle j f in
           elim (Contains-append_cases vs us (before (get_or us k d)) c) [
-            | inl a ↦ All-left (λ z. before (get_or us k d) ≢ z) middle (us ++ concat back)
+            | inl a ↦ All-front (λ z. before (get_or us k d) ≢ z) middle (us ++ concat back)
                 (All-contains (λ x. All (λ z. x ≢ z) (middle ++ (us ++ concat back))) early (before (get_or us k d)) apart (Contains-append_right (concat front) vs (before (get_or us k d)) a)) j f m e
             | inr b ↦ All-contains (λ z. y ≢ z) us (before (get_or us k d))
-                (All-left (λ z. y ≢ z) us (concat back) (pairs_across (λ x z. x ≢ z) middle (us ++ concat back) (pairs_right (λ x z. x ≢ z) early (middle ++ (us ++ concat back)) distinct) j f m))
+                (All-front (λ z. y ≢ z) us (concat back) (pairs_across (λ x z. x ≢ z) middle (us ++ concat back) (AllPairs-back (λ x z. x ≢ z) early (middle ++ (us ++ concat back)) distinct) j f m))
                 b (sym e)
           ]
 
@@ -182,7 +184,7 @@ module _ (n : ℕ) (before p w : ℕ → ℕ) (tree : IsTree n before p) where
         let there : Contains (concat (between ++ vs ∷ back)) (before first) = subst (λ l. Contains l (before first)) (sym (concat-append between (vs ∷ back)))
         (Contains-append_right (concat between) (vs ++ concat back) (before first) (Contains-append_left vs (concat back) (before first) behind)) in
         All-contains (λ y. before first ≢ y) (rest ++ concat (between ++ vs ∷ back)) (before first)
-        (AllPairs-head (λ a b. before a ≢ b) first (rest ++ concat (between ++ vs ∷ back)) (pairs_right (λ a b. before a ≢ b) (concat front) (us ++ concat (between ++ vs ∷ back)) all))
+        (AllPairs-head (λ a b. before a ≢ b) first (rest ++ concat (between ++ vs ∷ back)) (AllPairs-back (λ a b. before a ≢ b) (concat front) (us ++ concat (between ++ vs ∷ back)) all))
         (Contains-append_right rest (concat (between ++ vs ∷ back)) (before first) there) refl
 
     -- the line of the blocks before gives one of the blocks after
@@ -195,7 +197,7 @@ module _ (n : ℕ) (before p w : ℕ → ℕ) (tree : IsTree n before p) where
           | inl (y, ea, ed) ↦
               let is : line ≡ (c ++ vs ∷ y) ++ us ∷ b = m.is ∙ ap (λ l. l ++ us ∷ b) ea in
               let once = OnceBelow-permutation joined.once (concat-permutation blocks line h.same) in
-              let ratios = All-tail Ratio vs y (All-right Ratio c (vs ∷ y) (All-left Ratio (c ++ vs ∷ y) (us ∷ b) (subst (All Ratio) is (All-permutation Ratio blocks line h.same ratio)))) in
+              let ratios = All-tail Ratio vs y (All-back Ratio c (vs ∷ y) (All-front Ratio (c ++ vs ∷ y) (us ∷ b) (subst (All Ratio) is (All-permutation Ratio blocks line h.same ratio)))) in
               let left : IsPermutation (c ++ (y ++ b)) others = subst (λ l. IsPermutation (c ++ l) others) ed k.same in (
                 c ++ (vs ++ us) ∷ (y ++ b),
                 record {
@@ -244,24 +246,16 @@ module _ (n : ℕ) (before p w : ℕ → ℕ) (tree : IsTree n before p) where
   }
     where
       once : OnceBelow (n + 1) (n ∷ range_with_len 0 n)
-      once =
-          let last : range_with_len 0 (n + 1) ≡ range_with_len 0 n ++ n ∷ [] = ap (range_with_len 0) (next n) ∙ range_with_len_last 0 n ∙ ap (λ k. range_with_len 0 n ++ k ∷ []) (none n) in
-          OnceBelow-permutation (subst (OnceBelow (n + 1)) last (OnceBelow-range (n + 1))) (IsPermutation-to_front (range_with_len 0 n) n)
-        where
-          next : (k : ℕ) → k + 1 ≡ suc k
-          next k = omega arith
-
-          none : (k : ℕ) → 0 + k ≡ k
-          none k = omega arith
+      once = OnceBelow-permutation (subst (OnceBelow (n + 1)) (sym (range-next (range_with_len 0 n ++ n ∷ []) (range_with_len 0 n) n refl refl)) (OnceBelow-range (n + 1)))
+          (IsPermutation-to_front (range_with_len 0 n) n)
 
       line : (order : List ℕ) → OnceBelow n order → IsForward before order
           → IsLine before p w ((n ∷ []) ∷ map (λ j. j ∷ []) (range_with_len 0 n)) (weighted_ends p w 0 order) ((n ∷ []) ∷ map (λ j. j ∷ []) order)
       line order o f =
-          let all = OnceBelow-range n in
           let flat = concat-singles order in
           record {
             same = IsPermutation-cons (n ∷ [])
-                _ _ (IsPermutation-map (λ j. j ∷ []) (range_with_len 0 n) order (permutation_from_counts n (range_with_len 0 n) order all.within o.within (λ i l. all.once i l ∙ sym (o.once i l))));
+                _ _ (IsPermutation-map (λ j. j ∷ []) (range_with_len 0 n) order (permutation_from_once n (range_with_len 0 n) order (OnceBelow-range n) o));
             forward = subst (λ l. IsForward before (n ∷ l)) (sym flat) (AllPairs-cons (λ a b. before a ≢ b) n order (λ k d l. tree.start (get_or order k d) (o.within k d l)) f);
             cheap = omega (arith, ap (λ l. weighted_ends p w 0 (n ∷ l)) flat, behind_start order);
           }

@@ -2,4 +2,5 @@ pub mod Lists
 pub mod Joins
 pub mod Before
 pub mod HornBest
+pub mod Loads
 pub mod Picks

@@ -1,16 +1,16 @@
--- The block that is joined next and the one that it is joined behind, as the code passes them.
-use Rattle.std.proofs.Common.{◌≡◌, ◌≢◌, ℕ, zero, suc, ◌+◌, ◌-◌, ◌*◌, ◌<◌, ◌≤◌, ◌⊎◌, inl, inr, Bool, true, false, if◌then◌else◌, List, [], ◌∷◌, ◌++◌, length, get_or, take, drop}
-use Rattle.std.proofs.Common.{set, remove, map, All, Contains, IsPermutation, sum_by, refl, sym, ap, ap₂, subst, ◌∙◌, arith, slice_index_or, None, Some}
+-- A block that is joined and the one that it is joined behind, as the code passes them.
+use Rattle.std.proofs.Common.{◌≡◌, ◌≢◌, ℕ, zero, suc, ◌+◌, ◌-◌, ◌*◌, ◌<◌, ◌≤◌, inl, inr, Bool, false, if◌then◌else◌, List, [], ◌∷◌, ◌++◌, length, get_or, take, drop}
+use Rattle.std.proofs.Common.{set, remove, map, All, Contains, IsPermutation, sum_by, refl, sym, ap, ap₂, subst, subst₂, ◌∙◌, arith, slice_index_or, true≢false, None, Some}
 use Rattle.std.specs.Prelude.{◌==◌}
 use Rattle.std.specs.List.{concat, list_any, slice_get, range_with_len}
 use Rattle.std.proofs.lemmas.Bool.{cases_lt, eq-eqb, ne_eqb}
-use Rattle.std.proofs.lemmas.List.{append_assoc, take_all, map-append, drop_more, take_more, get_or_default, get_or_past, length-append, get_or-set_same, get_or-set_other, set_split}
+use Rattle.std.proofs.lemmas.List.{append_assoc, take_all, drop_more, take_more, get_or_default, get_or_past, length-append, get_or-set_same, get_or-set_other, set_split}
 use Rattle.std.proofs.lemmas.Option.{slice_get_cases}
 use Rattle.std.proofs.lemmas.List.Edits.{get_or-remove_below}
 use Rattle.std.proofs.lemmas.List.Sums.{sum_by_more, sum_by-cons}
 use Rattle.std.proofs.lemmas.List.Elements.{All-head, All-contains, Contains-append_left, Contains-append_cases}
 use Rattle.std.proofs.lemmas.List.Sorted.{IsPermutation-remove, IsPermutation-middle, IsPermutation-trans, IsPermutation-sym, IsPermutation-cons, Contains-permutation}
-use Rattle.msp_class.proofs.Sums.{AllPairs-head, Contains-tail, OnceBelow, OnceBelow-distinct, OnceBelow-contains, length-OnceBelow, range_with_len_last}
+use Rattle.msp_class.proofs.Sums.{AllPairs-head, Contains-tail, OnceBelow, OnceBelow-distinct, OnceBelow-contains, length-OnceBelow}
 use Rattle.msp_instance.specs.declared.Arc.{Arc}
 use Rattle.msp_instance.specs.declared.Instance.{Instance}
 use Rattle.msp_instance.specs.declared.Job.{Job}
@@ -18,12 +18,13 @@ use Rattle.msp_instance.specs.Instance.{no_job, no_need}
 use Rattle.msp_instance.specs.Conditions.{Inner}
 use Rattle.msp_instance.proofs.ListingLemmas.{list_any-from_Contains}
 use Rattle.msp_pieces.specs.BackToBack.{time_at}
-use Rattle.msp_trees.specs.declared.joining.Load.{Load}
 use Rattle.msp_trees.specs.Horn.{horn_class}
-use Rattle.msp_trees.specs.Horn.{first_before, before, weight_at, time_of, weight_of, GoesNext, Joins, JoinTo, nothing_joined, one_more, single_blocks, IsHornOrder}
-use Rattle.msp_trees.specs.Joining.{IsForward, IsBranch, IsJoined, AreJoined, IsCheapest}
-use Rattle.msp_trees.proofs.Lists.{All-right, pairs_left, pairs_right, pairs_across, taken, concat-permutation, All-concat}
-use Rattle.msp_route.proofs.Ratios.{strict_left, strict_right, level}
+use Rattle.msp_trees.specs.Horn.{first_before, before, weight_at, time_of, GoesNext, IsJoining, JoinTo, single_blocks, IsHornOrder}
+use Rattle.msp_trees.specs.Joining.{IsForward, IsBranch, IsJoined, AreJoined}
+use Rattle.msp_trees.proofs.Lists.{pairs_across, taken, concat-permutation, All-concat}
+use Rattle.msp_pieces.proofs.lists.Parts.{All-back, AllPairs-front, AllPairs-back}
+use Rattle.msp_route.proofs.Turns.{turns_next}
+use Rattle.msp_trees.proofs.Loads.{load, at_most}
 use Rattle.msp_route.proofs.PlainJobs.{takes_time}
 use Rattle.msp_trees.proofs.Joins.{IsTree, joined-start, joined-next, cheapest}
 use Rattle.msp_trees.proofs.HornBest.{IsHornInstance, IsHornInstance-from_class, horn_row}
@@ -75,11 +76,8 @@ not_here-next blocks job k block slice r l at same found missed h m less c = eli
   | inr late ↦
       let is : m ≡ k = omega (arith, less, late) in
       let here : get_or blocks m [] ≡ slice = ap (λ x. get_or blocks x []) is ∙ get_or_default blocks k [] block l ∙ sym at ∙ sym same in
-      never r (found ∙ list_any-from_Contains slice job (subst (λ b. Contains b job) here c)) missed
+      true≢false (sym (found ∙ list_any-from_Contains slice job (subst (λ b. Contains b job) here c)) ∙ missed)
 ]
-  where
-    never : (b : Bool) → b ≡ true → b ≡ false → ⊥
-    never b e f = absurd (cc)
 
 block_with : (blocks : List (List ℕ)) (job : ℕ) → Contains (concat blocks) job → (k : ℕ) × (k < length blocks) × Contains (get_or blocks k []) job
 block_with [] job c = absurd (omega (arith, c.1))
@@ -120,49 +118,52 @@ module _ (n : ℕ) (before p w : ℕ → ℕ) (blocks : List (List ℕ)) (joined
       by (b ∷ bs) o s zero some l = absurd (omega arith)
       by (b ∷ bs) o s (suc k) some l =
           let apart = All-contains (λ x. All (λ y. x ≢ y) (concat bs)) b n (pairs_across (λ x y. x ≢ y) b (concat bs) (OnceBelow-distinct o)) s in
-          let small = All-right (λ x. x < n + 1) b (concat bs) o.within in
+          let small = All-back (λ x. x < n + 1) b (concat bs) o.within in
           All-concat (λ j. j < n) bs (λ m d t. below (get_or (concat bs) m d) (small m d t) (apart m d t)) k [] (omega arith)
 
-  module _ (tree : IsTree n before p) (place : ℕ) (later : 1 ≤ place) (inside : place < length blocks) (next : List ℕ) (is : next ≡ get_or blocks place []) where
-    parts : IsPermutation blocks (next ∷ remove blocks place)
-    parts = IsPermutation-remove blocks place next inside (is ∙ get_or_default blocks place [] next inside)
+  module _ (tree : IsTree n before p) (place : ℕ) (later : 1 ≤ place) (inside : place < length blocks) where
+    abbrev next : List ℕ
+    next = get_or blocks place []
+
+    abbrev rest : List (List ℕ)
+    rest = remove blocks place
+
+    parts : IsPermutation blocks (next ∷ rest)
+    parts = IsPermutation-remove blocks place next inside (get_or_default blocks place [] next inside)
 
     -- what is before its first job is in another block
-    pub before_elsewhere : Contains (concat (remove blocks place)) (before (get_or next 0 0))
-    before_elsewhere = by next is parts
+    pub before_elsewhere : Contains (concat rest) (before (get_or next 0 0))
+    before_elsewhere = by next refl parts
       where
-        by : (us : List ℕ) → us ≡ get_or blocks place [] → IsPermutation blocks (us ∷ remove blocks place) → Contains (concat (remove blocks place)) (before (get_or us 0 0))
+        by : (us : List ℕ) → us ≡ next → IsPermutation blocks (us ∷ rest) → Contains (concat rest) (before (get_or us 0 0))
         by [] e q = absurd (omega (arith, block_is_some place inside, ap length e))
         by (x ∷ xs) e q =
             let small : x < n = All-head (λ j. j < n) x xs (subst (All (λ j. j < n)) (sym e) (no_start place later inside)) in
-            let there = Contains-permutation (concat blocks) ((x ∷ xs) ++ concat (remove blocks place))
-            (before x) (concat-permutation blocks ((x ∷ xs) ∷ remove blocks place) q) (OnceBelow-contains joined.once (before x) (tree.within x small)) in
-            elim (Contains-append_cases (x ∷ xs) (concat (remove blocks place)) (before x) there) [
+            let there = Contains-permutation (concat blocks) ((x ∷ xs) ++ concat rest)
+            (before x) (concat-permutation blocks ((x ∷ xs) ∷ rest) q) (OnceBelow-contains joined.once (before x) (tree.within x small)) in
+            elim (Contains-append_cases (x ∷ xs) (concat rest) (before x) there) [
               | inl c ↦ absurd (not_inside x xs q small c)
               | inr c ↦ c
             ]
           where
-            not_inside : (x : ℕ) (xs : List ℕ) → IsPermutation blocks ((x ∷ xs) ∷ remove blocks place) → x < n → Contains (x ∷ xs) (before x) → ⊥
+            not_inside : (x : ℕ) (xs : List ℕ) → IsPermutation blocks ((x ∷ xs) ∷ rest) → x < n → Contains (x ∷ xs) (before x) → ⊥
             not_inside x xs q small c =
                 let (order, o, f) = tree.forward in
                 let (line, h) = joined.cheap order o f in
-                let (a, b, m) = taken (x ∷ xs) (remove blocks place) line
-                (IsPermutation-trans ((x ∷ xs) ∷ remove blocks place) blocks line (IsPermutation-sym blocks ((x ∷ xs) ∷ remove blocks place) q) h.same) in
+                let (a, b, m) = taken (x ∷ xs) rest line
+                (IsPermutation-trans ((x ∷ xs) ∷ rest) blocks line (IsPermutation-sym blocks ((x ∷ xs) ∷ rest) q) h.same) in
                 let whole = subst (IsForward before) (ap concat m.is ∙ concat-append a ((x ∷ xs) ∷ b)) h.forward in
-                let own = pairs_left (λ u v. before u ≢ v) (x ∷ xs) (concat b) (pairs_right (λ u v. before u ≢ v) (concat a) ((x ∷ xs) ++ concat b) whole) in
+                let own = AllPairs-front (λ u v. before u ≢ v) (x ∷ xs) (concat b) (AllPairs-back (λ u v. before u ≢ v) (concat a) ((x ∷ xs) ++ concat b) whole) in
                 All-contains (λ y. before x ≢ y) xs (before x) (AllPairs-head (λ u v. before u ≢ v) x xs own) (Contains-tail x xs (before x) c (λ s. tree.loose x small (sym s))) refl
 
     -- joined behind that block
-    pub joined_behind : (behind : ℕ) → behind < length (remove blocks place) → Contains (get_or (remove blocks place) behind []) (before (get_or next 0 0))
-        → ((k : ℕ) → 1 ≤ k → k < length blocks → sum_by w (get_or blocks k []) * sum_by p (get_or blocks place []) ≤ sum_by w (get_or blocks place []) * sum_by p (get_or blocks k []))
-        → (new : List (List ℕ)) → new ≡ set (remove blocks place) behind (get_or (remove blocks place) behind [] ++ next) → IsJoined n before p w new
-    joined_behind behind short holds ratio new e = by next is parts holds e
+    pub joined_behind : (behind : ℕ) → behind < length rest → Contains (get_or rest behind []) (before (get_or next 0 0))
+        → ((k : ℕ) → 1 ≤ k → k < length blocks → sum_by w (get_or blocks k []) * sum_by p next ≤ sum_by w next * sum_by p (get_or blocks k []))
+        → IsJoined n before p w (set rest behind (get_or rest behind [] ++ next))
+    joined_behind behind short holds ratio = by next refl parts holds
       where
-        rest : List (List ℕ)
-        rest = remove blocks place
-
         vs : List ℕ
-        vs = get_or (remove blocks place) behind []
+        vs = get_or rest behind []
 
         first_kept : get_or rest 0 [] ≡ get_or blocks 0 []
         first_kept = get_or-remove_below blocks place [] 0 (omega (arith, later)) inside
@@ -177,67 +178,53 @@ module _ (n : ℕ) (before p w : ℕ → ℕ) (blocks : List (List ℕ)) (joined
               subst (λ b. Contains b n) (sym made) (Contains-append_left vs us n (subst (λ b. Contains b n) (sym same) joined.start))
         ]
 
-        by : (us : List ℕ) → us ≡ get_or blocks place [] → IsPermutation blocks (us ∷ rest) → Contains vs (before (get_or us 0 0)) → new ≡ set rest behind (vs ++ us) → IsJoined n before p w new
-        by [] f q c g = absurd (omega (arith, block_is_some place inside, ap length f))
-        by (x ∷ xs) f q c g =
+        each : (us : List ℕ) → us ≡ next → (b : List ℕ) (k : ℕ) → k < length blocks → b ≡ get_or blocks k [] → ¬ Contains b n → sum_by w b * sum_by p us ≤ sum_by w us * sum_by p b
+        each us f b k l e none = elim (cases_lt 0 k) [
+          | inl some ↦ subst₂ (λ u c. sum_by w c * sum_by p u ≤ sum_by w u * sum_by p c) (sym f) (sym e) (ratio k some l)
+          | inr zero_is ↦ let is : k ≡ 0 = omega (arith, zero_is) in absurd (none (subst (λ c. Contains c n) (sym (e ∙ ap (λ m. get_or blocks m []) is)) joined.start))
+        ]
+
+        by : (us : List ℕ) → us ≡ next → IsPermutation blocks (us ∷ rest) → Contains vs (before (get_or us 0 0)) → IsJoined n before p w (set rest behind (vs ++ us))
+        by [] f q c = absurd (omega (arith, block_is_some place inside, ap length f))
+        by (x ∷ xs) f q c =
             let us : List ℕ = x ∷ xs in
             joined-next n before p w tree blocks joined vs x xs (remove rest behind)
             (IsPermutation-trans blocks (us ∷ rest) (us ∷ vs ∷ remove rest behind)
             q (IsPermutation-cons us rest (vs ∷ remove rest behind) (IsPermutation-remove rest behind vs short (get_or_default rest behind [] vs short))))
             c
             (λ k d l. each us f (get_or blocks k d) k l (get_or_default blocks k d [] l))
-            new
-            (subst (IsPermutation ((vs ++ us) ∷ remove rest behind)) (sym (g ∙ set_split rest behind (vs ++ us) short)) (IsPermutation-sym
+            (set rest behind (vs ++ us))
+            (subst (IsPermutation ((vs ++ us) ∷ remove rest behind)) (sym (set_split rest behind (vs ++ us) short)) (IsPermutation-sym
             (take behind rest ++ (vs ++ us) ∷ drop (suc behind) rest) ((vs ++ us) ∷ remove rest behind) (IsPermutation-middle (take behind rest) (vs ++ us) (drop (suc behind) rest))))
-            (subst (λ l. Contains (get_or l 0 []) n) (sym g) (starts us))
-          where
-            each : (us : List ℕ) → us ≡ get_or blocks place []
-                → (b : List ℕ) (k : ℕ) → k < length blocks → b ≡ get_or blocks k [] → ¬ Contains b n → sum_by w b * sum_by p us ≤ sum_by w us * sum_by p b
-            each us f b k l e none = elim (cases_lt 0 k) [
-              | inl some ↦ subst (λ u. sum_by w b * sum_by p u ≤ sum_by w u * sum_by p b) (sym f)
-                  (subst (λ c. sum_by w c * sum_by p (get_or blocks place []) ≤ sum_by w (get_or blocks place []) * sum_by p c) (sym e) (ratio k some l))
-              | inr zero_is ↦ let is : k ≡ 0 = omega (arith, zero_is) in absurd (none (subst (λ c. Contains c n) (sym (e ∙ ap (λ m. get_or blocks m []) is)) joined.start))
-            ]
-
--- ---- what is joined before another
--- of weights for times: the weight w for the time p with the first job g comes after v for t with f
-abbrev pub Leads : ℕ → ℕ → ℕ → ℕ → ℕ → ℕ → Type 0
-Leads v t f w p g = (w * t < v * p) ⊎ ((w * t ≡ v * p) × (f ≤ g))
-
-pub at_most : (v t f w p g : ℕ) → Leads v t f w p g → w * t ≤ v * p
-at_most v t f w p g h = elim h [ inl l ↦ omega (arith, l) | inr e ↦ omega (arith, e.0) ]
-
--- it goes on past a middle one
-pub leads_on : (wa pa fa wb pb fb wc pc fc : ℕ) → 0 < pa → 0 < pb → 0 < pc → Leads wb pb fb wa pa fa → Leads wc pc fc wb pb fb → Leads wc pc fc wa pa fa
-leads_on wa pa fa wb pb fb wc pc fc sa sb sc h k = elim h [
-  | inl l ↦ inl (strict_left wa wb wc pa pb pc sc l (at_most wc pc fc wb pb fb k))
-  | inr e ↦ elim k [
-    | inl l ↦ inl (strict_right wa wb wc pa pb pc sa (omega (arith, e.0)) l)
-    | inr f ↦ inr (level wa wb wc pa pb pc sb e.0 f.0, omega (arith, e.1, f.1))
-  ]
-]
+            (starts us)
 
 -- ---- in an instance
-pub read_block : (blocks : List (List ℕ)) (k : ℕ) (block slice : List ℕ) → k < length blocks → block ≡ get_or blocks k block → slice ≡ block → slice ≡ get_or blocks k []
-read_block blocks k block slice l at same = same ∙ at ∙ get_or_default blocks k block [] l
-
 module _ (i : Instance) (class : i.class ≡ horn_class) (inner : Inner i) (blocks : List (List ℕ)) (joined : AreJoined i blocks) where
   abbrev horn : IsHornInstance i
   horn = IsHornInstance-from_class i class inner
 
   pub block_takes_time : (k : ℕ) → 1 ≤ k → k < length blocks → 0 < time_of i (get_or blocks k [])
-  block_takes_time k some l = by (get_or blocks k []) (block_is_some (length i.jobs) (before i) (time_at i) (weight_at i) blocks joined k l)
-      (no_start (length i.jobs) (before i) (time_at i) (weight_at i) blocks joined k some l)
+  block_takes_time k later l = by (get_or blocks k []) (block_is_some (length i.jobs) (before i) (time_at i) (weight_at i) blocks joined k l)
+      (no_start (length i.jobs) (before i) (time_at i) (weight_at i) blocks joined k later l)
     where
       by : (b : List ℕ) → 0 < length b → All (λ j. j < length i.jobs) b → 0 < time_of i b
       by [] h a = absurd (omega (arith, h))
       by (x ∷ xs) h a = omega (arith, sum_by-cons (time_at i) x xs, takes_time i horn.plain x (All-head (λ j. j < length i.jobs) x xs a))
 
-  pub few_in_block : (k : ℕ) (slice : List ℕ) → k < length blocks → slice ≡ get_or blocks k [] → length slice ≤ MOST_JOBS + 1
-  few_in_block k slice l e = omega (arith, ap length e, block_is_few (length i.jobs) (before i) (time_at i) (weight_at i) blocks joined k l, inner.conditions.few)
+  -- what is read at a place
+  pub record IsBlock (k : ℕ) (slice : List ℕ) : Type 0 where
+    pub is : slice ≡ get_or blocks k []
+    pub some : 0 < length slice
+    pub few : length slice ≤ MOST_JOBS + 1
 
-  pub some_in_block : (k : ℕ) (slice : List ℕ) → k < length blocks → slice ≡ get_or blocks k [] → 0 < length slice
-  some_in_block k slice l e = omega (arith, ap length e, block_is_some (length i.jobs) (before i) (time_at i) (weight_at i) blocks joined k l)
+  pub IsBlock-read : (k : ℕ) (block slice : List ℕ) → k < length blocks → block ≡ get_or blocks k block → slice ≡ block → IsBlock k slice
+  IsBlock-read k block slice l at same =
+      let is : slice ≡ get_or blocks k [] = same ∙ at ∙ get_or_default blocks k block [] l in
+      record {
+        is = is;
+        some = omega (arith, ap length is, block_is_some (length i.jobs) (before i) (time_at i) (weight_at i) blocks joined k l);
+        few = omega (arith, ap length is, block_is_few (length i.jobs) (before i) (time_at i) (weight_at i) blocks joined k l, inner.conditions.few);
+      }
 
   module _ (place : ℕ) (later : 1 ≤ place) (inside : place < length blocks) (next rest : List ℕ)
       (others : List (List ℕ)) (taken_out : next ≡ get_or blocks place next) (same : rest ≡ next) (left : others ≡ remove blocks place) where
@@ -245,138 +232,34 @@ module _ (i : Instance) (class : i.class ≡ horn_class) (inner : Inner i) (bloc
     is = taken_out ∙ get_or_default blocks place next [] inside
 
     pub goes_behind : (seen : List (List ℕ)) (b : ℕ) → seen ≡ others → b ≡ before i (get_or rest 0 0) → Contains (concat seen) b
-    goes_behind seen b e h =
-        subst (λ l. Contains (concat l) b) (sym (e ∙ left)) (subst (Contains (concat (remove blocks place))) (sym (h ∙ ap (λ l. before i (get_or l 0 0)) same))
-        (before_elsewhere (length i.jobs) (before i) (time_at i) (weight_at i) blocks joined horn.tree place later inside next is))
+    goes_behind seen b e h = subst₂ (λ l b. Contains (concat l) b) (sym (e ∙ left)) (sym (h ∙ ap (λ l. before i (get_or l 0 0)) (same ∙ is)))
+        (before_elsewhere (length i.jobs) (before i) (time_at i) (weight_at i) blocks joined horn.tree place later inside)
 
     pub joins_again : (seen : List (List ℕ)) (b behind : ℕ) → seen ≡ others → b ≡ before i (get_or rest 0 0) → GoesNext i blocks place → behind < length seen → Contains (get_or seen behind []) b
-        → (vs us new : List ℕ) → vs ≡ get_or others behind vs → us ≡ next → new ≡ vs ++ us → Joins i blocks (set others behind new)
+        → (vs us new : List ℕ) → vs ≡ get_or others behind vs → us ≡ next → new ≡ vs ++ us → IsJoining i blocks (set others behind new) place behind
     joins_again seen b behind e h goes short holds vs us new at again made =
-        let whole = e ∙ left in
-        let short' = subst (λ l. behind < length l) whole short in (
-          place,
-          behind,
-          record {
-            later = later;
-            inside = inside;
-            next = goes;
-            there = short';
-            holds = subst (Contains (get_or (remove blocks place) behind [])) (h ∙ ap (λ l. before i (get_or l 0 0)) (same ∙ is)) (subst (λ l. Contains (get_or l behind []) b) whole holds);
-            is = ap (λ l. set l behind new) left
-                ∙ ap (set (remove blocks place) behind) (made ∙ ap₂ (λ x y. x ++ y) (at ∙ ap (λ l. get_or l behind vs) left ∙ get_or_default (remove blocks place) behind vs [] short') (again ∙ is));
-          },
-        )
+        let short' = subst (λ l. behind < length l) (e ∙ left) short in
+        record {
+          later = later;
+          inside = inside;
+          next = goes;
+          there = short';
+          holds = subst₂ (λ l b. Contains (get_or l behind []) b) (e ∙ left) (h ∙ ap (λ l. before i (get_or l 0 0)) (same ∙ is)) holds;
+          is = ap (λ l. set l behind new) left
+              ∙ ap (set (remove blocks place) behind) (made ∙ ap₂ (λ x y. x ++ y) (at ∙ ap (λ l. get_or l behind vs) left ∙ get_or_default (remove blocks place) behind vs [] short') (again ∙ is));
+        }
 
-    pub joined_again : (seen : List (List ℕ)) (b behind : ℕ) → seen ≡ others → b ≡ before i (get_or rest 0 0) → GoesNext i blocks place → behind < length seen → Contains (get_or seen behind []) b
-        → (vs us new : List ℕ) → vs ≡ get_or others behind vs → us ≡ next → new ≡ vs ++ us → AreJoined i (set others behind new)
-    joined_again seen b behind e h ratio short holds vs us new at again made =
-        let whole = e ∙ left in
-        let short' = subst (λ l. behind < length l) whole short in
-        joined_behind (length i.jobs) (before i) (time_at i) (weight_at i) blocks joined horn.tree place later inside next is behind short'
-        (subst (Contains (get_or (remove blocks place) behind [])) (h ∙ ap (λ l. before i (get_or l 0 0)) same) (subst (λ l. Contains (get_or l behind []) b) whole holds))
-        (λ k from l. at_most _ _ (get_or (get_or blocks place []) 0 0) _ _ (get_or (get_or blocks k []) 0 0) (ratio k from l)) (set others behind new)
-        (ap (λ l. set l behind new) left
-        ∙ ap (set (remove blocks place) behind) (made ∙ ap₂ (λ x y. x ++ y) (at ∙ ap (λ l. get_or l behind vs) left ∙ get_or_default (remove blocks place) behind vs [] short') again))
-
--- ---- the block that is joined before all others so far
-pub record IsBestSoFar (i : Instance) (blocks : List (List ℕ)) (best : Load) (count : ℕ) : Type 0 where
-  pub later : 1 ≤ best.place
-  pub early : best.place < count
-  pub first : best.first ≡ get_or (get_or blocks best.place []) 0 0
-  pub time : best.time ≡ time_of i (get_or blocks best.place [])
-  pub weight : best.weight ≡ weight_of i (get_or blocks best.place [])
-  pub some : 0 < best.time
-  pub leads : (k : ℕ) → 1 ≤ k → k < count → Leads best.weight best.time best.first (weight_of i (get_or blocks k [])) (time_of i (get_or blocks k [])) (get_or (get_or blocks k []) 0 0)
-
-module _ (i : Instance) (blocks : List (List ℕ)) where
-  -- the load is that of the block at the place
-  record IsLoadAt (x : Load) (k : ℕ) : Type 0 where
-    place : x.place ≡ k
-    first : x.first ≡ get_or (get_or blocks k []) 0 0
-    time : x.time ≡ time_of i (get_or blocks k [])
-    weight : x.weight ≡ weight_of i (get_or blocks k [])
-
-  load_at : (x : Load) (jobs : List ℕ) (k : ℕ) → x.place ≡ k → x.first ≡ get_or jobs 0 0 → jobs ≡ get_or blocks k [] → x.time ≡ time_of i jobs → x.weight ≡ weight_of i jobs → IsLoadAt x k
-  load_at x jobs k place first e time weight = record { place = place; first = first ∙ ap (λ l. get_or l 0 0) e; time = time ∙ ap (time_of i) e; weight = weight ∙ ap (weight_of i) e }
-
-  -- what leads a load leads its block
-  leads_block : (r x : Load) (k : ℕ) → IsLoadAt x k → Leads r.weight r.time r.first x.weight x.time x.first
-      → Leads r.weight r.time r.first (weight_of i (get_or blocks k [])) (time_of i (get_or blocks k [])) (get_or (get_or blocks k []) 0 0)
-  leads_block r x k h l =
-      let one = subst (λ n. Leads r.weight r.time r.first n x.time x.first) h.weight l in
-      let two = subst (λ n. Leads r.weight r.time r.first (weight_of i (get_or blocks k [])) n x.first) h.time one in
-      subst (λ n. Leads r.weight r.time r.first (weight_of i (get_or blocks k [])) (time_of i (get_or blocks k [])) n) h.first two
-
-  pub best-first : (x : Load) (jobs : List ℕ) → x.place ≡ 1 → x.first ≡ get_or jobs 0 0
-      → jobs ≡ get_or blocks 1 [] → x.time ≡ time_of i jobs → x.weight ≡ weight_of i jobs → 0 < time_of i (get_or blocks 1 []) → IsBestSoFar i blocks x 2
-  best-first x jobs place first e time weight some =
-      let at = load_at x jobs 1 place first e time weight in
-      record {
-        later = omega (arith, place);
-        early = omega (arith, place);
-        first = at.first ∙ ap (λ k. get_or (get_or blocks k []) 0 0) (sym place);
-        time = at.time ∙ ap (λ k. time_of i (get_or blocks k [])) (sym place);
-        weight = at.weight ∙ ap (λ k. weight_of i (get_or blocks k [])) (sym place);
-        some = omega (arith, at.time, some);
-        leads = λ k from l. let one : 1 ≡ k = omega (arith, from, l) in
-            subst (λ n. Leads x.weight x.time x.first (weight_of i (get_or blocks n [])) (time_of i (get_or blocks n [])) (get_or (get_or blocks n []) 0 0))
-            one (leads_block x x 1 at (inr (refl, omega arith)));
-      }
-
-  pub best-next : (a b r : Load) (jobs : List ℕ) (k : ℕ) → 1 ≤ k → b.place ≡ k → b.first ≡ get_or jobs 0 0
-      → jobs ≡ get_or blocks k [] → b.time ≡ time_of i jobs → b.weight ≡ weight_of i jobs → ((m : ℕ) → 1 ≤ m → m < k + 1 → 0 < time_of i (get_or blocks m []))
-      → (r ≡ a) ⊎ (r ≡ b) → Leads r.weight r.time r.first a.weight a.time a.first → Leads r.weight r.time r.first b.weight b.time b.first → IsBestSoFar i blocks a k → IsBestSoFar i blocks r (k + 1)
-  best-next a b r jobs k from place first e time weight positive either of_a of_b h =
-      let some : 0 < r.time = elim either [ inl s ↦ omega (arith, ap (λ x. x.time) s, h.some) | inr s ↦ omega (arith, ap (λ x. x.time) s, at.time, positive k from (omega arith)) ] in
-      record {
-        later = elim either [ inl s ↦ omega (arith, ap (λ x. x.place) s, h.later) | inr s ↦ omega (arith, ap (λ x. x.place) s, place, from) ];
-        early = elim either [ inl s ↦ omega (arith, ap (λ x. x.place) s, h.early) | inr s ↦ omega (arith, ap (λ x. x.place) s, place) ];
-        first = elim either [
-          | inl s ↦ subst (λ x. x.first ≡ get_or (get_or blocks x.place []) 0 0) (sym s) h.first
-          | inr s ↦ subst (λ x. x.first ≡ get_or (get_or blocks x.place []) 0 0) (sym s) (at.first ∙ ap (λ m. get_or (get_or blocks m []) 0 0) (sym place))
-        ];
-        time = elim either [
-          | inl s ↦ subst (λ x. x.time ≡ time_of i (get_or blocks x.place [])) (sym s) h.time
-          | inr s ↦ subst (λ x. x.time ≡ time_of i (get_or blocks x.place [])) (sym s) (at.time ∙ ap (λ m. time_of i (get_or blocks m [])) (sym place))
-        ];
-        weight = elim either [
-          | inl s ↦ subst (λ x. x.weight ≡ weight_of i (get_or blocks x.place [])) (sym s) h.weight
-          | inr s ↦ subst (λ x. x.weight ≡ weight_of i (get_or blocks x.place [])) (sym s) (at.weight ∙ ap (λ m. weight_of i (get_or blocks m [])) (sym place))
-        ];
-        some = some;
-        leads = λ m one l. elim (cases_lt m k) [
-          | inl earlier ↦ leads_on _ _ _ a.weight a.time a.first r.weight r.time r.first (positive m one l) h.some some (h.leads m one earlier) of_a
-          | inr late ↦
-              let now : k ≡ m = omega (arith, late, l) in
-              subst (λ n. Leads r.weight r.time r.first (weight_of i (get_or blocks n [])) (time_of i (get_or blocks n [])) (get_or (get_or blocks n []) 0 0)) now (leads_block r b k at of_b)
-        ];
-      }
-    where
-      at : IsLoadAt b k
-      at = load_at b jobs k place first e time weight
-
-  pub best-end : (best : Load) (count : ℕ) → length blocks ≤ count → IsBestSoFar i blocks best count → GoesNext i blocks best.place
-  best-end best count all h k one l =
-      let w = weight_of i (get_or blocks k []) in
-      let p = time_of i (get_or blocks k []) in
-      let g = get_or (get_or blocks k []) 0 0 in
-      let a = subst (λ n. Leads n best.time best.first w p g) h.weight (h.leads k one (omega (arith, l, all))) in
-      let b = subst (λ n. Leads (weight_of i (get_or blocks best.place [])) n best.first w p g) h.time a in
-      subst (λ n. Leads (weight_of i (get_or blocks best.place [])) (time_of i (get_or blocks best.place [])) n w p g) h.first b
+  pub joined_again : {new : List (List ℕ)} {place behind : ℕ} → IsJoining i blocks new place behind → AreJoined i new
+  joined_again {new} {place} {behind} g = subst (AreJoined i) (sym g.is)
+      (joined_behind (length i.jobs) (before i) (time_at i) (weight_at i) blocks joined horn.tree place g.later g.inside behind g.there g.holds
+      (λ k from l. at_most (load i blocks place) (load i blocks k) (g.next k from l)))
 
 -- ---- the first blocks
 pub singles-next : (count k : ℕ) (new old : List (List ℕ)) (block : List ℕ) → new ≡ old ++ block ∷ [] → block ≡ k ∷ []
     → old ≡ (count ∷ []) ∷ map (λ (j : ℕ). j ∷ []) (range_with_len 0 k) → new ≡ (count ∷ []) ∷ map (λ (j : ℕ). j ∷ []) (range_with_len 0 (k + 1))
 singles-next count k new old block e f h =
     let one : ℕ → List ℕ = λ j. j ∷ [] in
-    let last : range_with_len 0 (k + 1) ≡ range_with_len 0 k ++ k ∷ [] = ap (range_with_len 0) (more k) ∙ range_with_len_last 0 k ∙ ap (λ m. range_with_len 0 k ++ m ∷ []) (none k) in
-    e ∙ ap₂ (λ l b. l ++ b ∷ []) h f ∙ ap (λ l. (count ∷ []) ∷ l) (sym (ap (map one) last ∙ map-append one (range_with_len 0 k) (k ∷ [])))
-  where
-    more : (k : ℕ) → k + 1 ≡ suc k
-    more k = omega arith
-
-    none : (k : ℕ) → 0 + k ≡ k
-    none k = omega arith
+    e ∙ ap₂ (λ l b. l ++ b ∷ []) h f ∙ ap (λ l. (count ∷ []) ∷ l) (turns_next one k (map one (range_with_len 0 k)) (map one (range_with_len 0 k) ++ one k ∷ []) refl refl)
 
 pub joined-begin : (i : Instance) (class : i.class ≡ horn_class) (inner : Inner i) (count : ℕ) (blocks : List (List ℕ))
     → count ≡ length i.jobs → blocks ≡ (count ∷ []) ∷ map (λ (j : ℕ). j ∷ []) (range_with_len 0 count) → AreJoined i blocks
@@ -388,28 +271,10 @@ joined-begin i class inner count blocks e h = subst (AreJoined i) (sym (h ∙ ap
 abbrev pub behind_first : List ℕ → List ℕ
 behind_first jobs = take (length jobs - 1) (drop 1 jobs)
 
-pub cheapest_behind : (i : Instance) (class : i.class ≡ horn_class) (inner : Inner i) (jobs seen : List ℕ)
-    → AreJoined i (jobs ∷ []) → seen ≡ jobs → IsCheapest (length i.jobs) (before i) (time_at i) (weight_at i) (behind_first seen)
-cheapest_behind i class inner jobs seen joined e =
-    let (order, f, o) = cheapest (length i.jobs) (before i) (time_at i) (weight_at i) (IsHornInstance-from_class i class inner).tree jobs joined in
-    subst (IsCheapest (length i.jobs) (before i) (time_at i) (weight_at i)) (sym (ap behind_first (e ∙ f) ∙ rest (length i.jobs) order)) o
-  where
-    rest : (n : ℕ) (order : List ℕ) → behind_first (n ∷ order) ≡ order
-    rest n order = take_all (length (n ∷ order) - 1) order (omega arith)
-
-pub horn_order : (i : Instance) (class : i.class ≡ horn_class) (inner : Inner i) (jobs seen : List ℕ) → AreJoined i (jobs ∷ [])
-    → seen ≡ jobs → JoinTo i (single_blocks (length i.jobs)) (jobs ∷ []) → IsHornOrder i (behind_first seen)
-horn_order i class inner jobs seen joined e join =
-    let (order, f, o) = cheapest (length i.jobs) (before i) (time_at i) (weight_at i) (IsHornInstance-from_class i class inner).tree jobs joined in
-    subst (IsHornOrder i) (sym (ap behind_first (e ∙ f) ∙ take_all (length (length i.jobs ∷ order) - 1) order (omega arith)))
-    (subst (λ l. JoinTo i (single_blocks (length i.jobs)) (l ∷ [])) f join)
-
-pub horn_made : (i : Instance) (class : i.class ≡ horn_class) (inner : Inner i) (jobs seen : List ℕ) → AreJoined i (jobs ∷ []) → seen ≡ jobs → IsBestRow i (behind_first seen)
-horn_made i class inner jobs seen joined e = horn_row i (IsHornInstance-from_class i class inner) (behind_first seen) (cheapest_behind i class inner jobs seen joined e)
-
--- ---- blocks are joined again and again
-pub join-start : (i : Instance) (blocks : List (List ℕ)) → JoinTo i blocks blocks
-join-start i blocks = nothing_joined
-
-pub join-next : (i : Instance) (first blocks last : List (List ℕ)) → JoinTo i first blocks → Joins i blocks last → JoinTo i first last
-join-next i first blocks last h k = one_more h k
+pub horn_made : (i : Instance) (class : i.class ≡ horn_class) (inner : Inner i) (jobs seen : List ℕ) → AreJoined i (jobs ∷ [])
+    → seen ≡ jobs → JoinTo i (single_blocks (length i.jobs)) (jobs ∷ []) → IsHornOrder i (behind_first seen) × IsBestRow i (behind_first seen)
+horn_made i class inner jobs seen joined e join =
+    let horn = IsHornInstance-from_class i class inner in
+    let (order, f, o) = cheapest (length i.jobs) (before i) (time_at i) (weight_at i) horn.tree jobs joined in
+    let is : behind_first seen ≡ order = ap behind_first (e ∙ f) ∙ take_all (length (length i.jobs ∷ order) - 1) order (omega arith) in
+    (subst (IsHornOrder i) (sym is) (subst (λ l. JoinTo i (single_blocks (length i.jobs)) (l ∷ [])) f join), subst (IsBestRow i) (sym is) (horn_row i horn order o))

@@ -1,6 +1,6 @@
 -- What is known of the best block so far.
 use Rattle.std.proofs.Common.{◌≤◌}
-use Rattle.msp_trees.proofs.Picks.{IsBestSoFar}
+use Rattle.msp_trees.proofs.Loads.{IsBestSoFar}
 use Rattle.msp_trees.proofs.joining.next_place.Given as goal
 
 -- the best block so far
