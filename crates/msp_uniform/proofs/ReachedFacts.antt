@@ -1,13 +1,15 @@
 -- What is reached keeps, turn after turn.
-use Rattle.std.proofs.Common.{◌≡◌, ℕ, zero, suc, ◌+◌, ◌*◌, ◌-◌, ◌<◌, ◌≤◌, inl, inr, false, List, ◌∷◌, length, All, ap, subst, ◌∙◌, arith}
+use Rattle.std.proofs.Common.{◌≡◌, ℕ, zero, suc, ◌+◌, ◌*◌, ◌-◌, ◌<◌, ◌≤◌, false, List, ◌∷◌, length, All, ap, subst, ◌∙◌, arith}
 use Rattle.std.proofs.lemmas.List.{length-append}
 use Rattle.std.proofs.lemmas.List.Elements.{All-head, length_all_zip}
 use Rattle.msp_class.specs.declared.sizes.TheConstants.{GREATEST, GREATEST_SPEED}
 use Rattle.msp_uniform.specs.declared.unit.TheConstants.{GREATEST_PRODUCT}
 use Rattle.msp_uniform.specs.declared.segments.Segment.{Segment}
 use Rattle.msp_uniform.specs.declared.task.Task.{Task}
-use Rattle.msp_uniform.specs.Segments.{at, IsPartOf, rate_at, amount, AreFew, IsDifference, HasPlaces, greatest_length}
+use Rattle.msp_uniform.specs.Segments.{at, IsPartOf, rate_at, amount, IsDifference, HasPlaces, greatest_length}
 use Rattle.msp_uniform.specs.Plans.{IsTurned, IsTask, IsReached}
+use Rattle.std.proofs.Math.Nat.{one-le-mul}
+use Rattle.msp_uniform.proofs.LaidFacts.{few_parts}
 use Rattle.msp_uniform.proofs.PlanFacts.{IsPlan-turned, first_enough}
 use Rattle.msp_uniform.proofs.TurnNeeds.{difference_some, has_places}
 use Rattle.msp_uniform.proofs.Affordable.{unit_small, IsAffordable-turn, end_finer}
@@ -59,11 +61,7 @@ module _ (t : Task) (k : IsTask t) where
 
       module _ (d : ℕ) (zs : List Segment) (turned : IsTurned t.speeds.items h j (unit * at t.times.items j) xs d zs) where
         few : length zs ≤ length xs + 1
-        few = omega (arith, ap length turned.whole, length-append turned.firsts turned.seconds, by turned.laid.few, length_all_zip (λ x y. IsPartOf (x.length * d) x y) xs turned.fine turned.scaled)
-          where
-            by : AreFew (length turned.firsts + length turned.seconds) (length turned.fine) 0 → length turned.firsts + length turned.seconds ≤ length turned.fine + 1
-            by (inl l) = omega (arith, l)
-            by (inr l) = l.1
+        few = omega (arith, ap length turned.whole, length-append turned.firsts turned.seconds, few_parts _ _ turned.laid.few, length_all_zip (λ x y. IsPartOf (x.length * d) x y) xs turned.fine turned.scaled)
 
         pub IsReached-turned : IsReached t left (unit * d) (h - 1) zs
         IsReached-turned = by h next_some r turned
@@ -76,7 +74,7 @@ module _ (t : Task) (k : IsTask t) where
               plan = IsPlan-turned t.speeds.items (length t.times.items) (at t.times.items) j left unit q.end g d xs zs q.plan w;
               affordable = IsAffordable-turn t.speeds.items t.multiple unit q.end g d (difference_some t.speeds.items d w.factor) w.factor q.affordable;
               least = times_d q.end t.speed t.work q.least;
-              some = positive unit d q.some (difference_some t.speeds.items d w.factor);
+              some = one-le-mul q.some (difference_some t.speeds.items d w.factor);
               places = omega arith;
               few = omega (arith, q.few, few);
               fewer = omega (arith, q.fewer);
@@ -87,10 +85,6 @@ module _ (t : Task) (k : IsTask t) where
 
                 times_d : (e v w : ℕ) → e * v ≡ w * unit → e * d * v ≡ w * (unit * d)
                 times_d e v w f = omega (arith, ap (λ n. n * d) f)
-
-                positive : (a b : ℕ) → 1 ≤ a → 1 ≤ b → 1 ≤ a * b
-                positive zero b l k = absurd (omega (arith, l))
-                positive (suc a) b l k = omega (arith, k)
 
     -- the unit over which it is turned
     pub turned_unit : (d : ℕ) (zs : List Segment) → amount (rate_at (at t.speeds.items) (h - 1)) xs < unit * at t.times.items j
