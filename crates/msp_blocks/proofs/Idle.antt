@@ -1,7 +1,7 @@
 -- The earliest schedule of jobs by their heads, when it is idle, and what it leaves of a block when one job is taken out.
 use Rattle.std.proofs.Common.{◌≡◌, ℕ, suc, ◌+◌, ◌-◌, ◌<◌, ◌≤◌, max, Bool, true, false, cond, ltb, ◌⊎◌, inl, inr, List, [], ◌∷◌, ◌++◌, length, get_or, take, All, AllPairs, sum_by}
 use Rattle.std.proofs.Common.{refl, sym, ap, subst, ◌∙◌, arith, le_trans, length-append}
-use Rattle.std.proofs.lemmas.Bool.{cases_Bool, cases_lt, ltb-true, ltb-false}
+use Rattle.std.proofs.lemmas.Bool.{cond_both, cases_lt, lt-ltb, ltb-true, ltb-false}
 use Rattle.std.proofs.lemmas.List.Sums.{sum_by-cons, sum_by-append}
 use Rattle.std.proofs.lemmas.List.Elements.{All-nil, All-cons, All-head, All-tail, All-append, All-weaker}
 use Rattle.msp_class.proofs.Sums.{AllPairs-head, AllPairs-tail}
@@ -12,40 +12,21 @@ use Rattle.msp_pieces.specs.BackToBack.{piece}
 use Rattle.msp_pieces.proofs.feasible.Series.{AllPairs-append}
 use Rattle.msp_blocks.specs.Filling.{done_by, busy_until, Follow, gap, gaps}
 
-ltb-yes : {a b : ℕ} → a < b → ltb a b ≡ true
-ltb-yes {a} {b} h = elim (cases_Bool (ltb a b)) [ inl e ↦ e | inr e ↦ absurd (omega (arith, ltb-false a b e, h)) ]
-
 more : (a b c : ℕ) → a ≤ max a b + c
 more a b c = omega arith
 
 head_first : (a b c : ℕ) → b ≤ max a b + c
 head_first a b c = omega arith
 
-either : (b : Bool) {k m n : ℕ} → k ≤ n → m ≤ n → cond b k m ≤ n
-either true h g = h
-either false h g = g
-
 -- what holds of the piece between two moments, where there is time
 gap-All : (P : Piece → Type 0) (job a b : ℕ) → (a < b → P (piece job a b)) → All P (gap job a b)
-gap-All P job a b h = by (ltb a b) refl
-  where
-    by : (t : Bool) → ltb a b ≡ t → All P (cond t (piece job a b ∷ []) [])
-    by true e = All-cons P (piece job a b) [] (h (ltb-true a b e)) (All-nil P)
-    by false e = All-nil P
-
-gap-apart : (job a b : ℕ) → AllPairs (IsApart start finish) (gap job a b)
-gap-apart job a b = by (ltb a b)
-  where
-    by : (t : Bool) → AllPairs (IsApart start finish) (cond t (piece job a b ∷ []) [])
-    by true = λ i j d l m. absurd (omega (arith, l, m))
-    by false = λ i j d l m. absurd (omega (arith, l, m))
+gap-All P job a b h = cond_both (ltb a b) (piece job a b ∷ []) [] (All P) (λ e. All-cons P (piece job a b) [] (h (ltb-true a b e)) (All-nil P)) (λ e. All-nil P)
 
 gap-few : (job a b : ℕ) → length (gap job a b) ≤ 1
-gap-few job a b = by (ltb a b)
-  where
-    by : (t : Bool) → length (cond t (piece job a b ∷ []) []) ≤ 1
-    by true = omega arith
-    by false = omega arith
+gap-few job a b = cond_both (ltb a b) (piece job a b ∷ []) [] (λ x. length x ≤ 1) (λ _. omega arith) (λ _. omega arith)
+
+gap-apart : (job a b : ℕ) → AllPairs (IsApart start finish) (gap job a b)
+gap-apart job a b i j d l m = absurd (omega (arith, l, m, gap-few job a b))
 
 module _ (q p : ℕ → ℕ) where
   abbrev done : ℕ → List ℕ → ℕ
@@ -80,11 +61,7 @@ module _ (q p : ℕ → ℕ) where
 
   pub busy-after : (t : ℕ) (js : List ℕ) (y : ℕ) → t ≤ busy t js y
   busy-after t [] y = omega arith
-  busy-after t (j ∷ js) y = by (ltb (q j) y) (le_trans (more t (q j) (p j)) (busy-after (max t (q j) + p j) js y)) (busy-after t js y)
-    where
-      by : (b : Bool) {k m : ℕ} → t ≤ k → t ≤ m → t ≤ cond b k m
-      by true h g = h
-      by false h g = g
+  busy-after t (j ∷ js) y = cond_both (ltb (q j) y) _ _ (λ n. t ≤ n) (λ _. le_trans (more t (q j) (p j)) (busy-after (max t (q j) + p j) js y)) (λ _. busy-after t js y)
 
   pub busy-append : (t : ℕ) (xs ys : List ℕ) (y : ℕ) → busy t (xs ++ ys) y ≡ busy (busy t xs y) ys y
   busy-append t [] ys y = refl
@@ -96,25 +73,17 @@ module _ (q p : ℕ → ℕ) where
 
   pub busy-none : (t : ℕ) (js : List ℕ) (y : ℕ) → All (λ j. y ≤ q j) js → busy t js y ≡ t
   busy-none t [] y h = refl
-  busy-none t (j ∷ js) y h = by (ltb (q j) y) refl (busy-none t js y (All-tail (λ j. y ≤ q j) j js h))
-    where
-      by : (b : Bool) → ltb (q j) y ≡ b → busy t js y ≡ t → cond b (busy (max t (q j) + p j) js y) (busy t js y) ≡ t
-      by true e rest = absurd (omega (arith, ltb-true (q j) y e, All-head (λ j. y ≤ q j) j js h))
-      by false e rest = rest
+  busy-none t (j ∷ js) y h = cond_both (ltb (q j) y) _ _ (λ n. n ≡ t)
+      (λ e. absurd (omega (arith, ltb-true (q j) y e, All-head (λ j. y ≤ q j) j js h))) (λ _. busy-none t js y (All-tail (λ j. y ≤ q j) j js h))
 
   pub busy-done : (t : ℕ) (js : List ℕ) (y : ℕ) → busy t js y ≤ done t js
   busy-done t [] y = omega arith
-  busy-done t (j ∷ js) y = either (ltb (q j) y) (busy-done (max t (q j) + p j) js y) (le_trans (busy-done t js y) (done-mono t (max t (q j) + p j) js (more t (q j) (p j))))
+  busy-done t (j ∷ js) y = cond_both (ltb (q j) y) _ _ (λ n. n ≤ done (max t (q j) + p j) js)
+      (λ _. busy-done (max t (q j) + p j) js y) (λ _. le_trans (busy-done t js y) (done-mono t (max t (q j) + p j) js (more t (q j) (p j))))
 
   pub busy-without : (t : ℕ) (xs : List ℕ) (j : ℕ) (ys : List ℕ) (y : ℕ) → busy t (xs ++ ys) y ≤ busy t (xs ++ j ∷ ys) y
-  busy-without t xs j ys y = subst (λ n. n ≤ busy t (xs ++ j ∷ ys) y) (sym (busy-append t xs ys y)) (subst (λ n. busy (busy t xs y) ys y ≤ n) (sym (busy-append t xs (j ∷ ys) y)) (by (ltb (q j) y)))
-    where
-      s : ℕ
-      s = busy t xs y
-
-      by : (b : Bool) → busy s ys y ≤ cond b (busy (max s (q j) + p j) ys y) (busy s ys y)
-      by true = busy-mono s (max s (q j) + p j) ys y (more s (q j) (p j))
-      by false = omega arith
+  busy-without t xs j ys y = subst (λ n. n ≤ busy t (xs ++ j ∷ ys) y) (sym (busy-append t xs ys y)) (subst (λ n. busy (busy t xs y) ys y ≤ n) (sym (busy-append t xs (j ∷ ys) y))
+      (cond_both (ltb (q j) y) _ _ (λ n. busy (busy t xs y) ys y ≤ n) (λ _. busy-mono (busy t xs y) (max (busy t xs y) (q j) + p j) ys y (more (busy t xs y) (q j) (p j))) (λ _. omega arith)))
 
   -- ---- jobs that follow each other without idle time
   pub Follow-append : (t : ℕ) (xs ys : List ℕ) → Follow q p t (xs ++ ys) → Follow q p t xs × Follow q p (t + sum_by p xs) ys
@@ -142,7 +111,7 @@ module _ (q p : ℕ → ℕ) where
   past t s x y [] cs f h l i = omega (arith, h, busy-after s cs y, i)
   past t s x y (j ∷ js) cs f h l i =
       let early : q j < y = omega (arith, f.0, h, busy-after s (j ∷ js ++ cs) y, i, l) in
-      let now : busy (max s (q j) + p j) (js ++ cs) y ≤ x = subst (λ b. cond b (busy (max s (q j) + p j) (js ++ cs) y) (busy s (js ++ cs) y) ≤ x) (ltb-yes early) i in
+      let now : busy (max s (q j) + p j) (js ++ cs) y ≤ x = subst (λ b. cond b (busy (max s (q j) + p j) (js ++ cs) y) (busy s (js ++ cs) y) ≤ x) (lt-ltb _ _ early) i in
       omega (arith, past (t + p j) (max s (q j) + p j) x y js cs f.1 (omega (arith, h)) l now, sum_by-cons p j js)
 
   -- it lies before or after the first block
@@ -151,7 +120,7 @@ module _ (q p : ℕ → ℕ) where
   around h x y (j ∷ js) cs some e f l i = elim (cases_lt h y) [
     | inl early ↦
         let test : q j < y = omega (arith, e, early) in
-        let now : busy (max 0 (q j) + p j) (js ++ cs) y ≤ x = subst (λ b. cond b (busy (max 0 (q j) + p j) (js ++ cs) y) (busy 0 (js ++ cs) y) ≤ x) (ltb-yes test) i in
+        let now : busy (max 0 (q j) + p j) (js ++ cs) y ≤ x = subst (λ b. cond b (busy (max 0 (q j) + p j) (js ++ cs) y) (busy 0 (js ++ cs) y) ≤ x) (lt-ltb _ _ test) i in
         inr (omega (arith, past (h + p j) (max 0 (q j) + p j) x y js cs f.1 (omega (arith, e)) l now, sum_by-cons p j js))
     | inr late ↦ inl (omega (arith, late))
   ]
@@ -183,11 +152,8 @@ module _ (q p : ℕ → ℕ) where
       (λ g l. inl (le_trans (head_first t (q j) (p j)) l.0)) (gaps q p job (max t (q j) + p j) ys e) (gaps-inside job (max t (q j) + p j) e ys h)))
 
   gap-size : (job a b : ℕ) → sum_by (size_of start finish) (gap job a b) ≡ b - a
-  gap-size job a b = by (ltb a b) refl
-    where
-      by : (t : Bool) → ltb a b ≡ t → sum_by (size_of start finish) (cond t (piece job a b ∷ []) []) ≡ b - a
-      by true e = omega (arith, sum_by-cons (size_of start finish) (piece job a b) [])
-      by false e = omega (arith, ltb-false a b e)
+  gap-size job a b = cond_both (ltb a b) (piece job a b ∷ []) [] (λ x. sum_by (size_of start finish) x ≡ b - a)
+      (λ e. omega (arith, sum_by-cons (size_of start finish) (piece job a b) [])) (λ e. omega (arith, ltb-false a b e))
 
   -- gaps and jobs fill the time
   pub gaps-size : (job t e : ℕ) (ys : List ℕ) → done t ys ≤ e → t + sum_by (size_of start finish) (gaps q p job t ys e) + sum_by p ys ≡ e
@@ -215,5 +181,5 @@ module _ (q p : ℕ → ℕ) where
       (gap-All (Idle s (j ∷ ys ++ cs)) job t (q j)
       (λ l. omega (arith, busy-none s (j ∷ ys ++ cs) (q j) (All-cons (λ k. q j ≤ q k) j (ys ++ cs) (omega arith) (AllPairs-head (λ j k. q j ≤ q k) j (ys ++ cs) sorted)), h)))
       (All-weaker (Idle (max s (q j) + p j) (ys ++ cs)) (Idle s (j ∷ ys ++ cs))
-      (λ g l. either (ltb (q j) (finish g)) l (le_trans (busy-mono s (max s (q j) + p j) (ys ++ cs) (finish g) (more s (q j) (p j))) l)) (gaps q p job (max t (q j) + p j) ys e)
+      (λ g l. cond_both (ltb (q j) (finish g)) _ _ (λ n. n ≤ start g) (λ _. l) (λ _. le_trans (busy-mono s (max s (q j) + p j) (ys ++ cs) (finish g) (more s (q j) (p j))) l)) (gaps q p job (max t (q j) + p j) ys e)
       (gaps-idle job (max s (q j) + p j) (max t (q j) + p j) e ys cs (omega (arith, h)) (AllPairs-tail (λ j k. q j ≤ q k) j (ys ++ cs) sorted) later))

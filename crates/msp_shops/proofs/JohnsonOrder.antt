@@ -1,6 +1,6 @@
 -- Johnson's order of two stages: no way through the items takes longer, where each is laid as early as the order allows, than any two stages of them.
 use Rattle.std.proofs.Common.{◌≡◌, ℕ, ◌+◌, ◌*◌, ◌≤◌, ◌<◌, ◌⊎◌, inl, inr, min, Bool, true, false, cond, leb, List, [], ◌∷◌, ◌++◌, All, AllPairs, Contains, sum_by, refl, arith}
-use Rattle.std.proofs.lemmas.Bool.{leb-true, leb-false}
+use Rattle.std.proofs.lemmas.Bool.{cond_both, leb-true, leb-false}
 use Rattle.std.proofs.lemmas.List.Elements.{All-cons, All-contains, Contains-append_right}
 use Rattle.msp_class.proofs.Sums.{sum_by-cons, sum_by-append, sum_by-mono, AllPairs-head, AllPairs-tail}
 use Rattle.msp_shops.specs.Order.{GoesBefore}
@@ -34,60 +34,28 @@ module _ {X : Type 0} (first second : X → ℕ) where
   -- k in the first group
   early_before : (a b c d : ℕ) → c ≤ d → ((a ≤ b) × ((d < c) ⊎ (a ≤ c))) ⊎ ((b < a) × (d < c) × (d ≤ b)) → a ≤ cond (leb c a) b (min a b)
   early_before a b c d l (inl (m, inl n)) = absurd (omega arith)
-  early_before a b c d l (inl (m, inr n)) = by (leb c a)
-    where
-      by : (t : Bool) → a ≤ cond t b (min a b)
-      by true = m
-      by false = omega arith
+  early_before a b c d l (inl (m, inr n)) = cond_both (leb c a) b (min a b) (λ x. a ≤ x) (λ _. m) (λ _. omega arith)
   early_before a b c d l (inr (m, n, o)) = absurd (omega arith)
 
   early_after : (c d a b : ℕ) → c ≤ d → ((c ≤ d) × ((b < a) ⊎ (c ≤ a))) ⊎ ((d < c) × (b < a) × (b ≤ d)) → b ≤ cond (leb c a) b (min a b)
-  early_after c d a b l (inl (m, inl n)) = by (leb c a)
-    where
-      by : (t : Bool) → b ≤ cond t b (min a b)
-      by true = omega arith
-      by false = omega arith
-  early_after c d a b l (inl (m, inr n)) = by (leb c a) refl
-    where
-      by : (t : Bool) → leb c a ≡ t → b ≤ cond t b (min a b)
-      by true e = omega arith
-      by false e = absurd (omega (arith, leb-false c a e))
+  early_after c d a b l (inl (m, inl n)) = cond_both (leb c a) b (min a b) (λ x. b ≤ x) (λ _. omega arith) (λ _. omega arith)
+  early_after c d a b l (inl (m, inr n)) = cond_both (leb c a) b (min a b) (λ x. b ≤ x) (λ _. omega arith) (λ e. absurd (omega (arith, leb-false c a e)))
   early_after c d a b l (inr (m, n, o)) = absurd (omega arith)
 
   early_own : (c d : ℕ) → c + d ≤ c + cond (leb c c) d (min c d)
-  early_own c d = by (leb c c) refl
-    where
-      by : (t : Bool) → leb c c ≡ t → c + d ≤ c + cond t d (min c d)
-      by true e = omega arith
-      by false e = absurd (omega (arith, leb-false c c e))
+  early_own c d = cond_both (leb c c) d (min c d) (λ x. c + d ≤ c + x) (λ _. omega arith) (λ e. absurd (omega (arith, leb-false c c e)))
 
   -- k in the second group
   late_before : (a b c d : ℕ) → d < c → ((a ≤ b) × ((d < c) ⊎ (a ≤ c))) ⊎ ((b < a) × (d < c) × (d ≤ b)) → a ≤ cond (leb d b) a (min b a)
-  late_before a b c d l (inl (m, n)) = by (leb d b)
-    where
-      by : (t : Bool) → a ≤ cond t a (min b a)
-      by true = omega arith
-      by false = omega arith
-  late_before a b c d l (inr (m, n, o)) = by (leb d b) refl
-    where
-      by : (t : Bool) → leb d b ≡ t → a ≤ cond t a (min b a)
-      by true e = omega arith
-      by false e = absurd (omega (arith, leb-false d b e))
+  late_before a b c d l (inl (m, n)) = cond_both (leb d b) a (min b a) (λ x. a ≤ x) (λ _. omega arith) (λ _. omega arith)
+  late_before a b c d l (inr (m, n, o)) = cond_both (leb d b) a (min b a) (λ x. a ≤ x) (λ _. omega arith) (λ e. absurd (omega (arith, leb-false d b e)))
 
   late_after : (c d a b : ℕ) → d < c → ((c ≤ d) × ((b < a) ⊎ (c ≤ a))) ⊎ ((d < c) × (b < a) × (b ≤ d)) → b ≤ cond (leb d b) a (min b a)
   late_after c d a b l (inl (m, n)) = absurd (omega arith)
-  late_after c d a b l (inr (m, n, o)) = by (leb d b)
-    where
-      by : (t : Bool) → b ≤ cond t a (min b a)
-      by true = omega arith
-      by false = omega arith
+  late_after c d a b l (inr (m, n, o)) = cond_both (leb d b) a (min b a) (λ x. b ≤ x) (λ _. omega arith) (λ _. omega arith)
 
   late_own : (c d : ℕ) → c + d ≤ d + cond (leb d d) c (min d c)
-  late_own c d = by (leb d d) refl
-    where
-      by : (t : Bool) → leb d d ≡ t → c + d ≤ d + cond t c (min d c)
-      by true e = omega arith
-      by false e = absurd (omega (arith, leb-false d d e))
+  late_own c d = cond_both (leb d d) c (min d c) (λ x. c + d ≤ d + x) (λ _. omega arith) (λ e. absurd (omega (arith, leb-false d d e)))
 
   pub johnson_bound : (ready : X → ℕ) (unit end : ℕ) (l1 : List X) (k : X) (l2 : List X)
       → AllPairs (GoesBefore first second) (l1 ++ k ∷ l2) → HaveTwoStages first second ready unit end (l1 ++ k ∷ l2) → unit * way l1 k l2 ≤ end

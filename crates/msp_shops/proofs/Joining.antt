@@ -25,10 +25,6 @@ All-join P o p q [] after f h =
     All-cons P o after (f (All-head P p (q ∷ after) h) (All-head P q after rest)) (All-tail P q after rest)
 All-join P o p q (x ∷ before) after f h = All-cons P x (before ++ o ∷ after) (All-head P x (before ++ p ∷ q ∷ after) h) (All-join P o p q before after f (All-tail P x (before ++ p ∷ q ∷ after) h))
 
-All-both : (P : Piece → Type 0) (p q : Piece) (before after : List Piece) → All P (before ++ p ∷ q ∷ after) → P p × P q
-All-both P p q [] after h = (All-head P p (q ∷ after) h, All-head P q after (All-tail P p (q ∷ after) h))
-All-both P p q (x ∷ before) after h = All-both P p q before after (All-tail P x (before ++ p ∷ q ∷ after) h)
-
 module _ (P : Piece → Type 0) (R : Piece → Piece → Type 0) (o p q : Piece) (left : (x : Piece) → P x → R x p → R x q → R x o) (right : (x : Piece) → P x → R p x → R q x → R o x) where
   pub AllPairs-join : (before after : List Piece) → All P (before ++ p ∷ q ∷ after) → AllPairs R (before ++ p ∷ q ∷ after) → AllPairs R (before ++ o ∷ after)
   AllPairs-join [] after all h =

@@ -163,15 +163,14 @@ module _ (i : Instance) (shop : IsTwoMachineShop i) (here there : List JobTimes)
       (λ k d l a e m same. absurd (other_jobs (get_or h.pieces_here k d) (get_or h.pieces_there a e) (ones_here k d l) (ones_there a e m) same))
 
   all : (j o : ℕ) → j < length i.jobs → o < length (job_at i j).needs → (need_at i j o).time ≢ 0 → (p : Piece) × Contains both p × (p.job ≡ j) × (p.op ≡ o)
-  all j o inside op works = by (cases_lt (need_at i j 0).machine 1)
-    where
-      by : ((need_at i j 0).machine < 1) ⊎ (1 ≤ (need_at i j 0).machine) → (p : Piece) × Contains both p × (p.job ≡ j) × (p.op ≡ o)
-      by (inl l) =
-          let (p, c, a, b) = has_piece i shop 0 1 refl here group_here (after there) h.end_here h.pieces_here h.pass_here j o inside (omega (arith, l)) op works in
-          (p, Contains-append_left h.pieces_here h.pieces_there p c, a, b)
-      by (inr l) =
-          let (p, c, a, b) = has_piece i shop 1 0 refl there group_there (after here) h.end_there h.pieces_there h.pass_there j o inside (omega (arith, l, (shop.needs j inside).first)) op works in
-          (p, Contains-append_right h.pieces_here h.pieces_there p c, a, b)
+  all j o inside op works = elim (cases_lt (need_at i j 0).machine 1) [
+    | inl l ↦
+        let (p, c, a, b) = has_piece i shop 0 1 refl here group_here (after there) h.end_here h.pieces_here h.pass_here j o inside (omega (arith, l)) op works in
+        (p, Contains-append_left h.pieces_here h.pieces_there p c, a, b)
+    | inr l ↦
+        let (p, c, a, b) = has_piece i shop 1 0 refl there group_there (after here) h.end_there h.pieces_there h.pass_there j o inside (omega (arith, l, (shop.needs j inside).first)) op works in
+        (p, Contains-append_right h.pieces_here h.pieces_there p c, a, b)
+  ]
 
   plan : IsShopPlan i both
   plan = record {

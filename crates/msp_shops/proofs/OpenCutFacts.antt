@@ -9,11 +9,9 @@ use Rattle.std.proofs.lemmas.List.{get_or_append_left, get_or-append-add, length
 use Rattle.std.proofs.lemmas.List.FromFn.{get_or-map-range_with_len, length-map-range_with_len, map-range_with_len_more}
 use Rattle.std.proofs.lemmas.List.Elements.{All-nil}
 use Rattle.msp_class.specs.declared.sizes.TheConstants.{MOST_JOBS, MOST_MACHINES, MOST_PIECES, GREATEST}
-use Rattle.msp_class.specs.declared.class.Env.{Env}
-use Rattle.msp_class.specs.declared.class.Times.{Times}
 use Rattle.msp_class.specs.declared.class.Crit.TheVariants.{Cmax}
 use Rattle.msp_class.specs.declared.environments.EnvKind.TheVariants.{OpenShop}
-use Rattle.msp_class.specs.Env.{kind_of, is_shop}
+use Rattle.msp_class.specs.Env.{kind_of, is_shop, is_shop_kind}
 use Rattle.msp_class.specs.Sums.{total_below}
 use Rattle.msp_class.proofs.IntegerRing.{≤ℤ_trans, one-*ℤ, pos-le}
 use Rattle.msp_class.proofs.Sums.{total_below-same, total_below-bound, total_below-only, eqb_comm, int_total_below-natural}
@@ -21,7 +19,7 @@ use Rattle.msp_instance.specs.declared.Arc.{Arc}
 use Rattle.msp_instance.specs.declared.Need.{Need}
 use Rattle.msp_instance.specs.declared.Instance.{Instance}
 use Rattle.msp_instance.specs.Instance.{no_need, no_job, job_at, need_at}
-use Rattle.msp_instance.specs.Conditions.{HasShape, HasTimes, HasRelease, HasArcs, MeetsConditions, Inner, inner_limits, least_time, greatest_time}
+use Rattle.msp_instance.specs.Conditions.{Inner}
 use Rattle.msp_pieces.specs.declared.Piece.{Piece}
 use Rattle.msp_pieces.specs.declared.Schedule.{Schedule}
 use Rattle.msp_pieces.specs.declared.Frac.{Frac}
@@ -32,6 +30,7 @@ use Rattle.msp_pieces.specs.Cost.{cost_of}
 use Rattle.msp_pieces.specs.Loads.{machine_load, job_length}
 use Rattle.msp_pieces.proofs.lists.Places.{sum_by-places}
 use Rattle.msp_pieces.proofs.bounds.Loads.{law_of_machines, law_of_lines}
+use Rattle.msp_pieces.proofs.feasible.OfClass.{IsOfClass-from}
 use Rattle.msp_timetable.specs.declared.matrix.Matrix.{Matrix}
 use Rattle.msp_timetable.specs.declared.matrix.Slice.{Slice}
 use Rattle.msp_timetable.specs.Split.{cell, row_sum, column_sum, total, IsMatrix, IsGreatestSum, IsSplit}
@@ -59,29 +58,23 @@ pub record IsCutInstance (i : Instance) : Type 0 where
   pub times : (j o : ℕ) → j < length i.jobs → o < i.machines → (need_at i j o).time ≤ GREATEST
 
 pub IsCutInstance-from_class : (i : Instance) → i.class ≡ open_cut_class → Inner i → IsCutInstance i
-IsCutInstance-from_class i e h =
-    let env : i.class.env ≡ Env.O = ap (λ c. c.env) e in
-    let m : MeetsConditions (inner_limits (kind_of i.class.env)) i = h.conditions in
+IsCutInstance-from_class i e inner =
+    let h = IsOfClass-from i open_cut_class e inner in
     record {
-      kind = ap kind_of env;
-      shop = ap is_shop env;
-      cut = ap (λ c. c.cut) e;
-      crit = ap (λ c. c.crit) e;
-      arcs = subst (λ o. HasArcs o i.arcs) (ap (λ c. c.order) e) m.arcs;
-      release = λ k d l. subst (λ b. HasRelease (inner_limits (kind_of i.class.env)) b (get_or i.jobs k d).release) (ap (λ c. c.heads) e) (m.jobs k d l).release;
-      some = m.some;
-      few = m.few;
-      some_machines = m.machines.0;
-      few_machines = m.machines.1;
-      needs = λ j l. (shape env m j l).0;
-      machines = λ j o l b. let s = shape env m j l in s.1 o (omega (arith, s.0, b));
-      times = λ j o l b. let s = shape env m j l in
-          let S : Env → Times → Type 0 = λ v t. HasTimes (least_time (kind_of v) t) (greatest_time (inner_limits (kind_of v)) t) (job_at i j).needs in
-          (subst₂ S env (ap (λ c. c.times) e) (m.jobs j no_job l).needs.times o no_need (omega (arith, s.0, b))).1;
+      kind = h.kind;
+      shop = ap is_shop_kind h.kind;
+      cut = h.cut;
+      crit = h.crit;
+      arcs = h.arcs;
+      release = λ k d l. (h.jobs k d l).release;
+      some = h.some;
+      few = h.few;
+      some_machines = h.machine;
+      few_machines = h.machines;
+      needs = λ j l. (h.jobs j no_job l).needs.shape.0;
+      machines = λ j o l b. let s = (h.jobs j no_job l).needs.shape in s.1 o (omega (arith, s.0, b));
+      times = λ j o l b. let n = (h.jobs j no_job l).needs in (n.times o no_need (omega (arith, n.shape.0, b))).1;
     }
-  where
-    shape : i.class.env ≡ Env.O → MeetsConditions (inner_limits (kind_of i.class.env)) i → (j : ℕ) → j < length i.jobs → HasShape OpenShop Env.O i.machines (job_at i j).needs
-    shape env m j l = subst (λ v. HasShape (kind_of v) v i.machines (job_at i j).needs) env (m.jobs j no_job l).needs.shape
 
 -- ---- loads and lengths
 on_machine : (needs : List Need) (n o : ℕ) → length needs ≡ n
@@ -113,18 +106,13 @@ module _ (i : Instance) (h : IsCutInstance i) where
   length_short j l = omega (arith, length_is j l, total_below-bound i.machines GREATEST (λ o. (need_at i j o).time) (λ o b. h.times j o l b), h.few_machines)
 
   end_short : (end : ℕ) → IsGreatestLine i end → end ≤ MOST_JOBS * GREATEST
-  end_short end e = by e.reached
-    where
-      by : ((m : ℕ) × (m < i.machines) × (end ≡ machine_load i m)) ⊎ ((j : ℕ) × (j < length i.jobs) × (end ≡ job_length i j)) → end ≤ MOST_JOBS * GREATEST
-      by (inl (m, l, f)) = omega (arith, f, load_short m l)
-      by (inr (j, l, f)) = omega (arith, f, length_short j l)
+  end_short end e = elim e.reached [ inl (m, l, f) ↦ omega (arith, f, load_short m l) | inr (j, l, f) ↦ omega (arith, f, length_short j l) ]
 
   least_end : (end : ℕ) → IsGreatestLine i end → IsLeastEnd i end
-  least_end end e t f c b ends = by e.reached
-    where
-      by : ((m : ℕ) × (m < i.machines) × (end ≡ machine_load i m)) ⊎ ((j : ℕ) × (j < length i.jobs) × (end ≡ job_length i j)) → (t.unit *ℤ pos end) ≤ℤ c
-      by (inl (m, l, g)) = subst (λ n. (t.unit *ℤ pos n) ≤ℤ c) (sym g) (law_of_machines i t m c h.shop f b ends)
-      by (inr (j, l, g)) = subst (λ n. (t.unit *ℤ pos n) ≤ℤ c) (sym g) (≤ℤ_trans (law_of_lines i t j h.shop f l) (ends j l))
+  least_end end e t f c b ends = elim e.reached [
+    | inl (m, l, g) ↦ subst (λ n. (t.unit *ℤ pos n) ≤ℤ c) (sym g) (law_of_machines i t m c h.shop f b ends)
+    | inr (j, l, g) ↦ subst (λ n. (t.unit *ℤ pos n) ≤ℤ c) (sym g) (≤ℤ_trans (law_of_lines i t j h.shop f l) (ends j l))
+  ]
 
   -- ---- the matrix of times
   module _ (m : Matrix) (rows : m.rows ≡ i.machines) (columns : m.columns ≡ length i.jobs) (cells : (r c : ℕ) → r < m.rows → c < m.columns → cell m r c ≡ pos (need_at i c r).time) where

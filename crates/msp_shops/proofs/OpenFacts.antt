@@ -1,34 +1,33 @@
 -- Open shops of two machines: what an instance has, the greatest of its loads and lengths, and why the second machine ends by it.
 use Rattle.std.proofs.Common.{◌*◌, ◌≡◌, ℕ, zero, suc, ◌+◌, ◌<◌, ◌≤◌, ◌⊎◌, inl, inr, max, min, true, false, Bool, cond, eqb, leb, List, [], ◌∷◌, ◌++◌, length, get_or, All, Contains}
-use Rattle.std.proofs.Common.{pos, ◌*ℤ◌, ◌≤ℤ◌, sum_by, refl, sym, ap, subst, subst₂, ◌∙◌, arith}
-use Rattle.std.specs.Prelude.{MatchOption, ⊤}
+use Rattle.std.proofs.Common.{pos, ◌*ℤ◌, ◌≤ℤ◌, sum_by, refl, sym, ap, subst, ◌∙◌, arith}
 use Rattle.std.specs.List.{range_with_len}
 use Rattle.std.proofs.lemmas.Bool.{leb-true, leb-false}
 use Rattle.std.proofs.lemmas.List.Elements.{All-contains, Contains-append_right}
 use Rattle.std.proofs.lemmas.List.Sums.{sum_by-append, sum_by-cons}
 use Rattle.msp_class.specs.declared.sizes.TheConstants.{MOST_JOBS, GREATEST}
-use Rattle.msp_class.specs.declared.class.Env.{Env}
 use Rattle.msp_class.specs.declared.class.Env.TheVariants.{O2}
-use Rattle.msp_class.specs.declared.class.Times.{Times}
 use Rattle.msp_class.specs.declared.environments.EnvKind.TheVariants.{OpenShop}
-use Rattle.msp_class.specs.Env.{kind_of, fixed_machines, is_shop}
+use Rattle.msp_class.specs.Env.{kind_of, is_shop_kind}
 use Rattle.msp_class.proofs.IntegerRing.{≤ℤ_trans}
 use Rattle.msp_class.specs.Sums.{total_below}
 use Rattle.msp_class.proofs.Sums.{total_below-same, total_below-bound, sum_by-mono, OnceBelow-range, OnceBelow-contains, length-OnceBelow}
 use Rattle.msp_instance.specs.declared.Need.{Need}
 use Rattle.msp_instance.specs.declared.Instance.{Instance}
 use Rattle.msp_instance.specs.Instance.{no_need, no_job, job_at, need_at}
-use Rattle.msp_instance.specs.Conditions.{HasShape, HasTimes, HasRelease, HasArcs, MeetsConditions, Inner, inner_limits, least_time, greatest_time}
+use Rattle.msp_instance.specs.Conditions.{Inner}
 use Rattle.msp_pieces.specs.Loads.{machine_load, job_length}
 use Rattle.msp_pieces.proofs.lists.Intervals.{greatest_by, greatest_by-contains, greatest_by-reached}
 use Rattle.msp_pieces.proofs.lists.Places.{sum_by-places}
 use Rattle.msp_pieces.proofs.bounds.Loads.{law_of_machines, law_of_lines}
+use Rattle.msp_pieces.proofs.feasible.OfClass.{IsOfClass-from}
 use Rattle.msp_shops.specs.declared.pass.JobTimes.{JobTimes}
 use Rattle.msp_shops.specs.Pass.{IsCritical}
 use Rattle.msp_shops.specs.Open.{open_class, IsOpenEnd}
 use Rattle.msp_shops.specs.OpenOrder.{AreGrouped}
 use Rattle.msp_shops.proofs.JohnsonOrder.{all_before, all_after}
 use Rattle.msp_shops.proofs.Shops.{IsPlainShop, IsLeastEnd}
+use Rattle.msp_shops.proofs.ShopClasses.{fixed_machines_of}
 
 -- ---- what an instance of the class has
 pub record IsOpenInstance (i : Instance) : Type 0 where
@@ -40,31 +39,17 @@ pub record IsOpenInstance (i : Instance) : Type 0 where
   pub times : (j o : ℕ) → j < length i.jobs → o < 2 → (need_at i j o).time ≤ GREATEST
 
 pub IsOpenInstance-from_class : (i : Instance) → i.class ≡ open_class → Inner i → IsOpenInstance i
-IsOpenInstance-from_class i e h =
-    let env : i.class.env ≡ O2 = ap (λ c. c.env) e in
-    let m : MeetsConditions (inner_limits (kind_of i.class.env)) i = h.conditions in
+IsOpenInstance-from_class i e inner =
+    let h = IsOfClass-from i open_class e inner in
+    let two : i.machines ≡ 2 = fixed_machines_of i O2 (ap (λ c. c.env) e) inner in
     record {
-      kind = ap kind_of env;
-      shop = record {
-        kind = ap is_shop env;
-        crit = ap (λ c. c.crit) e;
-        arcs = subst (λ o. HasArcs o i.arcs) (ap (λ c. c.order) e) m.arcs;
-        release = λ k d l. subst (λ b. HasRelease (inner_limits (kind_of i.class.env)) b (get_or i.jobs k d).release) (ap (λ c. c.heads) e) (m.jobs k d l).release;
-        some = m.some;
-      };
-      few = m.few;
-      needs = λ j l. let s = shape env m j l in omega (arith, s.0, two env m);
-      machines = λ j o l b. let s = shape env m j l in s.1 o (omega (arith, s.0, two env m, b));
-      times = λ j o l b. let s = shape env m j l in
-          let S : Env → Times → Type 0 = λ v t. HasTimes (least_time (kind_of v) t) (greatest_time (inner_limits (kind_of v)) t) (job_at i j).needs in
-          (subst₂ S env (ap (λ c. c.times) e) (m.jobs j no_job l).needs.times o no_need (omega (arith, s.0, two env m, b))).1;
+      kind = h.kind;
+      shop = record { kind = ap is_shop_kind h.kind; crit = h.crit; arcs = h.arcs; release = λ k d l. (h.jobs k d l).release; some = h.some };
+      few = h.few;
+      needs = λ j l. (h.jobs j no_job l).needs.shape.0 ∙ two;
+      machines = λ j o l b. let s = (h.jobs j no_job l).needs.shape in s.1 o (omega (arith, s.0, two, b));
+      times = λ j o l b. let n = (h.jobs j no_job l).needs in (n.times o no_need (omega (arith, n.shape.0, two, b))).1;
     }
-  where
-    two : i.class.env ≡ O2 → MeetsConditions (inner_limits (kind_of i.class.env)) i → i.machines ≡ 2
-    two env m = subst (λ v. MatchOption (fixed_machines v) ⊤ (λ n. i.machines ≡ n)) env m.machines.2
-
-    shape : i.class.env ≡ O2 → MeetsConditions (inner_limits (kind_of i.class.env)) i → (j : ℕ) → j < length i.jobs → HasShape OpenShop O2 i.machines (job_at i j).needs
-    shape env m j l = subst (λ v. HasShape (kind_of v) v i.machines (job_at i j).needs) env (m.jobs j no_job l).needs.shape
 
 -- ---- loads and lengths
 pub one_or_other : (o : ℕ) → o < 2 → (o ≡ 0) ⊎ (o ≡ 1)
@@ -102,10 +87,8 @@ load_of_two (a ∷ b ∷ []) o e m l = by (one_or_other o l)
         subst (λ n. sum_by on (a ∷ b ∷ []) ≡ (get_or (a ∷ b ∷ []) n no_need).time) (sym z) (omega (arith, sums, one, two))
 
 length_of_two : (needs : List Need) → length needs ≡ 2 → sum_by (λ n. n.time) needs ≡ (get_or needs 0 no_need).time + (get_or needs 1 no_need).time
-length_of_two [] e = absurd (omega (arith, e))
-length_of_two (a ∷ []) e = absurd (omega (arith, e))
-length_of_two (a ∷ b ∷ c ∷ needs) e = absurd (omega (arith, e))
 length_of_two (a ∷ b ∷ []) e = omega (arith, sum_by-cons (λ (n : Need). n.time) a (b ∷ []), sum_by-cons (λ (n : Need). n.time) b [])
+length_of_two _ e = absurd (omega (arith, e))
 
 module _ (i : Instance) (h : IsOpenInstance i) where
   pub load_is : (o : ℕ) → o < 2 → machine_load i o ≡ total_below (length i.jobs) (λ j. (need_at i j o).time)

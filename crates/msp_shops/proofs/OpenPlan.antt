@@ -66,6 +66,14 @@ pub record IsRead (i : Instance) (first second : Stage) (t : JobTimes) : Type 0 
   pub first_time : t.first ≡ (need_at i t.job first.op).time
   pub second_time : t.second ≡ (need_at i t.job second.op).time
 
+-- what is asked of the jobs before they are laid
+pub record IsReady (i : Instance) (first second : Stage) (special : JobTimes) (others : List JobTimes) : Type 0 where
+  pub all : IsPermutation (all_times i first.op second.op) (special ∷ others)
+  pub few : length others ≤ MOST_JOBS
+  pub once : AllPairs (λ a b. a.job ≢ b.job) others
+  pub short : All (λ t. (t.first ≤ GREATEST) × (t.second ≤ GREATEST)) others
+  pub short_special : (special.first ≤ GREATEST) × (special.second ≤ GREATEST)
+
 module _ (i : Instance) (h : IsOpenInstance i) (first second : Stage)
     (g : AreStages first second) (special : JobTimes) (others : List JobTimes) (all : IsPermutation (all_times i first.op second.op) (special ∷ others)) where
   abbrev jobs : List JobTimes
@@ -85,23 +93,23 @@ module _ (i : Instance) (h : IsOpenInstance i) (first second : Stage)
   distinct : AllPairs (λ a b. a.job ≢ b.job) jobs
   distinct = distinct_from_map (λ t. t.job) jobs (OnceBelow-distinct once)
 
-  pub distinct_others : AllPairs (λ a b. a.job ≢ b.job) others
-  distinct_others = AllPairs-tail (λ a b. a.job ≢ b.job) special others distinct
-
   not_special : All (λ t. special.job ≢ t.job) others
   not_special = AllPairs-head (λ a b. a.job ≢ b.job) special others distinct
 
-  pub few_others : length others ≤ MOST_JOBS
+  few_others : length others ≤ MOST_JOBS
   few_others = omega (arith, length-OnceBelow once, length-map jobs (λ t. t.job), h.few)
 
   short : All (λ t. (t.first ≤ GREATEST) × (t.second ≤ GREATEST)) jobs
   short k d l = let r = read k d l in (omega (arith, r.first_time, h.times _ first.op r.inside g.one_small), omega (arith, r.second_time, h.times _ second.op r.inside g.two_small))
 
-  pub short_special : (special.first ≤ GREATEST) × (special.second ≤ GREATEST)
-  short_special = All-head (λ t. (t.first ≤ GREATEST) × (t.second ≤ GREATEST)) special others short
-
-  pub short_others : All (λ t. (t.first ≤ GREATEST) × (t.second ≤ GREATEST)) others
-  short_others = All-tail (λ t. (t.first ≤ GREATEST) × (t.second ≤ GREATEST)) special others short
+  pub is_ready : IsReady i first second special others
+  is_ready = record {
+    all = all;
+    few = few_others;
+    once = AllPairs-tail (λ a b. a.job ≢ b.job) special others distinct;
+    short = All-tail (λ t. (t.first ≤ GREATEST) × (t.second ≤ GREATEST)) special others short;
+    short_special = All-head (λ t. (t.first ≤ GREATEST) × (t.second ≤ GREATEST)) special others short;
+  }
 
   has_job : (j : ℕ) → j < length i.jobs → (special ≡ times_at i first.op second.op j) ⊎ Contains others (times_at i first.op second.op j)
   has_job j l = in_front special others (times_at i first.op second.op j) (Contains-permutation times jobs (times_at i first.op second.op j)
@@ -109,11 +117,10 @@ module _ (i : Instance) (h : IsOpenInstance i) (first second : Stage)
 
   module _ (end : ℕ) (e : IsOpenEnd i end) where
     load_ends : (o : ℕ) → o < 2 → total_below (length i.jobs) (λ j. (need_at i j o).time) ≤ end
-    load_ends o l = by (one_or_other o l)
-      where
-        by : (o ≡ 0) ⊎ (o ≡ 1) → total_below (length i.jobs) (λ j. (need_at i j o).time) ≤ end
-        by (inl z) = omega (arith, sym (load_is i h o l), ap (machine_load i) z, e.first_load)
-        by (inr z) = omega (arith, sym (load_is i h o l), ap (machine_load i) z, e.second_load)
+    load_ends o l = elim (one_or_other o l) [
+      | inl z ↦ omega (arith, sym (load_is i h o l), ap (machine_load i) z, e.first_load)
+      | inr z ↦ omega (arith, sym (load_is i h o l), ap (machine_load i) z, e.second_load)
+    ]
 
     sum_of : (f : JobTimes → ℕ) → f special + sum_by f others ≡ total_below (length i.jobs) (λ j. f (times_at i first.op second.op j))
     sum_of f = sym (sum_by-cons f special others) ∙ sum_by-IsPermutation f times jobs all
@@ -281,11 +288,10 @@ module _ (i : Instance) (h : IsOpenInstance i) (first second : Stage)
           by (inr a) (inl b) (inl c) = absurd (g.other (b ∙ sym c))
 
       has_all : (j o : ℕ) → j < length i.jobs → IsTimely i j o → (q : Piece) × Contains pieces q × (q.job ≡ j) × (q.op ≡ o)
-      has_all j o l (m, n) = by (which o (omega (arith, m, h.needs j l)))
-        where
-          by : (o ≡ first.op) ⊎ (o ≡ second.op) → (q : Piece) × Contains pieces q × (q.job ≡ j) × (q.op ≡ o)
-          by (inl z) = let (q, c, x, y) = has_first j (has_job j l) (subst (λ k. 0 < (need_at i j k).time) z (some_time j o n)) in (q, c, x, y ∙ sym z)
-          by (inr z) = let (q, c, x, y) = has_second j (has_job j l) (subst (λ k. 0 < (need_at i j k).time) z (some_time j o n)) in (q, c, x, y ∙ sym z)
+      has_all j o l (m, n) = elim (which o (omega (arith, m, h.needs j l))) [
+        | inl z ↦ let (q, c, x, y) = has_first j (has_job j l) (subst (λ k. 0 < (need_at i j k).time) z (some_time j o n)) in (q, c, x, y ∙ sym z)
+        | inr z ↦ let (q, c, x, y) = has_second j (has_job j l) (subst (λ k. 0 < (need_at i j k).time) z (some_time j o n)) in (q, c, x, y ∙ sym z)
+      ]
 
       timed : All IsTimed pieces
       timed = All-append IsTimed (before ++ laid) after

@@ -1,6 +1,6 @@
 -- The jobs of an open shop as the code takes and lays them.
 use Rattle.std.proofs.Common.{◌≡◌, ℕ, suc, ◌+◌, ◌<◌, ◌≤◌, List, [], ◌∷◌, ◌++◌, length, get_or, map, All, sym, ap, ◌∙◌, ap₂, subst, subst₂, zero-add, Option, Some, arith}
-use Rattle.std.proofs.Common.{length-append, ◌≢◌, inl, inr, AllPairs, pos, refl}
+use Rattle.std.proofs.Common.{length-append, inl, inr, AllPairs, pos, refl}
 use Rattle.std.specs.Prelude.{IsPermutation}
 use Rattle.std.specs.List.{range_with_len}
 use Rattle.std.specs.List.Sorted.{IsNonDecreasingBy}
@@ -16,7 +16,6 @@ use Rattle.msp_shops.specs.Times.{times_at}
 use Rattle.msp_shops.specs.Order.{GoesBefore}
 use Rattle.msp_shops.specs.OpenOrder.{lesser, AreGrouped, all_times, turned, IsLaid, IsLaidOut, on_first, on_second, IsOpenPlan}
 use Rattle.std.proofs.lemmas.List.Elements.{All-map}
-use Rattle.msp_class.specs.declared.sizes.TheConstants.{MOST_JOBS, GREATEST}
 use Rattle.msp_instance.specs.Conditions.{Inner}
 use Rattle.msp_pieces.specs.declared.Piece.{Piece}
 use Rattle.msp_pieces.specs.declared.Schedule.{Schedule}
@@ -27,7 +26,7 @@ use Rattle.msp_shops.specs.declared.pass.Stage.{Stage}
 use Rattle.msp_shops.specs.Open.{open_class, IsOpenCost}
 use Rattle.msp_shops.proofs.Shops.{IsBestPlan, over_one}
 use Rattle.msp_shops.proofs.OpenFacts.{IsOpenInstance, IsOpenInstance-from_class, job_numbers, open_end, IsOpenEnd-open_end}
-use Rattle.msp_shops.proofs.OpenPlan.{AreStages, few_others, distinct_others, short_others, short_special, IsBestPlan-from_laid}
+use Rattle.msp_shops.proofs.OpenPlan.{AreStages, IsReady, is_ready, IsBestPlan-from_laid}
 
 -- ---- Johnson's order
 pub AreGrouped-from_order : (js : List JobTimes) → AllPairs (GoesBefore (λ t. t.first) (λ t. t.second)) js → AreGrouped js
@@ -88,37 +87,19 @@ IsBestPlan-from_open i class inner ps (inr w) = best_laid i (IsOpenInstance-from
 pub IsOpenCost-read : (i : Instance) → i.class ≡ open_class → Inner i → (cost : Frac) (s : Schedule) → IsBestPlan i (open_end i) s → IsOver cost (cost_of i s) (pos 1) → IsOpenCost i cost
 IsOpenCost-read i class inner cost s w over = (open_end i, IsOpenEnd-open_end i (IsOpenInstance-from_class i class inner).shop.some, subst (λ x. IsOver cost x (pos 1)) w.cost over)
 
--- what is asked of the jobs before they are laid
-pub record IsReady (i : Instance) (first second : Stage) (special : JobTimes) (others : List JobTimes) : Type 0 where
-  pub all : IsPermutation (all_times i first.op second.op) (special ∷ others)
-  pub few : length others ≤ MOST_JOBS
-  pub once : AllPairs (λ a b. a.job ≢ b.job) others
-  pub short : All (λ t. (t.first ≤ GREATEST) × (t.second ≤ GREATEST)) others
-  pub short_special : (special.first ≤ GREATEST) × (special.second ≤ GREATEST)
-
-IsReady-from_all : (i : Instance) → IsOpenInstance i → (first second : Stage) → AreStages first second
-    → (special : JobTimes) (others : List JobTimes) → IsPermutation (all_times i first.op second.op) (special ∷ others) → IsReady i first second special others
-IsReady-from_all i h first second g special others all = record {
-  all = all;
-  few = few_others i h first second g special others all;
-  once = distinct_others i h first second g special others all;
-  short = short_others i h first second g special others all;
-  short_special = short_special i h first second g special others all;
-}
-
 sorted_rest : (times rest sorted : List JobTimes) (special : JobTimes) → IsPermutation times (special ∷ rest) → IsPermutation rest sorted → IsPermutation times (special ∷ sorted)
 sorted_rest times rest sorted special p q = IsPermutation-trans times (special ∷ rest) (special ∷ sorted) p (IsPermutation-append_right (special ∷ []) rest sorted q)
 
 pub ready : (i : Instance) → i.class ≡ open_class → Inner i → (times rest sorted others : List JobTimes) (special : JobTimes)
     → times ≡ all_times i 0 1 → IsPermutation times (special ∷ rest) → IsPermutation rest sorted → others ≡ sorted → IsReady i on_first on_second special others
 ready i class inner times rest sorted others special is p q same =
-    IsReady-from_all i (IsOpenInstance-from_class i class inner) on_first on_second first_stages special others
+    is_ready i (IsOpenInstance-from_class i class inner) on_first on_second first_stages special others
     (subst₂ (λ l m. IsPermutation l (special ∷ m)) is (sym same) (sorted_rest times rest sorted special p q))
 
 pub ready_turned : (i : Instance) → i.class ≡ open_class → Inner i → (times rest exchanged sorted others : List JobTimes) (special other : JobTimes) → times ≡ all_times i 0 1
     → IsPermutation times (special ∷ rest) → exchanged ≡ map turned rest → IsPermutation exchanged sorted → others ≡ sorted → other ≡ turned special → IsReady i on_second on_first other others
 ready_turned i class inner times rest exchanged sorted others special other is p turns q same e =
-    IsReady-from_all i (IsOpenInstance-from_class i class inner) on_second on_first second_stages other others
+    is_ready i (IsOpenInstance-from_class i class inner) on_second on_first second_stages other others
     (subst₂ (λ x m. IsPermutation (all_times i 1 0) (x ∷ m)) (sym e) (sym same)
     (subst (λ l. IsPermutation l (turned special ∷ sorted)) (ap (map turned) is ∙ turned_times i (job_numbers i))
     (sorted_rest (map turned times) (map turned rest) sorted (turned special) (IsPermutation-map turned times (special ∷ rest) p) (subst (λ l. IsPermutation l sorted) turns q))))

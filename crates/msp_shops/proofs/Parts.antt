@@ -1,7 +1,7 @@
 -- The pieces of an operation: one where it takes time, else none; and those of a job more.
-use Rattle.std.proofs.Common.{◌≡◌, ℕ, ◌<◌, ◌≤◌, Bool, true, false, cond, List, [], ◌∷◌, ◌++◌, length, get_or, All, AllPairs, Contains, refl, arith}
+use Rattle.std.proofs.Common.{◌≡◌, ℕ, ◌<◌, ◌≤◌, List, [], ◌∷◌, ◌++◌, length, get_or, All, AllPairs, Contains, refl, arith}
 use Rattle.std.specs.Prelude.{◌==◌}
-use Rattle.std.proofs.lemmas.Bool.{eqb-true, eqb-false}
+use Rattle.std.proofs.lemmas.Bool.{cond_both, eqb-true, eqb-false}
 use Rattle.std.proofs.lemmas.List.Elements.{All-nil, All-cons, All-append}
 use Rattle.msp_pieces.specs.declared.Piece.{Piece}
 use Rattle.msp_pieces.proofs.feasible.Series.{AllPairs-append}
@@ -9,35 +9,21 @@ use Rattle.msp_shops.specs.declared.pass.Stage.{Stage}
 use Rattle.msp_shops.specs.Pass.{whole_piece, part}
 
 pub All-part : (P : Piece → Type 0) (job : ℕ) (stage : Stage) (begin time : ℕ) → (0 < time → P (whole_piece job stage begin time)) → All P (part job stage begin time)
-All-part P job stage begin time h = by (time == 0) refl
+All-part P job stage begin time h = cond_both (time == 0) [] (whole_piece job stage begin time ∷ []) (All P)
+    (λ _. All-nil P) (λ e. All-cons P (whole_piece job stage begin time) [] (h (positive time (eqb-false time 0 e))) (All-nil P))
   where
     positive : (t : ℕ) → (t ≡ 0 → ⊥) → 0 < t
     positive t n = omega arith
 
-    by : (b : Bool) → time == 0 ≡ b → All P (cond b [] (whole_piece job stage begin time ∷ []))
-    by true e = All-nil P
-    by false e = All-cons P (whole_piece job stage begin time) [] (h (positive time (eqb-false time 0 e))) (All-nil P)
-
 pub Contains-part : (job : ℕ) (stage : Stage) (begin time : ℕ) → 0 < time → Contains (part job stage begin time) (whole_piece job stage begin time)
-Contains-part job stage begin time some = by (time == 0) refl
-  where
-    by : (b : Bool) → time == 0 ≡ b → Contains (cond b [] (whole_piece job stage begin time ∷ [])) (whole_piece job stage begin time)
-    by true e = absurd (omega (arith, some, eqb-true time 0 e))
-    by false e = (0, omega arith, refl)
+Contains-part job stage begin time some = cond_both (time == 0) [] (whole_piece job stage begin time ∷ [])
+    (λ ps. Contains ps (whole_piece job stage begin time)) (λ e. absurd (omega (arith, some, eqb-true time 0 e))) (λ _. (0, omega arith, refl))
 
 pub length-part : (job : ℕ) (stage : Stage) (begin time : ℕ) → length (part job stage begin time) ≤ 1
-length-part job stage begin time = by (time == 0)
-  where
-    by : (b : Bool) → length (cond b [] (whole_piece job stage begin time ∷ [])) ≤ 1
-    by true = omega arith
-    by false = omega arith
+length-part job stage begin time = cond_both (time == 0) [] (whole_piece job stage begin time ∷ []) (λ ps. length ps ≤ 1) (λ _. omega arith) (λ _. omega arith)
 
 pub AllPairs-part : (R : Piece → Piece → Type 0) (job : ℕ) (stage : Stage) (begin time : ℕ) → AllPairs R (part job stage begin time)
-AllPairs-part R job stage begin time = by (time == 0)
-  where
-    by : (b : Bool) → AllPairs R (cond b [] (whole_piece job stage begin time ∷ []))
-    by true a b d h k = absurd (omega arith)
-    by false a b d h k = absurd (omega arith)
+AllPairs-part R job stage begin time a b d h k = absurd (omega (arith, length-part job stage begin time))
 
 -- ---- the pieces so far, and those of two operations of a job
 module _ (ps : List Piece) (job : ℕ) (first second : Stage) (at begin x y : ℕ) where

@@ -1,134 +1,36 @@
--- What one job more adds to a pass over two machines.
+-- A pass over two machines, one job after another.
 use Rattle.std.proofs.Common.{◌≡◌, ◌≢◌, ℕ, ◌+◌, ◌<◌, ◌≤◌, inl, inr, max, Bool, true, false, leb, List, [], ◌∷◌, ◌++◌, length, get_or, take, All, AllPairs, Contains, sum_by}
 use Rattle.std.proofs.Common.{refl, sym, ap, ◌∙◌, subst, subst₂, arith, length-append}
 use Rattle.std.proofs.lemmas.Bool.{leb-true, leb-false}
 use Rattle.std.proofs.lemmas.List.{take_more, append_assoc, append-nil, length-take-le, get_or-take, get_or_default}
 use Rattle.std.proofs.lemmas.List.Sums.{sum_by_push}
-use Rattle.std.proofs.lemmas.List.Elements.{All-nil, All-push, All-contains, Contains-append_left, Contains-append_right}
+use Rattle.std.proofs.lemmas.List.Elements.{All-nil}
+use Rattle.std.proofs.Math.Nat.{max-eq_left, max-eq_right, le_of_lt}
 use Rattle.msp_class.specs.declared.sizes.TheConstants.{GREATEST}
 use Rattle.msp_pieces.specs.declared.Piece.{Piece}
-use Rattle.msp_pieces.specs.Intervals.{IsApartOn}
-use Rattle.msp_pieces.specs.Piece.{start, finish, IsTimed}
+use Rattle.msp_pieces.specs.Piece.{IsTimed}
 use Rattle.msp_shops.specs.declared.pass.JobTimes.{JobTimes}
 use Rattle.msp_shops.specs.declared.pass.Moments.{Moments}
 use Rattle.msp_shops.specs.declared.pass.Stage.{Stage}
-use Rattle.msp_shops.specs.Pass.{whole_piece, part, IsOf, HasPiece, machine_of, IsTidy, IsCritical, IsPass, HasPassed}
-use Rattle.msp_shops.proofs.Parts.{Contains-part, length-part, All-more, AllPairs-more}
-use Rattle.msp_shops.proofs.InLine.{IsInLine-none, IsInLine-next}
-
--- ---- one job more
-module _ (first second : Stage) (machines : first.machine ≢ second.machine) (jobs : List JobTimes) (from at : Moments) (j : JobTimes) (other : All (λ k. k.job ≢ j.job) jobs) (ps : List Piece)
-    (h : IsTidy first second jobs from at ps) (begin : ℕ) (after : at.first + j.first ≤ begin) (free : at.second ≤ begin) (begun : (from.first ≤ at.first) × (from.second ≤ at.second)) where
-  abbrev to : Moments
-  to = record { first = at.first + j.first; second = begin + j.second }
-
-  abbrev all : List JobTimes
-  all = jobs ++ j ∷ []
-
-  abbrev one : Piece
-  one = whole_piece j.job first at.first j.first
-
-  abbrev two : Piece
-  two = whole_piece j.job second begin j.second
-
-  abbrev firsts : List Piece
-  firsts = part j.job first at.first j.first
-
-  abbrev seconds : List Piece
-  seconds = part j.job second begin j.second
-
-  abbrev new : List Piece
-  new = (ps ++ firsts) ++ seconds
-
-  -- what holds of the pieces so far, and of those of the job
-  each : (P : Piece → Type 0) → All P ps → (0 < j.first → P one) → (0 < j.second → P two) → All P new
-  each = All-more ps j.job first second at.first begin j.first j.second
-
-  pairs : (R : Piece → Piece → Type 0) → AllPairs R ps → All (λ p. R p one) ps → All (λ p. R p two) ps → R one two → AllPairs R new
-  pairs = AllPairs-more ps j.job first second at.first begin j.first j.second
-
-  itself : Contains all j
-  itself = Contains-append_right jobs (j ∷ []) j (0, omega arith, refl)
-
-  later : (p : Piece) (k : JobTimes) → IsOf first second from at p k → IsOf first second from to p k
-  later p k (inl o) = inl (record { job = o.job; op = o.op; machine = o.machine; whole = o.whole; from = o.from; to = omega (arith, o.to) })
-  later p k (inr o) = inr (record { job = o.job; op = o.op; machine = o.machine; whole = o.whole; from = o.from; to = omega (arith, o.to, free) })
-
-  known : All (λ p. (k : JobTimes) × Contains all k × IsOf first second from to p k) new
-  known = each (λ p. (k : JobTimes) × Contains all k × IsOf first second from to p k)
-      (λ n d l. let (k, c, o) = h.known n d l in (k, Contains-append_left jobs (j ∷ []) k c, later (get_or ps n d) k o))
-      (λ s. (j, itself, inl (record { job = refl; op = refl; machine = refl; whole = refl; from = begun.0; to = omega arith })))
-      (λ s. (j, itself, inr (record { job = refl; op = refl; machine = refl; whole = refl; from = omega (arith, begun.1, free); to = omega arith })))
-
-  still : (stage : Stage) (k : ℕ) → HasPiece ps stage k → HasPiece new stage k
-  still stage k (p, c, e, f) = (p, Contains-append_left (ps ++ firsts) seconds p (Contains-append_left ps firsts p c), e, f)
-
-  has_first : All (λ k. 0 < k.first → HasPiece new first k.job) all
-  has_first = All-push (λ k. 0 < k.first → HasPiece new first k.job) jobs j (λ n d l s. still first (get_or jobs n d).job (h.has_first n d l s))
-      (λ s. (one, Contains-append_left (ps ++ firsts) seconds one (Contains-append_right ps firsts one (Contains-part j.job first at.first j.first s)), refl, refl))
-
-  has_second : All (λ k. 0 < k.second → HasPiece new second k.job) all
-  has_second = All-push (λ k. 0 < k.second → HasPiece new second k.job) jobs j (λ n d l s. still second (get_or jobs n d).job (h.has_second n d l s))
-      (λ s. (two, Contains-append_right (ps ++ firsts) seconds two (Contains-part j.job second begin j.second s), refl, refl))
-
-  before_first : (p : Piece) (k : JobTimes) → IsOf first second from at p k → p.machine ≡ first.machine → finish p ≤ at.first
-  before_first p k (inl o) e = o.to
-  before_first p k (inr o) e = absurd (machines (sym e ∙ o.machine))
-
-  before_second : (p : Piece) (k : JobTimes) → IsOf first second from at p k → p.machine ≡ second.machine → finish p ≤ begin
-  before_second p k (inl o) e = absurd (machines (sym o.machine ∙ e))
-  before_second p k (inr o) e = omega (arith, o.to, free)
-
-  apart : AllPairs (IsApartOn machine_of start finish) new
-  apart = pairs (IsApartOn machine_of start finish) h.apart
-      (λ n d l e. let (k, c, o) = h.known n d l in inl (before_first (get_or ps n d) k o e))
-      (λ n d l e. let (k, c, o) = h.known n d l in inl (before_second (get_or ps n d) k o e))
-      (λ e. absurd (machines e))
-
-  job_is : (p : Piece) (k : JobTimes) → IsOf first second from at p k → p.job ≡ k.job
-  job_is p k (inl o) = o.job
-  job_is p k (inr o) = o.job
-
-  not_mine : All (λ p. p.job ≢ j.job) ps
-  not_mine n d l e = let (k, c, o) = h.known n d l in All-contains (λ k. k.job ≢ j.job) jobs k other c (sym (job_is (get_or ps n d) k o) ∙ e)
-
-  in_order : AllPairs (λ p q. p.job ≡ q.job → (p.op ≡ first.op) × (q.op ≡ second.op) × (finish p ≤ start q)) new
-  in_order = pairs (λ p q. p.job ≡ q.job → (p.op ≡ first.op) × (q.op ≡ second.op) × (finish p ≤ start q)) h.in_order
-      (λ n d l e. absurd (not_mine n d l e))
-      (λ n d l e. absurd (not_mine n d l e))
-      (λ e. (refl, refl, after))
-
-  pub IsTidy-next : IsTidy first second all from to new
-  IsTidy-next = record {
-    timed = each IsTimed h.timed (λ s. record { from = refl; to = refl; lasts = omega (arith, s) }) (λ s. record { from = refl; to = refl; lasts = omega (arith, s) });
-    known = known;
-    has_first = has_first;
-    has_second = has_second;
-    apart = apart;
-    in_order = in_order;
-  }
+use Rattle.msp_shops.specs.Pass.{part, IsOf, HasPiece, IsCritical, IsPass, HasPassed}
+use Rattle.msp_shops.proofs.Parts.{length-part}
+use Rattle.msp_shops.proofs.InLine.{IsInLine-none, IsTidy-next, IsInLine-next}
 
 -- ---- the end of the second machine
 critical_next : (jobs : List JobTimes) (from : Moments) (x y : ℕ) (j : JobTimes)
     → x ≡ from.first + sum_by (λ k. k.first) jobs → IsCritical jobs from y → IsCritical (jobs ++ j ∷ []) from (max (x + j.first) y + j.second)
 critical_next jobs from x y j total h = by (leb y (x + j.first)) refl h
   where
-    greater : (m n : ℕ) → n ≤ m → max m n ≡ m
-    greater m n l = omega arith
-
-    less : (m n : ℕ) → m < n → max m n ≡ n
-    less m n l = omega arith
-
     by : (b : Bool) → leb y (x + j.first) ≡ b → IsCritical jobs from y → IsCritical (jobs ++ j ∷ []) from (max (x + j.first) y + j.second)
-    by true e c = inr (jobs, j, [], refl, ap (λ n. n + j.second) (greater (x + j.first) y (leb-true _ _ e)) ∙ omega (arith, total))
-    by false e (inl c) = inl (ap (λ n. n + j.second) (less (x + j.first) y (leb-false _ _ e)) ∙ omega (arith, c, sum_by_push (λ k. k.second) jobs j))
+    by true e c = inr (jobs, j, [], refl, ap (λ n. n + j.second) (max-eq_left (leb-true _ _ e)) ∙ omega (arith, total))
+    by false e (inl c) = inl (ap (λ n. n + j.second) (max-eq_right (le_of_lt (leb-false _ _ e))) ∙ omega (arith, c, sum_by_push (λ k. k.second) jobs j))
     by false e (inr (before, k, rest, is, end)) =
         inr (
           before,
           k,
           rest ++ j ∷ [],
           ap (λ l. l ++ j ∷ []) is ∙ append_assoc before (k ∷ rest) (j ∷ []),
-          ap (λ n. n + j.second) (less (x + j.first) y (leb-false _ _ e)) ∙ omega (arith, end, sum_by_push (λ k. k.second) rest j),
+          ap (λ n. n + j.second) (max-eq_right (le_of_lt (leb-false _ _ e))) ∙ omega (arith, end, sum_by_push (λ k. k.second) rest j),
         )
 
 -- ---- the pass
@@ -159,7 +61,7 @@ module _ (first second : Stage) (machines : first.machine ≢ second.machine) (f
       let begin = max (at.first + j.first) at.second in
       let more = length-append jobs (j ∷ []) in
       record {
-        tidy = IsTidy-next first second machines jobs from at j other ps h.tidy begin (omega arith) (omega arith) (omega (arith, h.first_end), h.later);
+        tidy = IsTidy-next first second machines jobs from at j ps h.tidy other (omega (arith, h.first_end), h.later);
         line = IsInLine-next first second machines jobs from at j ps h.tidy h.first_end h.line;
         first_end = omega (arith, h.first_end, sum_by_push (λ k. k.first) jobs j);
         second_end = critical_next jobs from at.first at.second j h.first_end h.second_end;

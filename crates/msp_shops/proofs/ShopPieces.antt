@@ -1,5 +1,5 @@
 -- The pieces of a feasible schedule on two machines in series, cut or not: the work of each operation, and the order on each job's route.
-use Rattle.std.proofs.Common.{◌≡◌, ◌≢◌, ℕ, ◌*◌, ◌-◌, ◌<◌, ◌≤◌, ◌⊎◌, inl, inr, Bool, true, false, cond, eqb, List, [], ◌∷◌, length, get_or, map, filter, All, AllPairs, MatchBool}
+use Rattle.std.proofs.Common.{◌≡◌, ◌≢◌, ℕ, ◌*◌, ◌-◌, ◌<◌, ◌≤◌, inl, inr, Bool, true, false, cond, eqb, List, [], ◌∷◌, length, get_or, map, filter, All, AllPairs, MatchBool}
 use Rattle.std.proofs.Common.{pos, nat_abs, ◌*ℤ◌, sum_by, refl, sym, ap, ap₂, subst, ◌∙◌, arith}
 use Rattle.std.specs.Prelude.{◌==◌, ◌&&◌}
 use Rattle.std.proofs.lemmas.Bool.{cases_lt, eqb-true, eqb-false, eq-eqb}
@@ -27,11 +27,10 @@ use Rattle.msp_shops.specs.Groups.{IsTwoMachineShop}
 
 -- an operation that takes time is one of the job's
 pub operation_there : (i : Instance) (j o : ℕ) → (need_at i j o).time ≢ 0 → o < length (job_at i j).needs
-operation_there i j o works = by (cases_lt o (length (job_at i j).needs))
-  where
-    by : (o < length (job_at i j).needs) ⊎ (length (job_at i j).needs ≤ o) → o < length (job_at i j).needs
-    by (inl l) = l
-    by (inr l) = absurd (works (ap (λ n. n.time) (get_or-eq_default (job_at i j).needs no_need l)))
+operation_there i j o works = elim (cases_lt o (length (job_at i j).needs)) [
+  | inl l ↦ l
+  | inr l ↦ absurd (works (ap (λ n. n.time) (get_or-eq_default (job_at i j).needs no_need l)))
+]
 
 -- what passes a test is no more than what passes a wider one
 sum_by-wider : {X : Type 0} (f : X → ℕ) (p q : X → Bool) (xs : List X) → All (λ x. p x ≡ true → q x ≡ true) xs → sum_by f (filter p xs) ≤ sum_by f (filter q xs)
@@ -96,21 +95,19 @@ module _ (i : Instance) (shop : IsTwoMachineShop i) (s : Schedule) (f : Feasible
 
   -- ---- the order on a job's route
   is_first : (m : ℕ) (p : Piece) → m < 2 → p.job < length i.jobs → HasOwnPlace p → (need_at i p.job 0).machine ≡ m → p.machine ≡ m → p.op ≡ 0
-  is_first m p two inside h begins on = by (cases_lt p.op 1)
-    where
-      by : (p.op < 1) ⊎ (1 ≤ p.op) → p.op ≡ 0
-      by (inl l) = omega (arith, l)
-      by (inr l) =
-          let needs = shop.needs p.job inside in
-          let e : p.op ≡ 1 = omega (arith, l, h.op, needs.few) in
-          absurd (omega (arith, two, begins, on, h.machine, ap (λ o. (need_at i p.job o).machine) e, needs.second (omega (arith, e, h.op, needs.few))))
+  is_first m p two inside h begins on = elim (cases_lt p.op 1) [
+    | inl l ↦ omega (arith, l)
+    | inr l ↦
+        let needs = shop.needs p.job inside in
+        let e : p.op ≡ 1 = omega (arith, l, h.op, needs.few) in
+        absurd (omega (arith, two, begins, on, h.machine, ap (λ o. (need_at i p.job o).machine) e, needs.second (omega (arith, e, h.op, needs.few))))
+  ]
 
   is_second : (m : ℕ) (q : Piece) → m < 2 → HasOwnPlace q → (need_at i q.job 0).machine ≡ m → q.machine ≡ 1 - m → 1 ≤ q.op
-  is_second m q two h begins on = by (cases_lt q.op 1)
-    where
-      by : (q.op < 1) ⊎ (1 ≤ q.op) → 1 ≤ q.op
-      by (inl l) = let e : q.op ≡ 0 = omega (arith, l) in absurd (omega (arith, two, begins, on, h.machine, ap (λ o. (need_at i q.job o).machine) e))
-      by (inr l) = l
+  is_second m q two h begins on = elim (cases_lt q.op 1) [
+    | inl l ↦ let e : q.op ≡ 0 = omega (arith, l) in absurd (omega (arith, two, begins, on, h.machine, ap (λ o. (need_at i q.job o).machine) e))
+    | inr l ↦ l
+  ]
 
   abbrev Follows : Piece → Piece → Type 0
   Follows p q = p.job ≡ q.job → p.op < q.op → IsBefore p q

@@ -8,7 +8,7 @@ use Rattle.std.proofs.lemmas.List.Elements.{All-nil, Contains-get_or}
 use Rattle.std.proofs.lemmas.List.Kept.{AllPairs-filter}
 use Rattle.msp_class.specs.declared.sizes.TheConstants.{MOST_PIECES}
 use Rattle.msp_class.specs.declared.environments.EnvKind.{EnvKind}
-use Rattle.msp_class.specs.declared.environments.EnvKind.TheVariants.{Identical, Uniform, Unrelated, OpenShop, FlowShop, JobShop}
+use Rattle.msp_class.specs.declared.environments.EnvKind.TheVariants.{Unrelated, OpenShop, FlowShop, JobShop}
 use Rattle.msp_class.specs.declared.class.Crit.TheVariants.{Cmax}
 use Rattle.msp_class.specs.Env.{kind_of, is_shop_kind, is_shop}
 use Rattle.msp_class.proofs.IntegerRing.{natural, pos-le, ≤ℤ_antisym, +ℤ_idl, *ℤ_comm, *ℤ-one, one-*ℤ, ≤ℤ_trans}
@@ -37,64 +37,50 @@ abbrev pub IsTimely : Instance → ℕ → ℕ → Type 0
 IsTimely i j o = (o < length (job_at i j).needs) × ((need_at i j o).time ≢ 0)
 
 has_by : (k : EnvKind) (i : Instance) (j o : ℕ) → is_shop_kind k ≡ true → IsTimely i j o → HasOperation k i j o
-has_by Identical i j o s h = absurd (cc)
-has_by Uniform i j o s h = absurd (cc)
-has_by Unrelated i j o s h = absurd (cc)
 has_by OpenShop i j o s h = h
 has_by FlowShop i j o s h = h
 has_by JobShop i j o s h = h
+has_by _ i j o s h = absurd (cc)
 
 by_has : (k : EnvKind) (i : Instance) (j o : ℕ) → is_shop_kind k ≡ true → HasOperation k i j o → IsTimely i j o
-by_has Identical i j o s h = absurd (cc)
-by_has Uniform i j o s h = absurd (cc)
-by_has Unrelated i j o s h = absurd (cc)
 by_has OpenShop i j o s h = h
 by_has FlowShop i j o s h = h
 by_has JobShop i j o s h = h
+by_has _ i j o s h = absurd (cc)
 
 may_by : (k : EnvKind) (i : Instance) (j o m : ℕ) → is_shop_kind k ≡ true → m ≡ (need_at i j o).machine → MayRun k i j o m
-may_by Identical i j o m s h = absurd (cc)
-may_by Uniform i j o m s h = absurd (cc)
-may_by Unrelated i j o m s h = absurd (cc)
 may_by OpenShop i j o m s h = h
 may_by FlowShop i j o m s h = h
 may_by JobShop i j o m s h = h
+may_by _ i j o m s h = absurd (cc)
 
 whole_by : (k : EnvKind) (i : Instance) (unit : ℤ) (p : Piece) → is_shop_kind k ≡ true → length_of p ≡ unit *ℤ pos (need_at i p.job p.op).time → IsWholeWork k i unit p
-whole_by Identical i unit p s h = absurd (cc)
-whole_by Uniform i unit p s h = absurd (cc)
-whole_by Unrelated i unit p s h = absurd (cc)
 whole_by OpenShop i unit p s h = h
 whole_by FlowShop i unit p s h = h
 whole_by JobShop i unit p s h = h
+whole_by _ i unit p s h = absurd (cc)
 
 sums_by : (k : EnvKind) (i : Instance) (ps : List Piece) (j o : ℕ) (unit : ℤ)
     → is_shop_kind k ≡ true → total (map length_of ps) ≡ unit *ℤ pos (need_at i j o).time → total (map (work_of k i) ps) ≡ unit *ℤ pos (whole_work k i j o)
-sums_by Identical i ps j o unit s h = absurd (cc)
-sums_by Uniform i ps j o unit s h = absurd (cc)
-sums_by Unrelated i ps j o unit s h = absurd (cc)
 sums_by OpenShop i ps j o unit s h = h
 sums_by FlowShop i ps j o unit s h = h
 sums_by JobShop i ps j o unit s h = h
+sums_by _ i ps j o unit s h = absurd (cc)
 
 route_by : (k : EnvKind) (ps : List Piece) → is_shop_kind k ≡ true → (k ≡ OpenShop) ⊎ All (λ p. All (λ q. p.job ≡ q.job → p.op < q.op → IsBefore p q) ps) ps → FollowsRoute k ps
-route_by Identical ps s h = absurd (cc)
-route_by Uniform ps s h = absurd (cc)
-route_by Unrelated ps s h = absurd (cc)
 route_by OpenShop ps s h = tt
-route_by FlowShop ps s (inl e) = absurd (cc)
 route_by FlowShop ps s (inr h) = h
-route_by JobShop ps s (inl e) = absurd (cc)
 route_by JobShop ps s (inr h) = h
+route_by FlowShop ps s (inl e) = absurd (cc)
+route_by JobShop ps s (inl e) = absurd (cc)
+route_by _ ps s h = absurd (cc)
 
 -- the unit is within the limits of an answer
 unit_by : (k : EnvKind) → is_shop_kind k ≡ true → pos 1 ≤ℤ answer_unit k
-unit_by Identical s = absurd (cc)
-unit_by Uniform s = absurd (cc)
-unit_by Unrelated s = absurd (cc)
 unit_by OpenShop s = omega (arith, ints)
 unit_by FlowShop s = omega (arith, ints)
 unit_by JobShop s = omega (arith, ints)
+unit_by _ s = absurd (cc)
 
 not_unrelated : (k : EnvKind) → is_shop_kind k ≡ true → k ≡ Unrelated → ⊥
 not_unrelated k s e = never (sym (ap is_shop_kind e) ∙ s)

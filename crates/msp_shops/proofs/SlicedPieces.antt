@@ -2,7 +2,7 @@
 use Rattle.std.proofs.Common.{◌≡◌, ◌≢◌, ℕ, zero, suc, ◌+◌, ◌*◌, ◌<◌, ◌≤◌, ◌⊎◌, inl, inr, Bool, true, false, cond, eqb, ltb, List, [], ◌∷◌, ◌++◌, length, length-append, get_or}
 use Rattle.std.proofs.Common.{drop, map, filter, All, AllPairs, ℤ, pos, ◌+ℤ◌, ◌≤ℤ◌, ◌<ℤ◌, ◌-ℤ◌, refl, sym, ap, ap₂, subst, ◌∙◌, arith}
 use Rattle.std.specs.Prelude.{◌==◌, ◌&&◌}
-use Rattle.std.proofs.lemmas.Bool.{cases_lt, ltb-true, ltb-false, eq-eqb, ne_eqb}
+use Rattle.std.proofs.lemmas.Bool.{cond_both, cases_lt, ltb-true, ltb-false, eq-eqb, ne_eqb}
 use Rattle.std.proofs.lemmas.Int.{ints}
 use Rattle.std.proofs.lemmas.List.{map-append, drop_more}
 use Rattle.std.proofs.lemmas.List.Elements.{All-nil, All-cons, All-append, All-head, All-tail, All-drop, filter-append}
@@ -59,26 +59,14 @@ module _ (columns : ℕ) (moment : ℤ) (s : Slice) where
     pub to : p.to ≡ moment +ℤ s.length
 
   part_is : (n : ℕ) → All (λ p. (p.op ≡ n) × IsRowPiece p) (row_part columns moment s n)
-  part_is n = by (ltb (column_of s n) columns) refl
-    where
-      by : (b : Bool) → ltb (column_of s n) columns ≡ b → All (λ p. (p.op ≡ n) × IsRowPiece p) (cond b (row_piece moment s n ∷ []) [])
-      by true e = All-cons (λ p. (p.op ≡ n) × IsRowPiece p) (row_piece moment s n)
-          [] (refl, record { machine = refl; column = refl; job = ltb-true _ _ e; from = refl; to = refl }) (All-nil (λ p. (p.op ≡ n) × IsRowPiece p))
-      by false e = All-nil (λ p. (p.op ≡ n) × IsRowPiece p)
+  part_is n = cond_both (ltb (column_of s n) columns) (row_piece moment s n ∷ []) [] (All (λ p. (p.op ≡ n) × IsRowPiece p)) (λ e. All-cons (λ p. (p.op ≡ n) × IsRowPiece p) (row_piece moment s n)
+      [] (refl, record { machine = refl; column = refl; job = ltb-true _ _ e; from = refl; to = refl }) (All-nil (λ p. (p.op ≡ n) × IsRowPiece p))) (λ _. All-nil (λ p. (p.op ≡ n) × IsRowPiece p))
 
   part_few : (n : ℕ) → length (row_part columns moment s n) ≤ 1
-  part_few n = by (ltb (column_of s n) columns)
-    where
-      by : (b : Bool) → length (cond b (row_piece moment s n ∷ []) []) ≤ 1
-      by true = omega arith
-      by false = omega arith
+  part_few n = cond_both (ltb (column_of s n) columns) (row_piece moment s n ∷ []) [] (λ ps. length ps ≤ 1) (λ _. omega arith) (λ _. omega arith)
 
   part_pairs : (R : Piece → Piece → Type 0) (n : ℕ) → AllPairs R (row_part columns moment s n)
-  part_pairs R n = by (ltb (column_of s n) columns)
-    where
-      by : (b : Bool) → AllPairs R (cond b (row_piece moment s n ∷ []) [])
-      by true = pairs_one R (row_piece moment s n)
-      by false = pairs_nil R
+  part_pairs R n a b d l m = absurd (omega (arith, l, m, part_few n))
 
   differ : (rows q r : ℕ) → IsSlice rows columns s → q < r → r < rows → (x y : Piece) → (x.op ≡ q) × IsRowPiece x → (y.op ≡ r) × IsRowPiece y → Differ x y
   differ rows q r w below inside x y (is, h) (same, g) = (
@@ -88,14 +76,13 @@ module _ (columns : ℕ) (moment : ℤ) (s : Slice) where
 
   module _ (c r : ℕ) (inside : c < columns) where
     part_other : (n : ℕ) → n ≢ r → among c r (row_part columns moment s n) ≡ pos 0
-    part_other n other = by (ltb (column_of s n) columns)
-      where
-        by : (b : Bool) → among c r (cond b (row_piece moment s n ∷ []) []) ≡ pos 0
-        by true = ap (λ v. sum (map length_of (cond v (row_piece moment s n ∷ []) []))) (and_false (column_of s n == c) (n == r) (ne_eqb n r other))
-        by false = refl
+    part_other n other = cond_both (ltb (column_of s n) columns) (row_piece moment s n ∷ []) [] (λ ps. among c r ps ≡ pos 0)
+        (λ _. ap (λ v. sum (map length_of (cond v (row_piece moment s n ∷ []) []))) (and_false (column_of s n == c) (n == r) (ne_eqb n r other))) (λ _. refl)
 
     part_same : among c r (row_part columns moment s r) ≡ time_at r c s
-    part_same = by (ltb (column_of s r) columns) refl
+    part_same = cond_both (ltb (column_of s r) columns) (row_piece moment s r ∷ []) [] (λ ps. among c r ps ≡ time_at r c s)
+        (λ _. ap (λ v. sum (map length_of (cond v (row_piece moment s r ∷ []) []))) (and_true (column_of s r == c) (r == r) (eq-eqb r r refl)) ∙ whole (eqb (column_of s r) c))
+        (λ e. sym (ap (λ v. cond v s.length (pos 0)) (ne_eqb (column_of s r) c (λ z. omega (arith, ltb-false _ _ e, z, inside)))))
       where
         lasts : (m x : ℤ) → (pos 0 +ℤ ((m +ℤ x) -ℤ m)) ≡ x
         lasts m x = omega (arith, ints)
@@ -103,10 +90,6 @@ module _ (columns : ℕ) (moment : ℤ) (s : Slice) where
         whole : (v : Bool) → sum (map length_of (cond v (row_piece moment s r ∷ []) [])) ≡ cond v s.length (pos 0)
         whole true = lasts moment s.length
         whole false = refl
-
-        by : (b : Bool) → ltb (column_of s r) columns ≡ b → among c r (cond b (row_piece moment s r ∷ []) []) ≡ time_at r c s
-        by true e = ap (λ v. sum (map length_of (cond v (row_piece moment s r ∷ []) []))) (and_true (column_of s r == c) (r == r) (eq-eqb r r refl)) ∙ whole (eqb (column_of s r) c)
-        by false e = sym (ap (λ v. cond v s.length (pos 0)) (ne_eqb (column_of s r) c (λ z. omega (arith, ltb-false _ _ e, z, inside))))
 
 -- ---- all slices
 pub lengths_from : (slices : List Slice) → All (λ s. pos 1 ≤ℤ s.length) slices → pos 0 ≤ℤ total (λ s. s.length) slices
@@ -133,11 +116,7 @@ slice_rest slices k x d end g l e h =
 
 module _ (rows columns : ℕ) where
   not_negative : (r c : ℕ) (s : Slice) → pos 1 ≤ℤ s.length → pos 0 ≤ℤ time_at r c s
-  not_negative r c s l = by (eqb (column_of s r) c)
-    where
-      by : (b : Bool) → pos 0 ≤ℤ cond b s.length (pos 0)
-      by true = omega (arith, ints, l)
-      by false = omega (arith, ints)
+  not_negative r c s l = cond_both (eqb (column_of s r) c) s.length (pos 0) (λ x. pos 0 ≤ℤ x) (λ _. omega (arith, ints, l)) (λ _. omega (arith, ints))
 
   none_negative : (r c : ℕ) (slices : List Slice) → All (IsSlice rows columns) slices → pos 0 ≤ℤ total (time_at r c) slices
   none_negative r c [] h = omega (arith, ints)
@@ -281,14 +260,12 @@ module _ (rows columns : ℕ) where
 
   laid_work : (c r n : ℕ) → c < columns → r < n → (slices : List Slice) → among c r (laid columns slices n) ≡ total (time_at r c) slices
   laid_work c r zero inside l slices = absurd (omega (arith, l))
-  laid_work c r (suc n) inside l slices = among-append c r (laid columns slices n) (row_parts columns (pos 0) n slices) ∙ by (cases_lt r n) (λ m. laid_work c r n inside m slices)
-    where
-      by : (r < n) ⊎ (n ≤ r) → (r < n → among c r (laid columns slices n) ≡ total (time_at r c) slices)
-          → among c r (laid columns slices n) +ℤ among c r (row_parts columns (pos 0) n slices) ≡ total (time_at r c) slices
-      by (inl m) before = omega (arith, ints, before m, other_work c r n inside (λ z. omega (arith, m, z)) (pos 0) slices)
-      by (inr m) before =
-          let z : n ≡ r = omega (arith, l, m) in
-          omega (arith, ints, work_before c r n inside m slices, ap (λ k. among c r (row_parts columns (pos 0) k slices)) z, row_work c r inside (pos 0) slices)
+  laid_work c r (suc n) inside l slices = among-append c r (laid columns slices n) (row_parts columns (pos 0) n slices) ∙ elim (cases_lt r n) [
+    | inl m ↦ omega (arith, ints, laid_work c r n inside m slices, other_work c r n inside (λ z. omega (arith, m, z)) (pos 0) slices)
+    | inr m ↦
+        let z : n ≡ r = omega (arith, l, m) in
+        omega (arith, ints, work_before c r n inside m slices, ap (λ k. among c r (row_parts columns (pos 0) k slices)) z, row_work c r inside (pos 0) slices)
+  ]
 
   -- what is said of the pieces of slices, and holds too where they are joined
   pub record AreLaid (slices : List Slice) (pieces : List Piece) : Type 0 where

@@ -1,6 +1,6 @@
 -- The threshold laws of two stages of work: lower bounds on the end that do not ask in which order a machine takes the items.
-use Rattle.std.proofs.Common.{◌≡◌, ℕ, zero, suc, ◌+◌, ◌*◌, ◌-◌, ◌≤◌, ◌⊎◌, inl, inr, min, Bool, true, false, cond, leb, List, [], ◌∷◌, get_or, All, Contains, sum_by, refl, ap, arith}
-use Rattle.std.proofs.lemmas.Bool.{leb-true, leb-false, le-leb}
+use Rattle.std.proofs.Common.{◌≡◌, ℕ, zero, suc, ◌+◌, ◌*◌, ◌-◌, ◌≤◌, ◌⊎◌, inl, inr, min, Bool, true, false, cond, leb, List, [], ◌∷◌, get_or, All, Contains, sum_by, refl, sym, ap, ◌∙◌, arith}
+use Rattle.std.proofs.lemmas.Bool.{cond_both, cases_lt, leb-true, leb-false, le-leb, lt-leb}
 use Rattle.std.proofs.lemmas.List.Elements.{All-nil, All-cons, All-head, All-tail, All-contains}
 use Rattle.msp_class.proofs.Sums.{sum_by-cons, sum_by-mono, sum_by-same}
 use Rattle.msp_shops.proofs.Cut.{HaveTwoStages, around_cut, cut_law}
@@ -19,11 +19,10 @@ module _ {X : Type 0} (p : X → Bool) (f : X → ℕ) where
       by false e (inr (q, (c, t, l))) = inr (q, ((suc c.0, omega (arith, c.1), c.2), t, All-cons (λ y. p y ≡ true → f q ≤ f y) x xs (λ h. absurd (cc)) l))
       by true e (inl none) =
           inr (x, ((0, omega arith, refl), e, All-cons (λ y. p y ≡ true → f x ≤ f y) x xs (λ h. omega arith) (λ k d m h. let no : p (get_or xs k d) ≡ false = none k d m in absurd (cc))))
-      by true e (inr (q, (c, t, l))) = choose (leb (f q) (f x)) refl
-        where
-          choose : (b : Bool) → leb (f q) (f x) ≡ b → All (λ y. p y ≡ false) (x ∷ xs) ⊎ ((r : X) × IsEarliest (x ∷ xs) r)
-          choose true less = inr (q, ((suc c.0, omega (arith, c.1), c.2), t, All-cons (λ y. p y ≡ true → f q ≤ f y) x xs (λ h. leb-true (f q) (f x) less) l))
-          choose false more = inr (x, ((0, omega arith, refl), e, All-cons (λ y. p y ≡ true → f x ≤ f y) x xs (λ h. omega arith) (λ k d m h. omega (arith, leb-false (f q) (f x) more, l k d m h))))
+      by true e (inr (q, (c, t, l))) = elim (cases_lt (f x) (f q)) [
+        | inl more ↦ inr (x, ((0, omega arith, refl), e, All-cons (λ y. p y ≡ true → f x ≤ f y) x xs (λ h. omega arith) (λ k d m h. omega (arith, more, l k d m h))))
+        | inr less ↦ inr (q, ((suc c.0, omega (arith, c.1), c.2), t, All-cons (λ y. p y ≡ true → f q ≤ f y) x xs (λ h. less) l))
+      ]
 
   earliest_of : (xs : List X) (x : X) → Contains xs x → p x ≡ true → (q : X) × IsEarliest xs q
   earliest_of xs x c t = elim (earliest xs) [ inl none ↦ (let no : p x ≡ false = All-contains (λ y. p y ≡ false) xs x none c in absurd (cc)) | inr q ↦ q ]
@@ -46,25 +45,17 @@ module _ {X : Type 0} (first second ready : X → ℕ) (unit end : ℕ) (items :
 
   -- an item adds as much around any cut before which no first time that reaches the threshold is over
   adds : (a b e z : ℕ) → (t : Bool) → (t ≡ true → z ≤ e) → (s r : Bool) → leb e z ≡ s → leb z e ≡ r → cond t b (min a b) ≤ cond s a 0 + cond r b 0
-  adds a b e z t late true true i j = by t
-    where
-      by : (t : Bool) → cond t b (min a b) ≤ a + b
-      by true = omega arith
-      by false = omega arith
+  adds a b e z t late true true i j = cond_both t b (min a b) (λ x. x ≤ a + b) (λ _. omega arith) (λ _. omega arith)
   adds a b e z true late s false i j = absurd (omega (arith, late refl, leb-false z e j))
   adds a b e z false late true false i j = omega arith
-  adds a b e z t late false true i j = by t
-    where
-      by : (t : Bool) → cond t b (min a b) ≤ 0 + b
-      by true = omega arith
-      by false = omega arith
+  adds a b e z t late false true i j = cond_both t b (min a b) (λ x. x ≤ 0 + b) (λ _. omega arith) (λ _. omega arith)
   adds a b e z false late false false i j = absurd (omega (arith, leb-false e z i, leb-false z e j))
 
   at_cut : (a b z : ℕ) → least ≤ a → (s r o : Bool) → leb z z ≡ s → leb z z ≡ r → least + cond o b (min a b) ≤ cond s a 0 + cond r b 0
-  at_cut a b z l true true true i j = omega arith
-  at_cut a b z l true true false i j = omega arith
   at_cut a b z l false r o i j = absurd (omega (arith, leb-false z z i))
   at_cut a b z l true false o i j = absurd (omega (arith, leb-false z z j))
+  at_cut a b z l true true true i j = omega arith
+  at_cut a b z l true true false i j = omega arith
 
   pub threshold : (x : X) → Contains items x → least ≤ first x → unit * (least + sum_by (added first second least) items) ≤ end
   threshold x c l =
@@ -80,13 +71,10 @@ module _ {X : Type 0} (first second ready : X → ℕ) (unit end : ℕ) (items :
 
 -- ---- the law from the second machine: the same read from the end
 same_test : (a b c d : ℕ) → a + d ≡ b + c → leb a b ≡ leb c d
-same_test a b c d e = by (leb a b) refl (leb c d) refl
-  where
-    by : (s : Bool) → leb a b ≡ s → (t : Bool) → leb c d ≡ t → s ≡ t
-    by true f true g = refl
-    by true f false g = absurd (omega (arith, e, leb-true a b f, leb-false c d g))
-    by false f true g = absurd (omega (arith, e, leb-false a b f, leb-true c d g))
-    by false f false g = refl
+same_test a b c d e = elim (cases_lt b a) [
+  | inl l ↦ lt-leb a b l ∙ sym (lt-leb c d (omega (arith, e, l)))
+  | inr l ↦ le-leb a b l ∙ sym (le-leb c d (omega (arith, e, l)))
+]
 
 mirrored : {X : Type 0} (first second ready : X → ℕ) (unit end : ℕ) (items : List X) → HaveTwoStages first second ready unit end items
     → HaveTwoStages second first (λ x. end - ready x) unit end items

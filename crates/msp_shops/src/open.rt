@@ -132,22 +132,8 @@ fn open_pieces(alloc: Global, inst: &Instance) -> Result<List<Piece>, NoMemory>
     lay(alloc, turn(&special), &exchanged, ON_SECOND, ON_FIRST)
 }
 
-/// A best schedule of an open shop of two machines: a job whose lesser time is greatest runs first on one machine and last on the other,
-/// and between them the other jobs, each as early as it can (Gonzalez and Sahni 1976).
-fn open_shop(alloc: Global, inst: &Instance) -> Result<Solution, NoMemory>
-    requires inner { Inner inst.now }
-    requires class { inst.now.class ≡ open_class }
-    ensures best { IfOk result (λ s. IsBest inst.now s) }
-    ensures bounds { IfOk result (λ s. IsAnswer inst.now s.schedule) }
-    ensures cost { IfOk result (λ s. IsOpenCost inst.now s.cost) }
-{
-    let pieces = open_pieces(alloc, inst)?;
-    let schedule = Schedule { unit: 1, pieces };
-    let cost = msp_pieces::cost(inst, &schedule);
-    Ok(Solution { schedule, cost })
-}
-
-/// Finds a schedule of least length in an open shop of two machines (Gonzalez and Sahni 1976).
+/// Finds a schedule of least length in an open shop of two machines: a job whose lesser time is greatest runs first on one machine and
+/// last on the other, and between them the other jobs, each as early as it can (Gonzalez and Sahni 1976).
 #[derive(Clone, Copy)]
 pub struct Open2;
 
@@ -169,6 +155,9 @@ impl Solver for Open2 {
         ensures bounds { IfOk result (λ s. IsAnswer inst.now s.schedule) }
         ensures cost { IfOk result (λ s. IsOpenCost inst.now s.cost) }
     {
-        open_shop(alloc, inst)
+        let pieces = open_pieces(alloc, inst)?;
+        let schedule = Schedule { unit: 1, pieces };
+        let cost = msp_pieces::cost(inst, &schedule);
+        Ok(Solution { schedule, cost })
     }
 }

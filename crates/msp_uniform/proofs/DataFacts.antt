@@ -24,45 +24,45 @@ use Rattle.msp_uniform.proofs.FirstFacts.{speed_most}
 pub speeds_are : (i : Instance) → i.class ≡ cut_class → Inner i → length i.speeds ≡ i.machines
 speeds_are i class inner = (IsOfClass-from i cut_class class inner).speeds.0
 
+pub record IsData (ts sp : List ℕ) : Type 0 where
+  pub few_jobs : length ts ≤ MOST_JOBS
+  pub few_machines : length sp ≤ MOST_MACHINES
+  pub some_machines : 1 ≤ length sp
+  pub times : All (λ p. (1 ≤ p) × (p ≤ GREATEST)) ts
+  pub speeds : All (λ s. (1 ≤ s) × (s ≤ GREATEST_SPEED)) sp
+  pub multiple : HasSmallMultiple sp
+
 module _ (i : Instance) (class : i.class ≡ cut_class) (inner : Inner i) (ts sp : List ℕ) (a : AreTimes i ts) (b : sp ≡ i.speeds) where
   h : IsOfClass i cut_class
   h = IsOfClass-from i cut_class class inner
 
-  pub many_times : length ts ≡ length i.jobs
+  many_times : length ts ≡ length i.jobs
   many_times = ap length a ∙ length-map i.jobs (λ j. (get_or j.needs 0 no_need).time)
-
-  pub times_few : length ts ≤ MOST_JOBS
-  times_few = omega (arith, many_times, h.few)
 
   pub many_speeds : length sp ≡ i.machines
   many_speeds = ap length b ∙ h.speeds.0
 
-  pub speeds_few : length sp ≤ MOST_MACHINES
-  speeds_few = omega (arith, many_speeds, h.machines)
-
-  pub speeds_some : 1 ≤ length sp
-  speeds_some = omega (arith, many_speeds, h.machine)
-
-  pub times_fit : All (λ p. (1 ≤ p) × (p ≤ GREATEST)) ts
-  times_fit = subst (All (λ p. (1 ≤ p) × (p ≤ GREATEST))) (sym a)
-      (All-map (λ p. (1 ≤ p) × (p ≤ GREATEST)) (λ j. (get_or j.needs 0 no_need).time) i.jobs (λ k d l. let n = (h.jobs k d l).needs in n.times 0 no_need (omega (arith, n.shape.0))))
-
-  pub speeds_fit : All (λ s. (1 ≤ s) × (s ≤ GREATEST_SPEED)) sp
-  speeds_fit = subst (All (λ s. (1 ≤ s) × (s ≤ GREATEST_SPEED))) (sym b) h.speeds.1
-
-  pub speeds_multiple : HasSmallMultiple sp
-  speeds_multiple = subst HasSmallMultiple (sym b) h.multiple
+  pub data_of : IsData ts sp
+  data_of = record {
+    few_jobs = omega (arith, many_times, h.few);
+    few_machines = omega (arith, many_speeds, h.machines);
+    some_machines = omega (arith, many_speeds, h.machine);
+    times = subst (All (λ p. (1 ≤ p) × (p ≤ GREATEST))) (sym a)
+        (All-map (λ p. (1 ≤ p) × (p ≤ GREATEST)) (λ j. (get_or j.needs 0 no_need).time) i.jobs (λ k d l. let n = (h.jobs k d l).needs in n.times 0 no_need (omega (arith, n.shape.0))));
+    speeds = subst (All (λ s. (1 ≤ s) × (s ≤ GREATEST_SPEED))) (sym b) h.speeds.1;
+    multiple = subst HasSmallMultiple (sym b) h.multiple;
+  }
 
   -- ---- the task
   module _ (jobs machines : List ℕ) (w v multiple : ℕ) (jobs_by : IsByFalling (length ts) (at ts) jobs) (machines_by : IsByFalling (length sp) (at sp) machines)
       (greatest : IsGreatest (at ts) (at sp) jobs machines w v) (least : IsLeastOfAll sp multiple) (fits : HasSmallUnit i) (t : Task)
       (times_is : t.times.items ≡ ts) (speeds_is : t.speeds.items ≡ sp) (work_is : t.work ≡ w) (speed_is : t.speed ≡ v) (multiple_is : t.multiple ≡ multiple) where
-    pub IsTask-of : IsTask t
+    IsTask-of : IsTask t
     IsTask-of = record {
-      few_jobs = omega (arith, ap length times_is, times_few);
-      few_machines = omega (arith, ap length speeds_is, speeds_few);
-      times = subst (All (λ p. (1 ≤ p) × (p ≤ GREATEST))) (sym times_is) times_fit;
-      speeds = subst (All (λ s. (1 ≤ s) × (s ≤ GREATEST_SPEED))) (sym speeds_is) speeds_fit;
+      few_jobs = omega (arith, ap length times_is, data_of.few_jobs);
+      few_machines = omega (arith, ap length speeds_is, data_of.few_machines);
+      times = subst (All (λ p. (1 ≤ p) × (p ≤ GREATEST))) (sym times_is) data_of.times;
+      speeds = subst (All (λ s. (1 ≤ s) × (s ≤ GREATEST_SPEED))) (sym speeds_is) data_of.speeds;
       common = subst (All (λ s. s ∣ t.multiple)) (sym speeds_is) (subst (λ m. All (λ s. s ∣ m) sp) (sym multiple_is) least.common);
     }
 
@@ -75,14 +75,14 @@ module _ (i : Instance) (class : i.class ≡ cut_class) (inner : Inner i) (ts sp
             (multiple_least sp multiple least n some (subst (All (λ s. (times : ℕ) × (n ≡ times * s))) (sym b) c)))
             (subst (λ x. sum sp * gap sp ^ (x - 1) * n ≤ GREATEST_PRODUCT) (sym many_speeds) (subst (λ x. sum x * gap x ^ (i.machines - 1) * n ≤ GREATEST_PRODUCT) (sym b) l))
 
-    pub IsAsked-of : IsAsked t jobs machines
+    IsAsked-of : IsAsked t jobs machines
     IsAsked-of = record {
       jobs_by = subst (λ x. IsByFalling (length x) (at x) jobs) (sym times_is) jobs_by;
       machines_by = subst (λ x. IsByFalling (length x) (at x) machines) (sym speeds_is) machines_by;
       greatest = subst (λ x. IsGreatest (at x) (at t.speeds.items) jobs machines t.work t.speed) (sym times_is) (subst (λ x. IsGreatest (at ts) (at x) jobs machines t.work t.speed)
           (sym speeds_is) (subst (λ x. IsGreatest (at ts) (at sp) jobs machines x t.speed) (sym work_is) (subst (λ x. IsGreatest (at ts) (at sp) jobs machines w x) (sym speed_is) greatest)));
       some_jobs = omega (arith, ap length times_is, many_times, h.some);
-      some_machines = omega (arith, ap length speeds_is, speeds_some);
+      some_machines = omega (arith, ap length speeds_is, data_of.some_machines);
       small_unit = subst (λ x. t.speed * gap x ^ (length x - 1) * t.multiple ≤ GREATEST_PRODUCT) (sym speeds_is)
           (subst (λ x. x * gap sp ^ (length sp - 1) * t.multiple ≤ GREATEST_PRODUCT) (sym speed_is) (subst (λ x. v * gap sp ^ (length sp - 1) * x ≤ GREATEST_PRODUCT) (sym multiple_is) small));
       some = subst (λ x. 1 ≤ x) (sym multiple_is) least.some;

@@ -3,6 +3,7 @@ use Rattle.std.proofs.Common.{◌≡◌, ◌≢◌, ℕ, zero, suc, ◌*◌, ◌
 use Rattle.std.proofs.Math.Nat.{le_trans, mul-le-mul_left, mul-le-mul_right}
 use Rattle.std.proofs.lemmas.List.{get_or-replicate, length-replicate, take_all}
 use Rattle.std.proofs.lemmas.List.Elements.{All-nil, All-cons, All-head, All-tail}
+use Rattle.std.proofs.lemmas.List.Sums.{sum_by-le, sum_by-take-le}
 use Rattle.msp_class.specs.declared.sizes.TheConstants.{MOST_MACHINES, GREATEST}
 use Rattle.msp_class.specs.Sums.{total_below}
 use Rattle.msp_class.proofs.Sums.{sum_by-cons, sum_by-OnceBelow, OnceBelow-from_permutation, OnceBelow-contains, total_below-same, total_below-scale, total_below-none}
@@ -36,15 +37,6 @@ take-mono f (suc a) zero xs l = absurd (omega (arith, l))
 take-mono f (suc a) (suc b) [] l = omega arith
 take-mono f (suc a) (suc b) (x ∷ xs) l = omega (arith, sum_by-cons f x (take a xs), sum_by-cons f x (take b xs), take-mono f a b xs (omega (arith, l)))
 
-pub take-all : (f : ℕ → ℕ) (a : ℕ) (xs : List ℕ) → sum_by f (take a xs) ≤ sum_by f xs
-take-all f zero xs = omega arith
-take-all f (suc a) [] = omega arith
-take-all f (suc a) (x ∷ xs) = omega (arith, sum_by-cons f x (take a xs), sum_by-cons f x xs, take-all f a xs)
-
-pub sum-small : (f : ℕ → ℕ) (b : ℕ) (xs : List ℕ) → All (λ x. f x ≤ b) xs → sum_by f xs ≤ length xs * b
-sum-small f b [] h = omega arith
-sum-small f b (x ∷ xs) h = omega (arith, sum_by-cons f x xs, All-head (λ x. f x ≤ b) x xs h, sum-small f b xs (All-tail (λ x. f x ≤ b) x xs h))
-
 module _ (t : Task) (k : IsTask t) (jobs machines : List ℕ) (a : IsAsked t jobs machines) where
   abbrev n : ℕ
   n = length t.times.items
@@ -77,15 +69,13 @@ module _ (t : Task) (k : IsTask t) (jobs machines : List ℕ) (a : IsAsked t job
   time_in i d l = (k.times _ 0 (job_in i d l)).1
 
   work_small : t.work ≤ greatest_work
-  work_small = by a.greatest.reached
+  work_small = elim a.greatest.reached [
+    | inl (e, f) ↦ omega (arith, e, all_small)
+    | inr (i, p, q, r, e, f) ↦ omega (arith, e, sum_by-take-le time jobs i, all_small)
+  ]
     where
       all_small : sum_by time jobs ≤ greatest_work
-      all_small = omega (arith, sum-small time GREATEST jobs time_in, many_jobs, k.few_jobs)
-
-      by : ((t.work ≡ sum_by time jobs) × (t.speed ≡ sum_by speed machines))
-          ⊎ ((i : ℕ) × (1 ≤ i) × (i < length machines) × (i ≤ length jobs) × (t.work ≡ sum_by time (take i jobs)) × (t.speed ≡ sum_by speed (take i machines))) → t.work ≤ greatest_work
-      by (inl (e, f)) = omega (arith, e, all_small)
-      by (inr (i, p, q, r, e, f)) = omega (arith, e, take-all time i jobs, all_small)
+      all_small = omega (arith, sum_by-le time GREATEST jobs time_in, many_jobs, k.few_jobs)
 
   work_some : 1 ≤ t.work
   work_some = by t.work (sum_by time jobs) t.speed
@@ -111,7 +101,7 @@ module _ (t : Task) (k : IsTask t) (jobs machines : List ℕ) (a : IsAsked t job
           (le_trans (a.greatest.firsts (length jobs) (omega (arith, b, c)) (omega arith)) (mul-le-mul_left t.work (take-mono speed (length jobs) i machines (omega (arith, c)))))
       by (inr b) c =
           subst (λ ms. sum_by time (take i jobs) * t.speed ≤ t.work * sum_by speed ms) (sym (take_all i machines b))
-          (le_trans (mul-le-mul_right t.speed (take-all time i jobs)) a.greatest.total)
+          (le_trans (mul-le-mul_right t.speed (sum_by-take-le time jobs i)) a.greatest.total)
 
   module _ (x : Segment) (long : x.length ≡ t.work) (none : x.body.value.jobs ≡ replicate (length machines) n) (free : x.body.value.free ≡ machines) where
     nothing : (i : ℕ) → i < m → job_on x i ≡ n
@@ -130,15 +120,11 @@ module _ (t : Task) (k : IsTask t) (jobs machines : List ℕ) (a : IsAsked t job
       machines = λ r l. subst (λ p. p < m) (sym (place_is r)) (order_within m speed machines a.machines_by r 0 l);
       idle = λ r l. ap (job_on x) (place_is r) ∙ nothing (at machines r) (order_within m speed machines a.machines_by r 0 l);
       apart = λ q r l b e. order_distinct m speed machines a.machines_by q r 0 l b (sym (place_is q) ∙ e ∙ place_is r);
-      falls = λ q r l b. by q r l b (same_or_not q r);
+      falls = λ q r l b. elim (same_or_not q r) [
+        | inl e ↦ subst (λ z. speed (place_at x r) ≤ speed (place_at x z)) (sym e) (omega arith)
+        | inr d ↦ omega (arith, ap speed (place_is q), ap speed (place_is r), a.machines_by.falls q r 0 (omega (arith, l, d)) b)
+      ];
     }
-      where
-        by : (q r : ℕ) → q ≤ r → r < length machines → (q ≡ r) ⊎ (q ≢ r) → speed (place_at x r) ≤ speed (place_at x q)
-        by q r l b (inl e) = subst (λ z. speed (place_at x r) ≤ speed (place_at x z)) (sym e) (omega arith)
-        by q r l b (inr d) = omega (arith, ap speed (place_is q), ap speed (place_is r), a.machines_by.falls q r 0 (less q r l d) b)
-          where
-            less : (q r : ℕ) → q ≤ r → q ≢ r → q < r
-            less q r l d = grind arith
 
     holds : (r : ℕ) → amount (rate_at speed r) (x ∷ []) ≡ t.work * speed (at machines r)
     holds r = omega (arith, sum_by-cons (λ y. y.length * rate_at speed r y) x [], ap (λ l. l * rate_at speed r x) long, ap (λ p. t.work * speed p) (place_is r))
@@ -150,22 +136,19 @@ module _ (t : Task) (k : IsTask t) (jobs machines : List ℕ) (a : IsAsked t job
     all_need : (i : ℕ) → total_below i (works time t.speed jobs) ≡ t.speed * sum_by time (take i jobs)
     all_need i = total_below-scale i t.speed (λ r. at (map time jobs) r) ∙ ap (λ s. t.speed * s) (first_values time i jobs)
 
+    compared : (p q s r : ℕ) → p ≡ t.speed * s → q ≡ t.work * r → s * t.speed ≤ t.work * r → p ≤ q
+    compared p q s r e f l = omega (arith, e, f, l)
+
     turned : (i : ℕ) → i ≤ length machines → total_below i (works time t.speed jobs) ≤ total_below i (λ r. amount (rate_at speed r) (x ∷ []))
-    turned i l = by _ _ _ _ (all_need i) (all_hold i l) (fits i l)
-      where
-        by : (p q s r : ℕ) → p ≡ t.speed * s → q ≡ t.work * r → s * t.speed ≤ t.work * r → p ≤ q
-        by p q s r e f l = omega (arith, e, f, l)
+    turned i l = compared _ _ _ _ (all_need i) (all_hold i l) (fits i l)
 
     first_fit : DoFit (length machines) (λ r. amount (rate_at speed r) (x ∷ [])) (length jobs) (works time t.speed jobs)
     first_fit = record {
       firsts = turned;
-      all = by _ _ _ _ (all_need (length jobs)) (all_hold (length machines) (omega arith))
+      all = compared _ _ _ _ (all_need (length jobs)) (all_hold (length machines) (omega arith))
           (subst (λ js. sum_by time js * t.speed ≤ t.work * sum_by speed (take (length machines) machines)) (sym (take_all (length jobs) jobs (omega arith)))
           (subst (λ ms. sum_by time jobs * t.speed ≤ t.work * sum_by speed ms) (sym (take_all (length machines) machines (omega arith))) a.greatest.total));
     }
-      where
-        by : (p q s r : ℕ) → p ≡ t.speed * s → q ≡ t.work * r → s * t.speed ≤ t.work * r → p ≤ q
-        by p q s r e f l = omega (arith, e, f, l)
 
     reached : IsReached t jobs t.speed (length machines) (x ∷ [])
     reached = record {
@@ -205,12 +188,10 @@ only_one xs ys x e f = e ∙ ap (λ l. l ++ x ∷ []) f
 
 -- the speed below the greatest quotient is at most that of all machines
 pub speed_most : (sp jobs machines : List ℕ) (time : ℕ → ℕ) (w v : ℕ) → IsByFalling (length sp) (at sp) machines → IsGreatest time (at sp) jobs machines w v → v ≤ sum sp
-speed_most sp jobs machines time w v o g = by g.reached
+speed_most sp jobs machines time w v o g = elim g.reached [
+  | inl (a, b) ↦ omega (arith, b, all)
+  | inr (k, p, q, r, a, b) ↦ omega (arith, b, sum_by-take-le (at sp) machines k, all)
+]
   where
     all : sum_by (at sp) machines ≡ sum sp
     all = sum_by-OnceBelow (at sp) (OnceBelow-from_permutation o.all) ∙ sym (sum_by-places (λ x. x) sp 0)
-
-    by : ((w ≡ sum_by time jobs) × (v ≡ sum_by (at sp) machines))
-        ⊎ ((k : ℕ) × (1 ≤ k) × (k < length machines) × (k ≤ length jobs) × (w ≡ sum_by time (take k jobs)) × (v ≡ sum_by (at sp) (take k machines))) → v ≤ sum sp
-    by (inl (a, b)) = omega (arith, b, all)
-    by (inr (k, p, q, r, a, b)) = omega (arith, b, take-all (at sp) k machines, all)

@@ -1,124 +1,95 @@
--- What each place on the tape can do from its begin to its end stays the same.
-use Rattle.std.proofs.Common.{◌≡◌, ℕ, zero, suc, ◌+◌, ◌*◌, ◌-◌, ◌<◌, ◌≤◌, ◌⊎◌, inl, inr, false, List, [], ◌∷◌, ◌++◌, length, All, Result, Ok, Err, OnOk, sym, ap, subst, subst₂, ◌∙◌, arith}
+-- What each place on the tape can do from its begin to its end stays the same, and what the next job asks for and leaves.
+use Rattle.std.proofs.Common.{◌≡◌, ℕ, zero, suc, ◌+◌, ◌*◌, ◌-◌, ◌<◌, ◌≤◌, false, inl, inr, List, [], ◌∷◌, ◌++◌, length, sym, ap, subst, subst₂, ◌∙◌, add-one, arith}
 use Rattle.std.proofs.lemmas.List.{length_push, get_or_push, get_or_append_left}
-use Rattle.msp_class.proofs.Sums.{sum_by-append}
+use Rattle.msp_class.specs.Sums.{total_below}
+use Rattle.msp_class.proofs.Sums.{sum_by-cons, sum_by-append}
 use Rattle.msp_uniform.specs.declared.segments.Segment.{Segment}
 use Rattle.msp_uniform.specs.declared.task.Task.{Task}
-use Rattle.msp_uniform.specs.Segments.{at, rate_at, amount, IsAbsent, AreLaid, AreWorks}
-use Rattle.msp_uniform.specs.Plans.{IsTask, IsTaped, DoHold, IsLaidHere, IsLaidOver}
+use Rattle.msp_uniform.specs.Segments.{at, rate_at, amount, AreLaid, AreWorks}
+use Rattle.msp_uniform.specs.Plans.{IsTask, IsTaped, DoHold, CanBeLaid, IsLaidHere, IsLaidOver, IsNextTape}
 use Rattle.msp_class.proofs.Cases.{less_or_not}
-use Rattle.msp_uniform.proofs.TapeFacts.{tape_rest, tape_places}
-use Rattle.msp_uniform.proofs.TapedFacts.{tape_inside, each_of, absent_early, absent_late, over_whole}
-
--- the place before the last is the last now, and has done so much of what it holds
-pub record IsHeldOver (speeds holds : List ℕ) (h more : ℕ) (early late : List Segment) : Type 0 where
-  pub held : DoHold speeds holds h early late
-  pub inside : h < length holds
-  pub rest : at holds h ≡ amount (rate_at (at speeds) h) late + more
+use Rattle.msp_uniform.proofs.TapedFacts.{laid_late, can_here, IsTaped-here}
+use Rattle.msp_uniform.proofs.TurnedTape.{over_late, over_early, over_taped, over_held}
 
 -- the works of one place more
 pub AreWorks-more : (speed : ℕ → ℕ) (p : ℕ) (xs : List Segment) (works works' : List ℕ) (work : ℕ)
     → AreWorks speed p xs works → works' ≡ works ++ work ∷ [] → work ≡ amount (rate_at speed p) xs → AreWorks speed (p + 1) xs works'
 AreWorks-more speed p xs works works' work w e f = subst (AreWorks speed (p + 1) xs) (sym e) (record {
   many = omega (arith, length_push works work, w.many);
-  each = λ k l. by k l (less_or_not k p);
-})
-  where
-    by : (k : ℕ) → k < p + 1 → (k < p) ⊎ (p ≤ k) → at (works ++ work ∷ []) k ≡ amount (rate_at speed k) xs
-    by k l (inl b) = get_or_append_left works (work ∷ []) 0 k (omega (arith, w.many, b)) ∙ w.each k b
-    by k l (inr b) =
+  each = λ k l. elim (less_or_not k p) [
+    | inl b ↦ get_or_append_left works (work ∷ []) 0 k (omega (arith, w.many, b)) ∙ w.each k b
+    | inr b ↦
         let same : p ≡ k = omega (arith, l, b) in
         get_or_push works work 0 k (omega (arith, w.many, same)) ∙ f ∙ ap (λ a. amount (rate_at speed a) xs) same
+  ];
+})
 
 pub DoHold-start : (speeds holds : List ℕ) (h : ℕ) (late : List Segment) → AreWorks (at speeds) h late holds → DoHold speeds holds (h - 1) [] late
 DoHold-start speeds holds h late w = record { many = omega (arith, w.many); each = λ k l. omega (arith, w.each k (omega (arith, l))) }
 
-module _ (t : Task) (k : IsTask t) where
-  abbrev speeds : List ℕ
-  speeds = t.speeds.items
+-- ---- the last place does the next job
+pub record CanStay (t : Task) (sp holds : List ℕ) (j unit h work rest : ℕ) (early late : List Segment) : Type 0 where
+  pub can : CanBeLaid sp h work late
+  pub next : (h' rest' : ℕ) (early' late' : List Segment) → IsLaidHere (at sp) j h work early late early' late' × (h' ≡ h) × (rest' + work ≡ rest) → IsNextTape t holds j unit h early late h' rest' early' late'
 
-  abbrev m : ℕ
-  m = length t.speeds.items
+-- ---- the last place does the rest of what it can, and the place before it more
+pub record CanTurn (t : Task) (sp holds : List ℕ) (j unit h rest more : ℕ) (early late : List Segment) : Type 0 where
+  pub before : 1 ≤ h
+  pub can_late : CanBeLaid sp h rest late
+  pub can_early : CanBeLaid sp (h - 1) more early
+  pub next : (h' : ℕ) (early' late' : List Segment) → IsLaidOver (at sp) j h rest more early late h' early' late'
+      → (h' < length holds) × (more ≤ at holds h') × IsNextTape t holds j unit h early late h' (at holds h' - more) early' late'
 
-  abbrev n : ℕ
-  n = length t.times.items
+module _ (t : Task) (k : IsTask t) (holds : List ℕ) (j : ℕ) (left : List ℕ) (unit : ℕ) where
+  abbrev need : ℕ
+  need = unit * at t.times.items j
 
-  module _ (j : ℕ) (left : List ℕ) (unit h : ℕ) (early late : List Segment) (r : IsTaped t (j ∷ left) unit h early late) (holds : List ℕ) (d : DoHold speeds holds h early late) where
-    pub DoHold-here : (early' late' : List Segment) → IsLaidHere (at speeds) j h (unit * at t.times.items j) early late early' late' → DoHold speeds holds h early' late'
-    DoHold-here early' late' w = subst (λ e. DoHold speeds holds h e late') (sym w.early_is) (record {
-      many = d.many;
-      each = λ i l. omega (
-        arith,
-        d.each i l,
-        tape_places m n (at speeds) h j (unit * at t.times.items j) late w.firsts late'
-            (tape_inside t k j left unit h early late r) (each_of t k j left unit h early late r) (absent_late t k j left unit h early late r) w.laid i l,
-        sum_by-append (λ y. y.length * rate_at (at speeds) i y) early w.firsts,
+  abbrev done : ℕ → List Segment → ℕ
+  done h late = amount (rate_at (at t.speeds.items) h) late
+
+  module _ (h : ℕ) (early late : List Segment) (r : IsTaped t (j ∷ left) unit h early late) (d : DoHold t.speeds.items holds h early late) where
+    stays : need ≤ done h late → CanStay t t.speeds.items holds j unit h need (done h late) early late
+    stays l = record {
+      can = can_here t k j left unit h early late r l;
+      next = λ h' rest' early' late' (w, q, e). subst (λ a. IsNextTape t holds j unit h early late a rest' early' late') (sym q) (
+        let s = laid_late t k j left unit h early late r need w.firsts late' w.laid in
+        record {
+          held = subst (λ e. DoHold t.speeds.items holds h e late') (sym w.early_is)
+              (record { many = d.many; each = λ i b. omega (arith, d.each i b, s.places i b, sum_by-append (λ y. y.length * rate_at (at t.speeds.items) i y) early w.firsts) });
+          left = omega (arith, s.rest, e);
+          taped = λ jobs p. IsTaped-here t k j jobs unit h early late p early' late' w;
+        }
       );
-    })
+    }
 
-  module _ (j : ℕ) (left : List ℕ) (unit g : ℕ) (early late : List Segment) (r : IsTaped t (j ∷ left) unit (suc g) early late)
-      (long : amount (rate_at (at speeds) (suc g)) late < unit * at t.times.items j) (holds : List ℕ) (d : DoHold speeds holds (suc g) early late) where
-    abbrev rest : ℕ
-    rest = amount (rate_at (at speeds) (suc g)) late
+    pub can_stay : (sp : List ℕ) (work rest : ℕ) → sp ≡ t.speeds.items → work ≡ need → rest ≡ done h late → work ≤ rest → CanStay t sp holds j unit h work rest early late
+    can_stay sp work rest e f g l = subst₂ (λ s a. CanStay t s holds j unit h a rest early late)
+        (sym e) (sym f) (subst (λ a. CanStay t t.speeds.items holds j unit h need a early late) (sym g) (stays (omega (arith, f, g, l))))
 
-    abbrev more : ℕ
-    more = unit * at t.times.items j - rest
+  turns : (h : ℕ) (early late : List Segment) → IsTaped t (j ∷ left) unit h early late → DoHold t.speeds.items holds h early late
+      → done h late < need → CanTurn t t.speeds.items holds j unit h (done h late) (need - done h late) early late
+  turns zero early late r d l = absurd (omega
+      (arith, l, sum_by-cons (λ i. unit * at t.times.items i) j left, r.tape.room, ap (λ a. total_below a (λ i. amount (rate_at (at t.speeds.items) i) late)) (add-one 0)))
+  turns (suc g) early late r d l = record {
+    before = omega arith;
+    can_late = over_late t k j left unit g early late r l;
+    can_early = subst (λ a. CanBeLaid t.speeds.items a (need - done (suc g) late) early) (less g) (over_early t k j left unit g early late r l);
+    next = λ h' early' late' w.
+      let same : h' ≡ g = omega (arith, w.place_is) in
+      let also = subst (λ a. AreLaid false (at t.speeds.items) j a (need - done (suc g) late) 0 early early' w.seconds) same w.also in
+      let held = over_held t k j left unit g early late r l w.firsts w.none w.seconds early' w.laid also holds d in
+      subst₂ (λ a ls. (a < length holds) × (need - done (suc g) late ≤ at holds a) × IsNextTape t holds j unit (suc g) early late a (at holds a - (need - done (suc g) late)) early' ls)
+          (sym same) (sym w.late_is) (held.1, omega (arith, held.2), record {
+        held = held.0;
+        left = omega (arith, held.2);
+        taped = λ jobs p. over_taped t k j jobs unit g early late p l w.firsts w.none w.seconds early' w.laid also;
+      });
+  }
+    where
+      less : (g : ℕ) → g ≡ suc g - 1
+      less g = omega arith
 
-    over_held : (early' late' firsts none seconds : List Segment) → AreLaid false (at speeds) j (suc g) rest 0 late firsts none
-        → AreLaid false (at speeds) j g more 0 early early' seconds → late' ≡ seconds ++ firsts → IsHeldOver speeds holds g more early' late'
-    over_held early' late' firsts none seconds laid also e = subst (IsHeldOver speeds holds g more early') (sym e) (record {
-      held = record {
-        many = omega (arith, d.many);
-        each = λ i l. omega
-            (arith, d.each i (omega (arith, l)), tape_places m n (at speeds) g j more early early' seconds inside r.tape.each_early gone_early also i l, later i (omega (arith, l)), both i);
-      };
-      inside = omega (arith, d.many);
-      rest = omega (arith, d.each g (omega arith), tape_rest m n (at speeds) g j more early early' seconds inside r.tape.each_early gone_early also, later g (omega arith), both g);
-    })
-      where
-        inside : j < n
-        inside = tape_inside t k j left unit (suc g) early late r
-
-        gone_early : All (IsAbsent m j) early
-        gone_early = absent_early t k j left unit (suc g) early late r
-
-        later : (i : ℕ) → i < suc g → amount (rate_at (at speeds) i) firsts + 0 ≡ amount (rate_at (at speeds) i) late
-        later i l = tape_places m n (at speeds) (suc g) j rest late firsts [] inside (each_of t k j left unit (suc g) early late r)
-            (absent_late t k j left unit (suc g) early late r) (over_whole t k j left unit g early late r long firsts none laid) i l
-
-        both : (i : ℕ) → amount (rate_at (at speeds) i) (seconds ++ firsts) ≡ amount (rate_at (at speeds) i) seconds + amount (rate_at (at speeds) i) firsts
-        both i = sum_by-append (λ y. y.length * rate_at (at speeds) i y) seconds firsts
-
-  module _ (j : ℕ) (left : List ℕ) (unit h : ℕ) (early late : List Segment) (r : IsTaped t (j ∷ left) unit h early late)
-      (long : amount (rate_at (at speeds) h) late < unit * at t.times.items j) (holds : List ℕ) (d : DoHold speeds holds h early late) where
-    pub DoHold-over : (h' : ℕ) (early' late' : List Segment)
-        → IsLaidOver (at speeds) j h (amount (rate_at (at speeds) h) late) (unit * at t.times.items j - amount (rate_at (at speeds) h) late) early late h' early' late'
-        → IsHeldOver speeds holds h' (unit * at t.times.items j - amount (rate_at (at speeds) h) late) early' late'
-    DoHold-over h' early' late' w = by h w.place_is r long d w
-      where
-        by : (h : ℕ) → h ≡ suc h' → IsTaped t (j ∷ left) unit h early late → amount (rate_at (at speeds) h) late < unit * at t.times.items j → DoHold speeds holds h early late
-            → IsLaidOver (at speeds) j h (amount (rate_at (at speeds) h) late) (unit * at t.times.items j - amount (rate_at (at speeds) h) late) early late h' early' late'
-            → IsHeldOver speeds holds h' (unit * at t.times.items j - amount (rate_at (at speeds) h) late) early' late'
-        by zero e q l b v = absurd (omega (arith, e))
-        by (suc g) e q l b v =
-            let same : h' ≡ g = omega (arith, e) in
-            subst (λ a. IsHeldOver speeds holds a (unit * at t.times.items j - amount (rate_at (at speeds) (suc g)) late) early' late')
-            (sym same) (over_held j left unit g early late q l holds b early' late' v.firsts v.none v.seconds v.laid
-            (subst (λ a. AreLaid false (at speeds) j a (unit * at t.times.items j - amount (rate_at (at speeds) (suc g)) late) 0 early early' v.seconds) same v.also) v.late_is)
-
--- ---- as slices are read
-pub held_here : (t : Task) (k : IsTask t) (j : ℕ) (left : List ℕ) (unit h : ℕ) (early late : List Segment) → IsTaped t (j ∷ left) unit h early late → (holds : List ℕ)
-    → DoHold t.speeds.items holds h early late → {A E : Type 0} (result : Result A E) (sp : List ℕ) (need h' : ℕ) (early' late' : List Segment) → sp ≡ t.speeds.items
-    → need ≡ unit * at t.times.items j → OnOk result (IsLaidHere (at sp) j h need early late early' late') → OnOk result (h' ≡ h) → OnOk result (DoHold t.speeds.items holds h' early' late')
-held_here t k j left unit h early late r holds d (Ok u) sp need h' early' late' e f w q = subst (λ a. DoHold t.speeds.items holds a early' late')
-    (sym q) (DoHold-here t k j left unit h early late r holds d early' late' (subst₂ (λ s a. IsLaidHere (at s) j h a early late early' late') e f w))
-held_here t k j left unit h early late r holds d (Err x) sp need h' early' late' e f w q = tt
-
-pub held_over : (t : Task) (k : IsTask t) (j : ℕ) (left : List ℕ) (unit h : ℕ) (early late : List Segment) → IsTaped t (j ∷ left) unit h early late → amount (rate_at (at t.speeds.items) h) late
-    < unit * at t.times.items j → (holds : List ℕ) → DoHold t.speeds.items holds h early late → (sp : List ℕ) (first then h' : ℕ) (early' late' : List Segment)
-    → sp ≡ t.speeds.items → first ≡ amount (rate_at (at t.speeds.items) h) late → then ≡ unit * at t.times.items j - amount (rate_at (at t.speeds.items) h) late
-    → IsLaidOver (at sp) j h first then early late h' early' late' → IsHeldOver t.speeds.items holds h' then early' late'
-held_over t k j left unit h early late r long holds d sp first then h' early' late' e f g w =
-    let whole = subst₂ (λ s a. IsLaidOver (at s) j h a (unit * at t.times.items j - amount (rate_at (at t.speeds.items) h) late) early late h' early' late')
-    e f (subst (λ a. IsLaidOver (at sp) j h first a early late h' early' late') g w) in
-    subst (λ a. IsHeldOver t.speeds.items holds h' a early' late') (sym g) (DoHold-over t k j left unit h early late r long holds d h' early' late' whole)
+  pub can_turn : (h : ℕ) (early late : List Segment) → IsTaped t (j ∷ left) unit h early late → DoHold t.speeds.items holds h early late → (sp : List ℕ) (work rest : ℕ)
+      → sp ≡ t.speeds.items → work ≡ need → rest ≡ done h late → rest < work → CanTurn t sp holds j unit h rest (work - rest) early late
+  can_turn h early late r d sp work rest e f g l = subst₂ (λ s a. CanTurn t s holds j unit h a (work - a) early late)
+      (sym e) (sym g) (subst (λ a. CanTurn t t.speeds.items holds j unit h (done h late) (a - done h late) early late) (sym f) (turns h early late r d (omega (arith, f, g, l))))

@@ -1,10 +1,10 @@
 -- What segments hold that are laid in two parts.
-use Rattle.std.proofs.Common.{◌≡◌, ℕ, ◌+◌, ◌*◌, ◌≤◌, List, [], ◌∷◌, ◌++◌, All, refl, ap, arith}
+use Rattle.std.proofs.Common.{◌≡◌, ℕ, ◌+◌, ◌*◌, ◌≤◌, inl, inr, List, [], ◌∷◌, ◌++◌, All, refl, ap, arith}
 use Rattle.std.proofs.lemmas.List.Elements.{All-nil, All-cons, All-head, All-tail}
 use Rattle.std.proofs.Math.Nat.{mul-le-mul_left}
 use Rattle.msp_class.proofs.Sums.{sum_by-cons}
 use Rattle.msp_uniform.specs.declared.segments.Segment.{Segment}
-use Rattle.msp_uniform.specs.Segments.{amount, IsLaid, gained}
+use Rattle.msp_uniform.specs.Segments.{amount, IsLaid, gained, AreFew}
 
 module _ {First Second : Segment → Segment → Type 0} where
   pub IsLaid-append : {zs ws : List ℕ} {xs ys us vs cs ds : List Segment}
@@ -71,6 +71,11 @@ module _ {First Second : Segment → Segment → Type 0} where
       ap (λ v. v * two x) e,
       amount-seconds two of_second h (All-tail P x xs p),
     )
+
+-- where nothing is left to gain, one segment at most is cut
+pub few_parts : (parts segments : ℕ) → AreFew parts segments 0 → parts ≤ segments + 1
+few_parts parts segments (inl l) = omega (arith, l)
+few_parts parts segments (inr l) = l.1
 
 -- rates that add up
 pub gained-add : (f g k : Segment → ℕ) (zs : List ℕ) (xs : List Segment) → All (λ x. f x ≡ g x + k x) xs → gained f zs xs ≡ gained g zs xs + gained k zs xs

@@ -1,7 +1,7 @@
 -- The pieces of segments, the latest first, are those of one machine after another in another order.
 use Rattle.std.proofs.Common.{◌≡◌, ◌≢◌, ℕ, zero, suc, ◌+◌, ◌-◌, ◌<◌, ◌≤◌, Bool, true, false, cond, eqb, List, [], ◌∷◌, ◌++◌, length, get_or, take, drop, replicate, set, sum_by}
 use Rattle.std.proofs.Common.{All, IsPermutation, inl, inr, refl, sym, ap, subst, subst₂, ◌∙◌, append_assoc, arith}
-use Rattle.std.proofs.lemmas.Bool.{eqb-true, eqb-false, eq-eqb, ne_eqb, cases_eq}
+use Rattle.std.proofs.lemmas.Bool.{cond_both, cond-true, cases_Bool, eqb-true, eq-eqb, ne_eqb, cases_eq}
 use Rattle.std.proofs.lemmas.List.{append-nil, get_or-replicate, drop_more, length-set, get_or-set_same, get_or-set_other, get_or_default}
 use Rattle.std.proofs.lemmas.List.Elements.{All-head, All-tail}
 use Rattle.std.proofs.lemmas.List.Sorted.{IsPermutation-refl, IsPermutation-sym, IsPermutation-trans, IsPermutation-append, IsPermutation-append_left, IsPermutation-append_right}
@@ -48,29 +48,18 @@ module _ (n : ℕ) where
   module _ (i : ℕ) where
     own_is : (j a t : ℕ) (xs : List Segment) → IsPermutation (runs_from n i j a t xs) (part_on n i j a (until i j t xs) ++ own n i j t xs)
     own_is j a t [] = subst (IsPermutation (part_on n i j a t)) (sym (append-nil (part_on n i j a t))) (IsPermutation-refl (part_on n i j a t))
-    own_is j a t (x ∷ xs) = by (eqb (job_on x i) j) refl (own_is j a (t + long x) xs) (own_is (job_on x i) t (t + long x) xs)
-      where
-        first : List Piece
-        first = part_on n i (job_on x i) t (until i (job_on x i) (t + long x) xs)
-
-        by : (v : Bool) → eqb (job_on x i) j ≡ v
-            → IsPermutation (runs_from n i j a (t + long x) xs) (part_on n i j a (until i j (t + long x) xs) ++ own n i j (t + long x) xs)
-            → IsPermutation (runs_from n i (job_on x i) t (t + long x) xs) (first ++ own n i (job_on x i) (t + long x) xs)
-            → IsPermutation (cond v (runs_from n i j a (t + long x) xs) (part_on n i j a t ++ runs_from n i (job_on x i) t (t + long x) xs))
-            (part_on n i j a (cond v (until i j (t + long x) xs) t) ++ (own n i (job_on x i) (t + long x) xs ++ cond v [] first))
-        by true e same other =
-            subst (λ l. IsPermutation (runs_from n i j a (t + long x) xs) (part_on n i j a (until i j (t + long x) xs) ++ l))
-            (sym (append-nil (own n i (job_on x i) (t + long x) xs) ∙ ap (λ k. own n i k (t + long x) xs) (eqb-true (job_on x i) j e))) same
-        by false e same other =
-            IsPermutation-append_right (part_on n i j a t) _ _
-            (IsPermutation-trans _ _ _ other (IsPermutation-append_comm first (own n i (job_on x i) (t + long x) xs)))
+    own_is j a t (x ∷ xs) =
+        let first : List Piece = part_on n i (job_on x i) t (until i (job_on x i) (t + long x) xs) in
+        let rest : List Piece = own n i (job_on x i) (t + long x) xs in
+        elim (cases_Bool (eqb (job_on x i) j)) [
+          | inl e ↦ rw e (subst (λ l. IsPermutation (runs_from n i j a (t + long x) xs) (part_on n i j a (until i j (t + long x) xs) ++ l))
+              (sym (append-nil rest ∙ ap (λ k. own n i k (t + long x) xs) (eqb-true (job_on x i) j e))) (own_is j a (t + long x) xs))
+          | inr e ↦ rw e (IsPermutation-append_right (part_on n i j a t) _ _
+              (IsPermutation-trans _ _ _ (own_is (job_on x i) t (t + long x) xs) (IsPermutation-append_comm first rest)))
+        ]
 
     part_none : (a b : ℕ) → part_on n i n a b ≡ []
-    part_none a b = by (eqb n n) refl
-      where
-        by : (v : Bool) → eqb n n ≡ v → cond v [] (piece_on i n a b ∷ []) ≡ []
-        by true e = refl
-        by false e = absurd (eqb-false n n e refl)
+    part_none a b = cond-true (eqb n n) [] (piece_on i n a b ∷ []) (eq-eqb n n refl)
 
   -- ---- all machines
   none_own : (before : List ℕ) (t m : ℕ) → owns n before t [] m ≡ []
@@ -116,14 +105,6 @@ runs_latest_first n m xs =
     (IsPermutation-sym _ _ (latest_first_is n m (replicate m n) 0 xs))
 
 -- ---- the walk over the segments
-pub until_within : (i j t : ℕ) (xs : List Segment) → until i j t xs ≤ t + sum_by long xs
-until_within i j t [] = omega arith
-until_within i j t (x ∷ xs) = by (eqb (job_on x i) j) (until_within i j (t + long x) xs)
-  where
-    by : (v : Bool) → until i j (t + long x) xs ≤ t + long x + sum_by long xs → cond v (until i j (t + long x) xs) t ≤ t + sum_by long (x ∷ xs)
-    by true l = omega (arith, l, sum_by-cons long x xs)
-    by false l = omega arith
-
 pub jobs_before_next : (idle : List ℕ) (xs : List Segment) (k : ℕ) (d : Segment) → k < length xs → jobs_before idle xs (suc k) ≡ jobs_of (get_or xs k d)
 jobs_before_next idle [] k d l = absurd (omega (arith, l))
 jobs_before_next idle (x ∷ xs) zero d l = refl
@@ -169,11 +150,10 @@ module _ (n m : ℕ) (idle : List ℕ) (xs : List Segment) (k : ℕ) (d : Segmen
     }
       where
         next : (i : ℕ) → i < m → at new i ≡ until i (at before i) begin (here ∷ behind)
-        next i l = e.each i (omega (arith, l, all)) ∙ by (eqb (job_on here i) (at before i)) refl
-          where
-            by : (v : Bool) → eqb (job_on here i) (at before i) ≡ v → cond v (at ends i) begin ≡ cond v (until i (at before i) (begin + long here) behind) begin
-            by true same = ends_are i l ∙ ap (λ j. until i j (begin + long here) behind) (eqb-true (job_on here i) (at before i) same)
-            by false same = refl
+        next i l = e.each i (omega (arith, l, all)) ∙ elim (cases_Bool (eqb (job_on here i) (at before i))) [
+          | inl same ↦ rw same (ends_are i l ∙ ap (λ j. until i j (begin + long here) behind) (eqb-true (job_on here i) (at before i) same))
+          | inr same ↦ rw same refl
+        ]
 
         together : pieces ++ begun n before (jobs_of here) begin (at ends) m ≡ latest_first n m before begin (here ∷ behind)
         together =
@@ -252,11 +232,8 @@ module _ (n : ℕ) (before jobs : List ℕ) (t : ℕ) (old : List ℕ) (first : 
 
 pub next_small : (b : ℕ) (before jobs old new : List ℕ) (u : ℕ) → IsNextEnds before jobs u old new → length old ≡ length jobs → All (λ e. e < b) old → u < b → All (λ e. e < b) new
 next_small b before jobs old new u e many small less k d l =
-    subst (λ v. v < b) (sym (get_or_default new k d 0 l ∙ e.each k (omega (arith, l, e.many, many)))) (by (eqb (at jobs k) (at before k)))
-  where
-    by : (v : Bool) → cond v (at old k) u < b
-    by true = small k 0 (omega (arith, l, e.many))
-    by false = less
+    subst (λ v. v < b) (sym (get_or_default new k d 0 l ∙ e.each k (omega (arith, l, e.many, many))))
+    (cond_both (eqb (at jobs k) (at before k)) (at old k) u (λ v. v < b) (λ _. small k 0 (omega (arith, l, e.many))) (λ _. less))
 
 pub length_jobs_before : (m : ℕ) (idle : List ℕ) (xs : List Segment) (k : ℕ) → length idle ≡ m → All (λ x. length (jobs_of x) ≡ m) xs → length (jobs_before idle xs k) ≡ m
 length_jobs_before m idle xs zero e h = e

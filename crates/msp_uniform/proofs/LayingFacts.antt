@@ -145,12 +145,12 @@ gains_first gain left x xs (inr b) = inr b
 
 -- ---- the same parts after others
 module _ (swap : Bool) (speed : ℕ → ℕ) (job r left after : ℕ) (x : Segment) (fs fs' seconds : List Segment) (o : IsOneLaid swap speed job r left after x fs [] fs' seconds) where
-  pub IsOneLaid-after : (gs : List Segment) → IsOneLaid swap speed job r left after x gs [] (gs ++ o.firsts_new) seconds
-  IsOneLaid-after gs = record {
+  pub IsOneLaid-among : (gs gs' ss ss' : List Segment) → gs' ≡ gs ++ o.firsts_new → ss' ≡ ss ++ seconds → IsOneLaid swap speed job r left after x gs ss gs' ss'
+  IsOneLaid-among gs gs' ss ss' d e = record {
     firsts_new = o.firsts_new;
     seconds_new = o.seconds_new;
-    firsts_are = refl;
-    seconds_are = o.seconds_are;
+    firsts_are = d;
+    seconds_are = e ∙ ap (λ l. ss ++ l) o.seconds_are;
     part = o.part;
     laid = o.laid;
     gains = o.gains;
@@ -160,18 +160,7 @@ module _ (swap : Bool) (speed : ℕ → ℕ) (job r left after : ℕ) (x : Segme
   }
 
   pub IsOneLaid-behind : (ss ss' : List Segment) → ss' ≡ ss ++ seconds → IsOneLaid swap speed job r left after x fs ss fs' ss'
-  IsOneLaid-behind ss ss' e = record {
-    firsts_new = o.firsts_new;
-    seconds_new = o.seconds_new;
-    firsts_are = o.firsts_are;
-    seconds_are = e ∙ ap (λ l. ss ++ l) o.seconds_are;
-    part = o.part;
-    laid = o.laid;
-    gains = o.gains;
-    enough = o.enough;
-    short = o.short;
-    few = o.few;
-  }
+  IsOneLaid-behind ss ss' = IsOneLaid-among fs fs' ss ss' o.firsts_are
 
 -- ---- the first of late segments, and those after it
 module _ (speed : ℕ → ℕ) (job r : ℕ) where
@@ -246,7 +235,7 @@ module _ (speed : ℕ → ℕ) (job r : ℕ) where
           seconds = f.seconds;
           all = h.all ∙ ap (λ l. h.done ++ l) others_are ∙ sym (append_assoc h.done (x ∷ []) late);
           laid = AreLaid-next false speed job r whole left after h.done x h.firsts [] (h.firsts ++ f.laid.firsts_new) f.seconds
-              (subst (AreLaid false speed job r whole left h.done h.firsts) none_late h.laid) (IsOneLaid-after false speed job r left after x early early' f.seconds f.laid h.firsts);
+              (subst (AreLaid false speed job r whole left h.done h.firsts) none_late h.laid) (IsOneLaid-among false speed job r left after x early early' f.seconds f.laid h.firsts _ [] f.seconds refl refl);
           early_is = f.laid.firsts_are ∙ ap (λ l. l ++ f.laid.firsts_new) h.early_is ∙ append_assoc early0 h.firsts f.laid.firsts_new;
           late_is = f.late_is;
           few = f.few;

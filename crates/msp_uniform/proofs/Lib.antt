@@ -9,6 +9,7 @@ pub mod ScaledFacts
 pub mod SegmentPieces
 pub mod PlanFacts
 pub mod TurnNeeds
+pub mod LaidAt
 pub mod TapeFacts
 pub mod TapeTurn
 pub mod TapeWhole
@@ -16,6 +17,7 @@ pub mod TapeStart
 pub mod Affordable
 pub mod ReachedFacts
 pub mod TapedFacts
+pub mod TurnedTape
 pub mod HeldFacts
 pub mod FirstFacts
 pub mod OrderRead

@@ -1,6 +1,6 @@
 -- A plan over a finer unit, and with one job less.
 use Rattle.std.proofs.Common.{◌≡◌, ◌≢◌, ℕ, zero, suc, ◌+◌, ◌*◌, ◌<◌, ◌≤◌, inl, inr, true, List, [], ◌∷◌, ◌++◌, length, map, All, refl, sym, ap, subst, ◌∙◌, arith}
-use Rattle.std.proofs.Math.Nat.{mul-le-mul_left}
+use Rattle.std.proofs.Math.Nat.{one-le-mul, mul-le-mul_left}
 use Rattle.std.proofs.lemmas.List.Elements.{All-head, All-tail}
 use Rattle.msp_class.specs.Sums.{total_below}
 use Rattle.msp_class.proofs.Sums.{AllPairs-head, AllPairs-tail, Contains-tail, total_below-same, total_below-scale}
@@ -13,10 +13,6 @@ use Rattle.msp_class.proofs.Cases.{same_or_not}
 use Rattle.msp_uniform.proofs.ScaledFacts.{IsRead-place, IsRead-job, amount-scaled, amount-mono, All-scaled, IsSegment-part, job_kept}
 use Rattle.msp_uniform.proofs.TurnFacts.{segments_are, absent_still, whole_time, others_work, own_work, places_merged}
 
-positive : (a b : ℕ) → 1 ≤ a → 1 ≤ b → 1 ≤ a * b
-positive zero b l k = absurd (omega arith)
-positive (suc a) b l k = omega (arith, k)
-
 module _ (speeds : List ℕ) (n : ℕ) (time : ℕ → ℕ) where
   abbrev m : ℕ
   m = length speeds
@@ -25,7 +21,7 @@ module _ (speeds : List ℕ) (n : ℕ) (time : ℕ → ℕ) where
   pub IsPlan-scaled : (left : List ℕ) (unit end h d : ℕ) (xs ys : List Segment)
       → 1 ≤ d → AreScaled d xs ys → IsPlan speeds n time left unit end h xs → IsPlan speeds n time left (unit * d) (end * d) h ys
   IsPlan-scaled left unit end h d xs ys some s p = record {
-    each = All-scaled (IsSegment m n (at speeds) h) (IsSegment m n (at speeds) h) d xs ys (λ x y a e. IsSegment-part m n (at speeds) h _ x y e (positive x.length d a.lasts some) a) s p.each;
+    each = All-scaled (IsSegment m n (at speeds) h) (IsSegment m n (at speeds) h) d xs ys (λ x y a e. IsSegment-part m n (at speeds) h _ x y e (one-le-mul a.lasts some) a) s p.each;
     whole = omega (arith, amount-scaled (λ _. 1) (λ k x y e. refl) d xs ys s, ap (λ k. d * k) p.whole);
     absent = λ k e l. All-scaled (IsAbsent m _) (IsAbsent m _) d xs ys (λ x y a q i b f. a i b (sym (job_kept m n (at speeds) h _ x y q i) ∙ f)) s (p.absent k e l);
     done = λ j l. elim (p.done j l) [

@@ -2,8 +2,7 @@
 use Rattle.std.proofs.Common.{◌≡◌, ℕ, zero, suc, ◌+◌, ◌*◌, ◌<◌, ◌≤◌, ◌⊎◌, inl, inr, sym, subst, arith}
 use Rattle.msp_class.specs.Sums.{total_below}
 use Rattle.msp_class.proofs.Cases.{less_or_not}
-use Rattle.msp_class.proofs.Sums.{total_below-mono, total_below-same, total_below-scale}
-use Rattle.std.proofs.Math.Nat.{mul-le-mul_left}
+use Rattle.msp_class.proofs.Sums.{total_below-mono, total_below-same}
 use Rattle.msp_uniform.specs.Prefixes.{DoFit, IsMerged}
 
 -- the works after the first
@@ -62,24 +61,6 @@ module _ (h r n : ℕ) (holds works holds' : ℕ → ℕ) (inside : suc r < h) (
       by (suc k) (inl b) l = later_firsts k (omega arith) (omega (arith, e))
       by zero (inl b) l = absurd (omega arith)
 
--- a work takes the last place whole
-pub DoFit-last : (h n : ℕ) (holds works : ℕ → ℕ) → DoFit (suc h) holds (suc n) works → works 0 ≡ holds h → ((i : ℕ) → i < h → rest works i ≤ holds i) → DoFit h holds n (rest works)
-DoFit-last h n holds works fit e s = record {
-  firsts = λ k l. total_below-mono k (rest works) holds (λ i c. s i (omega arith));
-  all = omega (arith, fit.all, total_below-first n works, e);
-}
-
--- without places there is no work
-pub DoFit-none : (n : ℕ) (holds works : ℕ → ℕ) → DoFit 0 holds (suc n) works → 1 ≤ works 0 → ⊥
-DoFit-none n holds works fit l = absurd (omega (arith, fit.all, total_below-first n works))
-
 -- the longest work is at most the first place
 pub DoFit-longest : (h n : ℕ) (holds works : ℕ → ℕ) → DoFit (suc h) holds n works → works 0 ≤ holds 0
 DoFit-longest h n holds works fit = omega (arith, fit.firsts 1 (omega arith))
-
--- over a finer unit
-pub DoFit-scaled : (d h n : ℕ) (holds works : ℕ → ℕ) → DoFit h holds n works → DoFit h (λ i. d * holds i) n (λ i. d * works i)
-DoFit-scaled d h n holds works fit = record {
-  firsts = λ k l. omega (arith, total_below-scale k d holds, total_below-scale k d works, mul-le-mul_left d (fit.firsts k l));
-  all = omega (arith, total_below-scale h d holds, total_below-scale n d works, mul-le-mul_left d fit.all);
-}

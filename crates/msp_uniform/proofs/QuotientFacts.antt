@@ -53,27 +53,21 @@ module _ (ts sp jobs machines : List ℕ) where
 
     up_to : (i x y : ℕ) → ((j : ℕ) → j ≤ k → sum_by time (take j jobs) * y ≤ x * sum_by speed (take j machines))
         → work * y ≤ x * rate → i ≤ k + 1 → sum_by time (take i jobs) * y ≤ x * sum_by speed (take i machines)
-    up_to i x y f l m = by (less_or_not i (k + 1))
+    up_to i x y f l m = elim (less_or_not i (k + 1)) [
+      | inl c ↦ f i (omega (arith, c))
+      | inr c ↦ subst (λ j. sum_by time (take j jobs) * y ≤ x * sum_by speed (take j machines)) (same c) (subst₂ (λ p q. p * y ≤ x * q) work_is rate_is l)
+    ]
       where
         same : k + 1 ≤ i → k + 1 ≡ i
         same c = omega (arith, m, c)
-
-        by : (i < k + 1) ⊎ (k + 1 ≤ i) → sum_by time (take i jobs) * y ≤ x * sum_by speed (take i machines)
-        by (inl c) = f i (omega (arith, c))
-        by (inr c) = subst (λ j. sum_by time (take j jobs) * y ≤ x * sum_by speed (take j machines)) (same c) (subst₂ (λ p q. p * y ≤ x * q) work_is rate_is l)
 
     pub IsGreatestUpTo-next : IsGreater w v work rate w' v' → IsGreatestUpTo (k + 1) time speed jobs machines w' v'
     IsGreatestUpTo-next (inl (e, f, l)) = subst₂ (IsGreatestUpTo (k + 1) time speed jobs machines) (sym e) (sym f) (record {
       some = g.some;
       total = g.total;
       firsts = λ i m. up_to i w v g.firsts l m;
-      reached = by g.reached;
+      reached = elim g.reached [ inl r ↦ inl r | inr (i, p, q, r, s) ↦ inr (i, p, omega (arith, q), r, s) ];
     })
-      where
-        by : ((w ≡ sum_by time jobs) × (v ≡ sum_by speed machines)) ⊎ ((i : ℕ) × (1 ≤ i) × (i ≤ k) × (w ≡ sum_by time (take i jobs)) × (v ≡ sum_by speed (take i machines)))
-            → ((w ≡ sum_by time jobs) × (v ≡ sum_by speed machines)) ⊎ ((i : ℕ) × (1 ≤ i) × (i ≤ k + 1) × (w ≡ sum_by time (take i jobs)) × (v ≡ sum_by speed (take i machines)))
-        by (inl r) = inl r
-        by (inr (i, p, q, r, s)) = inr (i, p, omega (arith, q), r, s)
     IsGreatestUpTo-next (inr (e, f, l)) = subst₂ (IsGreatestUpTo (k + 1) time speed jobs machines) (sym e) (sym f) (record {
       some = rate_some;
       total = through _ _ w v work rate g.some g.total l;

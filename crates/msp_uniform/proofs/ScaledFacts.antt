@@ -1,6 +1,6 @@
 -- Finer units, and where a job has gained enough.
 use Rattle.std.proofs.Common.{◌≡◌, ℕ, zero, suc, ◌+◌, ◌*◌, ◌-◌, ◌<◌, ◌≤◌, ◌⊎◌, inl, inr, false, true, cond, eqb, List, [], ◌∷◌, ◌++◌, length, take, drop, get_or, drop-cons, append-nil}
-use Rattle.std.proofs.Common.{append_assoc, All, sym, ap, subst, ◌∙◌, arith}
+use Rattle.std.proofs.Common.{append_assoc, All, sym, ap, subst, ◌∙◌, add-one, arith}
 use Rattle.std.specs.Int.{◌∣◌}
 use Rattle.std.proofs.Math.Nat.{mul-le-mul_left, dvd-mul_left}
 use Rattle.std.proofs.lemmas.List.{take_more, drop_all, take_all}
@@ -70,12 +70,9 @@ module _ (rate : Segment → ℕ) where
       → x ≡ get_or xs k x → x.length * rate x ≤ left → IsSeeking rate whole left k xs → IsSeeking rate whole (left - x.length * rate x) (k + 1) xs
   IsSeeking-next whole left k xs x l is m h = record {
     stops = λ d s. h.stops d (subst (λ ys. StopsAt rate left ys d) (sym (drop-cons xs k x l))
-        (subst (λ y. StopsAt rate left (y ∷ drop (suc k) xs) d) is (inl (m, subst (λ n. StopsAt rate (left - x.length * rate x) (drop n xs) d) (one k) s))));
+        (subst (λ y. StopsAt rate left (y ∷ drop (suc k) xs) d) is (inl (m, subst (λ n. StopsAt rate (left - x.length * rate x) (drop n xs) d) (add-one k) s))));
     gains = omega (arith, h.gains, amount-more rate xs k x l is, m);
   }
-    where
-      one : (k : ℕ) → k + 1 ≡ suc k
-      one k = omega arith
 
   pub StopsAt-here : (whole left k : ℕ) (xs : List Segment) (x : Segment) (d : ℕ)
       → k < length xs → x ≡ get_or xs k x → left < x.length * rate x → d ≡ rate x → IsSeeking rate whole left k xs → StopsAt rate whole xs d

@@ -1,7 +1,7 @@
 -- What a segment is once a job has taken a machine in it.
-use Rattle.std.proofs.Common.{◌≡◌, ◌≢◌, ℕ, zero, suc, ◌+◌, ◌<◌, ◌≤◌, ◌⊎◌, inl, inr, Bool, true, false, cond, eqb, leb, List, length, refl, sym, ap, subst, subst₂, ◌∙◌, arith}
+use Rattle.std.proofs.Common.{◌≡◌, ◌≢◌, ℕ, zero, suc, ◌+◌, ◌<◌, ◌≤◌, ◌⊎◌, inl, inr, Bool, true, false, cond, eqb, leb, List, length, refl, sym, ap, subst, subst₂, ◌∙◌, add-one, arith}
 use Rattle.std.specs.Prelude.{remove}
-use Rattle.std.proofs.lemmas.Bool.{leb-true, leb-false, ne_eqb, eq-eqb}
+use Rattle.std.proofs.lemmas.Bool.{cond_both, cond-true, cond-false, leb-true, leb-false, le-leb, lt-leb, ne_eqb, eq-eqb}
 use Rattle.std.proofs.lemmas.List.{length-set, get_or-set_same, get_or-set_other}
 use Rattle.std.proofs.lemmas.List.Edits.{length-remove, get_or-remove_below, get_or-remove_above}
 use Rattle.msp_class.proofs.Cases.{same_or_not, less_or_not}
@@ -13,28 +13,18 @@ use Rattle.msp_uniform.specs.Segments.{at, job_on, place_at, IsSegment, IsAbsent
 -- a total in which one term differs
 pub total_below-other : (m : ℕ) (f g : ℕ → ℕ) (k : ℕ) → k < m → ((i : ℕ) → i < m → i ≢ k → f i ≡ g i) → total_below m f + g k ≡ total_below m g + f k
 total_below-other zero f g k l h = absurd (omega arith)
-total_below-other (suc m) f g k l h = by (same_or_not k m) (λ b. total_below-other m f g k b (λ i c. h i (omega arith)))
-  where
-    less : k ≢ m → k < m
-    less n = grind arith
-
-    by : (k ≡ m) ⊎ (k ≢ m) → (k < m → total_below m f + g k ≡ total_below m g + f k) → total_below m f + f m + g k ≡ total_below m g + g m + f k
-    by (inl e) r = omega (arith, total_below-same m f g (λ i b. h i (omega arith) (λ q. absurd (omega (arith, q, e)))), ap f e, ap g e)
-    by (inr n) r = omega (arith, r (less n), h m (omega arith) (λ q. n (sym q)))
+total_below-other (suc m) f g k l h = elim (same_or_not k m) [
+  | inl e ↦ omega (arith, total_below-same m f g (λ i b. h i (omega arith) (λ q. absurd (omega (arith, q, e)))), ap f e, ap g e)
+  | inr n ↦ omega (arith, total_below-other m f g k (omega (arith, l, n)) (λ i c. h i (omega arith)), h m (omega arith) (λ q. n (sym q)))
+]
 
 -- where the elements of a list stand after one is taken away
 abbrev pub after : ℕ → ℕ → ℕ
 after r k = cond (leb r k) (suc k) k
 
 at-remove : (xs : List ℕ) (r k : ℕ) → r < length xs → at (remove xs r) k ≡ at xs (after r k)
-at-remove xs r k l = by (leb r k) refl
-  where
-    by : (v : Bool) → leb r k ≡ v → at (remove xs r) k ≡ at xs (cond v (suc k) k)
-    by true e = get_or-remove_above xs r 0 k (leb-true r k e) l ∙ ap (at xs) (one k)
-      where
-        one : (k : ℕ) → k + 1 ≡ suc k
-        one k = omega arith
-    by false e = get_or-remove_below xs r 0 k (leb-false r k e) l
+at-remove xs r k l = cond_both (leb r k) (suc k) k (λ q. at (remove xs r) k ≡ at xs q)
+    (λ e. get_or-remove_above xs r 0 k (leb-true r k e) l ∙ ap (at xs) (add-one k)) (λ e. get_or-remove_below xs r 0 k (leb-false r k e) l)
 
 module _ (m n : ℕ) (speed : ℕ → ℕ) (h r job length' : ℕ)
     (x y : Segment) (s : IsSegment m n speed (suc h) x) (t : IsTaken job r length' x y) (inside : r < suc h) (new : job < n) (absent : IsAbsent m job x) where
@@ -54,18 +44,10 @@ module _ (m n : ℕ) (speed : ℕ → ℕ) (h r job length' : ℕ)
   place_is k = ap (λ l. at l k) t.free ∙ at-remove x.body.value.free r k (omega (arith, s.places, inside))
 
   after_in : (k : ℕ) → k < h → after r k < suc h
-  after_in k l = by (leb r k)
-    where
-      by : (v : Bool) → cond v (suc k) k < suc h
-      by true = omega arith
-      by false = omega arith
+  after_in k l = cond_both (leb r k) (suc k) k (λ q. q < suc h) (λ _. omega arith) (λ _. omega arith)
 
   after_not : (k : ℕ) → after r k ≢ r
-  after_not k = by (leb r k) refl
-    where
-      by : (v : Bool) → leb r k ≡ v → cond v (suc k) k ≢ r
-      by true e q = absurd (omega (arith, leb-true r k e, q))
-      by false e q = absurd (omega (arith, leb-false r k e, q))
+  after_not k = cond_both (leb r k) (suc k) k (λ p. p ≢ r) (λ e q. absurd (omega (arith, leb-true r k e, q))) (λ e q. absurd (omega (arith, leb-false r k e, q)))
 
   after_less : (j k : ℕ) → j < k → after r j < after r k
   after_less j k l = by (leb r j) (leb r k) refl refl
@@ -77,21 +59,10 @@ module _ (m n : ℕ) (speed : ℕ → ℕ) (h r job length' : ℕ)
       by false false e f = omega arith
 
   distinct : (q k : ℕ) → q < suc h → k < suc h → q ≢ k → place_at x q ≢ place_at x k
-  distinct q k a b d = by (less_or_not q k)
-    where
-      by : (q < k) ⊎ (k ≤ q) → place_at x q ≢ place_at x k
-      by (inl l) = s.apart q k l b
-      by (inr l) = λ e. s.apart k q (less l d) a (sym e)
-        where
-          less : k ≤ q → q ≢ k → k < q
-          less l d = grind arith
+  distinct q k a b d = elim (less_or_not q k) [ inl l ↦ s.apart q k l b | inr l ↦ λ e. s.apart k q (omega (arith, l, d)) a (sym e) ]
 
   job_once : (i : ℕ) → i < m → job_on y i ≡ job → i ≡ machine
-  job_once i l e = by (same_or_not i machine)
-    where
-      by : (i ≡ machine) ⊎ (i ≢ machine) → i ≡ machine
-      by (inl q) = q
-      by (inr d) = absurd (absent i l (sym (job_other i d) ∙ e))
+  job_once i l e = elim (same_or_not i machine) [ inl q ↦ q | inr d ↦ absurd (absent i l (sym (job_other i d) ∙ e)) ]
 
   pub IsSegment-taken : 1 ≤ length' → IsSegment m n speed h y
   IsSegment-taken some = record {
@@ -117,29 +88,17 @@ module _ (m n : ℕ) (speed : ℕ → ℕ) (h r job length' : ℕ)
   }
     where
       after_most : (q k : ℕ) → q ≤ k → after r q ≤ after r k
-      after_most q k l = by (same_or_not q k)
+      after_most q k l = elim (less_or_not q k) [ inl b ↦ omega (arith, after_less q k b) | inr b ↦ omega (arith, ap (after r) (same l b)) ]
         where
-          by : (q ≡ k) ⊎ (q ≢ k) → after r q ≤ after r k
-          by (inl e) = subst (λ z. after r q ≤ after r z) e (omega arith)
-          by (inr d) = omega (arith, after_less q k (less l d))
-            where
-              less : q ≤ k → q ≢ k → q < k
-              less l d = grind arith
+          same : q ≤ k → k ≤ q → q ≡ k
+          same l b = omega arith
 
   -- the rates
   pub rate_below : (k : ℕ) → k < r → rate_at speed k y ≡ rate_at speed k x
-  rate_below k l = ap speed (place_is k ∙ by (leb r k) refl)
-    where
-      by : (v : Bool) → leb r k ≡ v → at x.body.value.free (cond v (suc k) k) ≡ at x.body.value.free k
-      by true e = absurd (omega (arith, leb-true r k e))
-      by false e = refl
+  rate_below k l = ap speed (place_is k ∙ ap (place_at x) (cond-false (leb r k) (suc k) k (lt-leb r k l)))
 
   pub rate_above : (k : ℕ) → r ≤ k → rate_at speed k y ≡ rate_at speed (suc k) x
-  rate_above k l = ap speed (place_is k ∙ by (leb r k) refl)
-    where
-      by : (v : Bool) → leb r k ≡ v → at x.body.value.free (cond v (suc k) k) ≡ at x.body.value.free (suc k)
-      by true e = refl
-      by false e = absurd (omega (arith, leb-false r k e))
+  rate_above k l = ap speed (place_is k ∙ ap (place_at x) (cond-true (leb r k) (suc k) k (le-leb r k l)))
 
   abbrev part_on : ℕ → Segment → ℕ → ℕ
   part_on j z i = cond (eqb (job_on z i) j) (speed i) 0
@@ -158,16 +117,11 @@ module _ (m n : ℕ) (speed : ℕ → ℕ) (h r job length' : ℕ)
       none (suc m) = omega (arith, none m)
 
   pub other_rate : (j : ℕ) → j < n → j ≢ job → job_rate m speed j y ≡ job_rate m speed j x
-  other_rate j l d = total_below-same m (part_on j y) (part_on j x) (λ i b. by i b (same_or_not i machine))
-    where
-      by : (i : ℕ) → i < m → (i ≡ machine) ⊎ (i ≢ machine) → part_on j y i ≡ part_on j x i
-      by i b (inl e) = ap (λ v. cond v (speed i) 0)
-          (ne_eqb (job_on y i) j (λ q. d (sym q ∙ ap (job_on y) e ∙ job_there)) ∙ sym (ne_eqb (job_on x i) j (λ q. absurd (omega (arith, l, sym q ∙ ap (job_on x) e ∙ s.idle r inside)))))
-      by i b (inr c) = ap (λ v. cond (eqb v j) (speed i) 0) (job_other i c)
+  other_rate j l d = total_below-same m (part_on j y) (part_on j x) (λ i b. elim (same_or_not i machine) [
+    | inl e ↦ ap (λ v. cond v (speed i) 0)
+        (ne_eqb (job_on y i) j (λ q. d (sym q ∙ ap (job_on y) e ∙ job_there)) ∙ sym (ne_eqb (job_on x i) j (λ q. absurd (omega (arith, l, sym q ∙ ap (job_on x) e ∙ s.idle r inside)))))
+    | inr c ↦ ap (λ v. cond (eqb v j) (speed i) 0) (job_other i c)
+  ])
 
   pub still_absent : (j : ℕ) → j ≢ job → IsAbsent m j x → IsAbsent m j y
-  still_absent j d a i l e = by (same_or_not i machine)
-    where
-      by : (i ≡ machine) ⊎ (i ≢ machine) → ⊥
-      by (inl q) = d (sym e ∙ ap (job_on y) q ∙ job_there)
-      by (inr c) = a i l (sym (job_other i c) ∙ e)
+  still_absent j d a i l e = elim (same_or_not i machine) [ inl q ↦ d (sym e ∙ ap (job_on y) q ∙ job_there) | inr c ↦ a i l (sym (job_other i c) ∙ e) ]

@@ -1,7 +1,7 @@
 -- The pieces of segments one after another: they do not overlap, and what they do adds up.
 use Rattle.std.proofs.Common.{◌≡◌, ◌≢◌, ℕ, zero, suc, ◌+◌, ◌*◌, ◌-◌, ◌<◌, ◌≤◌, ◌⊎◌, inl, inr, Bool, true, false, cond, eqb, ltb, List, [], ◌∷◌, ◌++◌, length, get_or, All, AllPairs}
 use Rattle.std.proofs.Common.{sum_by, refl, sym, ap, ◌∙◌, arith}
-use Rattle.std.proofs.lemmas.Bool.{eqb-true, eqb-false, ltb-true, ltb-false}
+use Rattle.std.proofs.lemmas.Bool.{cond_both, eqb-true, eqb-false, ltb-true, ltb-false}
 use Rattle.std.proofs.lemmas.List.{length-append}
 use Rattle.std.proofs.lemmas.List.Elements.{All-nil, All-cons, All-append, All-head, All-tail, All-weaker}
 use Rattle.std.proofs.lemmas.List.Kept.{AllPairs-cons}
@@ -40,12 +40,11 @@ module _ (m n : ℕ) where
   -- two machines have different jobs
   job_at-once : (i k t moment : ℕ) (xs : List Segment) → i < k → k < m → All Slice xs → job_at n i t xs moment ≡ job_at n k t xs moment → job_at n i t xs moment ≡ n
   job_at-once i k t moment [] l b h = λ e. refl
-  job_at-once i k t moment (x ∷ xs) l b h = by (ltb moment (t + long x)) (job_at-once i k (t + long x) moment xs l b (All-tail Slice x xs h))
-    where
-      by : (v : Bool) → (job_at n i (t + long x) xs moment ≡ job_at n k (t + long x) xs moment → job_at n i (t + long x) xs moment ≡ n)
-          → cond v (job_on x i) (job_at n i (t + long x) xs moment) ≡ cond v (job_on x k) (job_at n k (t + long x) xs moment) → cond v (job_on x i) (job_at n i (t + long x) xs moment) ≡ n
-      by true later e = (All-head Slice x xs h).once i k l b e
-      by false later e = later e
+  job_at-once i k t moment (x ∷ xs) l b h = elim (ltb moment (t + long x)) as (λ v. cond v (job_on x i) (job_at n i (t + long x) xs moment)
+      ≡ cond v (job_on x k) (job_at n k (t + long x) xs moment) → cond v (job_on x i) (job_at n i (t + long x) xs moment) ≡ n) [
+    | true ↦ (All-head Slice x xs h).once i k l b
+    | false ↦ job_at-once i k (t + long x) moment xs l b (All-tail Slice x xs h)
+  ]
 
   -- ---- one machine
   -- a piece of a machine that begins at a or later and ends by the end
@@ -62,29 +61,20 @@ module _ (m n : ℕ) where
     Started j a t = (j ≡ n) ⊎ ((a < t) × (j < n))
 
     begun : (x : Segment) (t : ℕ) → Slice x → Started (job_on x i) t (t + long x)
-    begun x t s = by (less_or_not (job_on x i) n)
-      where
-        by : (job_on x i < n) ⊎ (n ≤ job_on x i) → Started (job_on x i) t (t + long x)
-        by (inl l) = inr (omega (arith, s.lasts), l)
-        by (inr l) = inl (omega (arith, l, s.inside i inside))
+    begun x t s = elim (less_or_not (job_on x i) n) [ inl l ↦ inr (omega (arith, s.lasts), l) | inr l ↦ inl (omega (arith, l, s.inside i inside)) ]
 
     longer : (j a t l : ℕ) → Started j a t → Started j a (t + l)
     longer j a t l (inl e) = inl e
     longer j a t l (inr s) = inr (omega (arith, s.0), s.1)
 
     on_part : (P : Piece → Type 0) (j a t : ℕ) → (j ≢ n → P (piece_on i j a t)) → All P (part_on n i j a t)
-    on_part P j a t h = by (eqb j n) refl
-      where
-        by : (v : Bool) → eqb j n ≡ v → All P (cond v [] (piece_on i j a t ∷ []))
-        by true e = All-nil P
-        by false e = All-cons P (piece_on i j a t) [] (h (eqb-false j n e)) (All-nil P)
+    on_part P j a t h = cond_both (eqb j n) [] (piece_on i j a t ∷ []) (All P) (λ _. All-nil P) (λ e. All-cons P (piece_on i j a t) [] (h (eqb-false j n e)) (All-nil P))
 
     part_is : (j a t end : ℕ) → Started j a t → t ≤ end → All (IsRun i a end) (part_on n i j a t)
-    part_is j a t end s l = on_part (IsRun i a end) j a t (λ d. by d s)
-      where
-        by : j ≢ n → Started j a t → IsRun i a end (piece_on i j a t)
-        by d (inl e) = absurd (d e)
-        by d (inr q) = record { timed = record { from = refl; to = refl; lasts = q.0 }; from = omega arith; to = l; job = q.1; machine = refl; op = refl }
+    part_is j a t end s l = on_part (IsRun i a end) j a t (λ d. elim s [
+      | inl e ↦ absurd (d e)
+      | inr q ↦ record { timed = record { from = refl; to = refl; lasts = q.0 }; from = omega arith; to = l; job = q.1; machine = refl; op = refl }
+    ])
 
     later : (a b end : ℕ) (ps : List Piece) → a ≤ b → All (IsRun i b end) ps → All (IsRun i a end) ps
     later a b end ps l = All-weaker (IsRun i b end) (IsRun i a end) (λ p r. record { timed = r.timed; from = omega (arith, l, r.from); to = r.to; job = r.job; machine = r.machine; op = r.op }) ps
@@ -93,25 +83,22 @@ module _ (m n : ℕ) where
     runs_are j a t end [] l s e h = part_is j a t end s (omega (arith, e))
     runs_are j a t end (x ∷ xs) l s e h =
         let rest : t + long x + sum_by long xs ≡ end = omega (arith, e, sum_by-cons long x xs) in
-        by (eqb (job_on x i) j) (omega (arith, rest)) (runs_are j a (t + long x) end xs (omega (arith, l)) (longer j a t (long x) s) rest (All-tail Slice x xs h))
-        (runs_are (job_on x i) t (t + long x) end xs (omega arith) (begun x t (All-head Slice x xs h)) rest (All-tail Slice x xs h))
-      where
-        by : (v : Bool) → t ≤ end → All (IsRun i a end) (runs_from n i j a (t + long x) xs) → All (IsRun i t end) (runs_from n i (job_on x i) t (t + long x) xs)
-            → All (IsRun i a end) (cond v (runs_from n i j a (t + long x) xs) (part_on n i j a t ++ runs_from n i (job_on x i) t (t + long x) xs))
-        by true b same other = same
-        by false b same other = All-append (IsRun i a end) (part_on n i j a t) (runs_from n i (job_on x i) t (t + long x) xs) (part_is j a t end s b) (later a t end _ l other)
+        cond_both (eqb (job_on x i) j) _ _ (All (IsRun i a end)) (λ _. runs_are j a (t + long x) end xs (omega (arith, l)) (longer j a t (long x) s) rest (All-tail Slice x xs h))
+        (λ _. All-append (IsRun i a end) (part_on n i j a t) (runs_from n i (job_on x i) t (t + long x) xs) (part_is j a t end s (omega (arith, rest)))
+        (later a t end _ l (runs_are (job_on x i) t (t + long x) end xs (omega arith) (begun x t (All-head Slice x xs h)) rest (All-tail Slice x xs h))))
+
+    -- the pieces after a change
+    changed : (t : ℕ) (x : Segment) (xs : List Segment) → All Slice (x ∷ xs) → All (IsRun i t (t + long x + sum_by long xs)) (runs_from n i (job_on x i) t (t + long x) xs)
+    changed t x xs h = runs_are (job_on x i) t (t + long x) _ xs (omega arith) (begun x t (All-head Slice x xs h)) refl (All-tail Slice x xs h)
 
     -- a piece that begins before t is of the job that the machine has had
     early : (j a t : ℕ) (xs : List Segment) → a ≤ t → Started j a t → All Slice xs → All (λ p. start p < t → p.job ≡ j) (runs_from n i j a t xs)
     early j a t [] l s h = on_part (λ p. start p < t → p.job ≡ j) j a t (λ d b. refl)
-    early j a t (x ∷ xs) l s h = by (eqb (job_on x i) j) (early j a (t + long x) xs (omega (arith, l)) (longer j a t (long x) s) (All-tail Slice x xs h))
-      where
-        by : (v : Bool) → All (λ p. start p < t + long x → p.job ≡ j) (runs_from n i j a (t + long x) xs)
-            → All (λ p. start p < t → p.job ≡ j) (cond v (runs_from n i j a (t + long x) xs) (part_on n i j a t ++ runs_from n i (job_on x i) t (t + long x) xs))
-        by true same = All-weaker (λ p. start p < t + long x → p.job ≡ j) (λ p. start p < t → p.job ≡ j) (λ p f b. f (omega (arith, b))) (runs_from n i j a (t + long x) xs) same
-        by false same = All-append (λ p. start p < t → p.job ≡ j) (part_on n i j a t) _ (on_part (λ p. start p < t → p.job ≡ j) j a t (λ d b. refl))
-            (All-weaker (IsRun i t (t + long x + sum_by long xs)) (λ p. start p < t → p.job ≡ j) (λ p r b. absurd (omega (arith, b, r.from))) (runs_from n i (job_on x i) t (t + long x) xs)
-            (runs_are (job_on x i) t (t + long x) (t + long x + sum_by long xs) xs (omega arith) (begun x t (All-head Slice x xs h)) refl (All-tail Slice x xs h)))
+    early j a t (x ∷ xs) l s h = cond_both (eqb (job_on x i) j) _ _ (All (λ p. start p < t → p.job ≡ j))
+        (λ _. All-weaker (λ p. start p < t + long x → p.job ≡ j) (λ p. start p < t → p.job ≡ j) (λ p f b. f (omega (arith, b)))
+        (runs_from n i j a (t + long x) xs) (early j a (t + long x) xs (omega (arith, l)) (longer j a t (long x) s) (All-tail Slice x xs h)))
+        (λ _. All-append (λ p. start p < t → p.job ≡ j) (part_on n i j a t) _ (on_part (λ p. start p < t → p.job ≡ j) j a t (λ d b. refl))
+        (All-weaker (IsRun i t (t + long x + sum_by long xs)) (λ p. start p < t → p.job ≡ j) (λ p r b. absurd (omega (arith, b, r.from))) _ (changed t x xs h)))
 
     -- a piece runs while the machine has its job
     abbrev Covers : ℕ → List Segment → Piece → Type 0
@@ -122,45 +109,31 @@ module _ (m n : ℕ) where
 
     covers : (j a t : ℕ) (xs : List Segment) → a ≤ t → Started j a t → All Slice xs → All (Covers t xs) (runs_from n i j a t xs)
     covers j a t [] l s h = on_part (Covers t []) j a t (λ d moment b c e. absurd (omega (arith, b, e)))
-    covers j a t (x ∷ xs) l s h = by (eqb (job_on x i) j) refl (λ k b c s. covers k b (t + long x) xs (omega (arith, c)) s (All-tail Slice x xs h))
+    covers j a t (x ∷ xs) l s h =
+        let f : CoversLater t x xs = λ k b c s. covers k b (t + long x) xs (omega (arith, c)) s (All-tail Slice x xs h) in
+        cond_both (eqb (job_on x i) j) _ _ (All (Covers t (x ∷ xs))) (λ e. inner f j a (eqb-true (job_on x i) j e) l (longer j a t (long x) s))
+        (λ _. All-append (Covers t (x ∷ xs)) (part_on n i j a t) _ (on_part (Covers t (x ∷ xs)) j a t (λ d moment b c f. absurd (omega (arith, b, f))))
+        (inner f (job_on x i) t refl (omega arith) (begun x t (All-head Slice x xs h))))
       where
         inner : CoversLater t x xs → (k b : ℕ) → job_on x i ≡ k → b ≤ t → Started k b (t + long x) → All (Covers t (x ∷ xs)) (runs_from n i k b (t + long x) xs)
         inner f k b e c s q d r = one (get_or (runs_from n i k b (t + long x) xs) q d) (early k b (t + long x) xs (omega (arith, c)) s (All-tail Slice x xs h) q d r) (f k b c s q d r)
           where
             one : (p : Piece) → (start p < t + long x → p.job ≡ k) → Covers (t + long x) xs p → Covers t (x ∷ xs) p
-            one p f g moment u v w = at (ltb moment (t + long x)) refl
-              where
-                at : (y : Bool) → ltb moment (t + long x) ≡ y → cond y (job_on x i) (job_at n i (t + long x) xs moment) ≡ p.job
-                at true z = e ∙ sym (f (omega (arith, v, ltb-true moment (t + long x) z)))
-                at false z = g moment (ltb-false moment (t + long x) z) v w
-
-        by : (v : Bool) → eqb (job_on x i) j ≡ v → CoversLater t x xs
-            → All (Covers t (x ∷ xs)) (cond v (runs_from n i j a (t + long x) xs) (part_on n i j a t ++ runs_from n i (job_on x i) t (t + long x) xs))
-        by true e f = inner f j a (eqb-true (job_on x i) j e) l (longer j a t (long x) s)
-        by false e g = All-append (Covers t (x ∷ xs)) (part_on n i j a t) _ (on_part (Covers t (x ∷ xs)) j a t (λ d moment b c f. absurd (omega (arith, b, f))))
-            (inner g (job_on x i) t refl (omega arith) (begun x t (All-head Slice x xs h)))
+            one p f g moment u v w = cond_both (ltb moment (t + long x)) _ _ (λ j. j ≡ p.job)
+                (λ z. e ∙ sym (f (omega (arith, v, ltb-true moment (t + long x) z)))) (λ z. g moment (ltb-false moment (t + long x) z) v w)
 
     -- the pieces follow one another
     abbrev Follows : Piece → Piece → Type 0
     Follows p q = finish p ≤ start q
 
     follow : (j a t : ℕ) (xs : List Segment) → a ≤ t → Started j a t → All Slice xs → AllPairs Follows (runs_from n i j a t xs)
-    follow j a t [] l s h = by (eqb j n)
-      where
-        by : (v : Bool) → AllPairs Follows (cond v [] (piece_on i j a t ∷ []))
-        by true = AllPairs-empty Follows
-        by false = AllPairs-cons Follows (piece_on i j a t) [] (All-nil (Follows (piece_on i j a t))) (AllPairs-empty Follows)
-    follow j a t (x ∷ xs) l s h = by (eqb (job_on x i) j) (eqb j n) (follow j a (t + long x) xs (omega (arith, l)) (longer j a t (long x) s) (All-tail Slice x xs h))
-        (follow (job_on x i) t (t + long x) xs (omega arith) (begun x t (All-head Slice x xs h)) (All-tail Slice x xs h))
-      where
-        after : All (IsRun i t (t + long x + sum_by long xs)) (runs_from n i (job_on x i) t (t + long x) xs)
-        after = runs_are (job_on x i) t (t + long x) _ xs (omega arith) (begun x t (All-head Slice x xs h)) refl (All-tail Slice x xs h)
-
-        by : (v w : Bool) → AllPairs Follows (runs_from n i j a (t + long x) xs) → AllPairs Follows (runs_from n i (job_on x i) t (t + long x) xs)
-            → AllPairs Follows (cond v (runs_from n i j a (t + long x) xs) (cond w [] (piece_on i j a t ∷ []) ++ runs_from n i (job_on x i) t (t + long x) xs))
-        by true w same next = same
-        by false true same next = next
-        by false false same next = AllPairs-cons Follows (piece_on i j a t) _ (All-weaker (IsRun i t (t + long x + sum_by long xs)) (Follows (piece_on i j a t)) (λ p r. r.from) _ after) next
+    follow j a t [] l s h = cond_both (eqb j n) [] (piece_on i j a t ∷ []) (AllPairs Follows)
+        (λ _. AllPairs-empty Follows) (λ _. AllPairs-cons Follows (piece_on i j a t) [] (All-nil (Follows (piece_on i j a t))) (AllPairs-empty Follows))
+    follow j a t (x ∷ xs) l s h =
+        let next = follow (job_on x i) t (t + long x) xs (omega arith) (begun x t (All-head Slice x xs h)) (All-tail Slice x xs h) in
+        cond_both (eqb (job_on x i) j) _ _ (AllPairs Follows) (λ _. follow j a (t + long x) xs (omega (arith, l)) (longer j a t (long x) s) (All-tail Slice x xs h))
+        (λ _. cond_both (eqb j n) [] (piece_on i j a t ∷ []) (λ ps. AllPairs Follows (ps ++ runs_from n i (job_on x i) t (t + long x) xs)) (λ _. next) (λ _. AllPairs-cons Follows
+        (piece_on i j a t) _ (All-weaker (IsRun i t (t + long x + sum_by long xs)) (Follows (piece_on i j a t)) (λ p r. r.from) _ (changed t x xs h)) next))
 
     -- what the pieces do, where a job counts
     module _ (value : ℕ → ℕ) (zero_value : value n ≡ 0) where
@@ -168,15 +141,21 @@ module _ (m n : ℕ) where
       counted p = size p * value p.job
 
       part_work : (j a t : ℕ) → sum_by counted (part_on n i j a t) ≡ (t - a) * value j
-      part_work j a t = by (eqb j n) refl
-        where
-          by : (v : Bool) → eqb j n ≡ v → sum_by counted (cond v [] (piece_on i j a t ∷ [])) ≡ (t - a) * value j
-          by true e = omega (arith, ap (λ k. (t - a) * k) (ap value (eqb-true j n e) ∙ zero_value))
-          by false e = omega (arith, sum_by-cons counted (piece_on i j a t) [])
+      part_work j a t = cond_both (eqb j n) [] (piece_on i j a t ∷ []) (λ ps. sum_by counted ps ≡ (t - a) * value j)
+          (λ e. omega (arith, ap (λ k. (t - a) * k) (ap value (eqb-true j n e) ∙ zero_value))) (λ e. omega (arith, sum_by-cons counted (piece_on i j a t) []))
 
       runs_work : (j a t : ℕ) (xs : List Segment) → a ≤ t → sum_by counted (runs_from n i j a t xs) ≡ (t - a) * value j + sum_by (λ x. long x * value (job_on x i)) xs
       runs_work j a t [] l = omega (arith, part_work j a t)
-      runs_work j a t (x ∷ xs) l = by (eqb (job_on x i) j) refl (runs_work j a (t + long x) xs (omega (arith, l))) (runs_work (job_on x i) t (t + long x) xs (omega arith))
+      runs_work j a t (x ∷ xs) l = cond_both (eqb (job_on x i) j) _ _ (λ ps. sum_by counted ps ≡ (t - a) * value j + sum_by (λ y. long y * value (job_on y i)) (x ∷ xs))
+          (λ e. omega (arith, runs_work j a (t + long x) xs (omega (arith, l)), both (value j) (long x), ap (λ k. long x * value k) (eqb-true (job_on x i) j e), sum_by-cons (λ y. long y * value (job_on y i)) x xs))
+          (λ e. omega (
+            arith,
+            sum_by-append counted (part_on n i j a t) (runs_from n i (job_on x i) t (t + long x) xs),
+            part_work j a t,
+            runs_work (job_on x i) t (t + long x) xs (omega arith),
+            ap (λ k. k * value (job_on x i)) (lasts (long x)),
+            sum_by-cons (λ y. long y * value (job_on y i)) x xs,
+          ))
         where
           lasts : (d : ℕ) → t + d - t ≡ d
           lasts d = omega arith
@@ -187,33 +166,12 @@ module _ (m n : ℕ) where
               parts : (d : ℕ) → t + d - a ≡ t - a + d
               parts d = omega (arith, l)
 
-          by : (v : Bool) → eqb (job_on x i) j ≡ v → sum_by counted (runs_from n i j a (t + long x) xs) ≡ (t + long x - a) * value j + sum_by (λ x. long x * value (job_on x i)) xs
-              → sum_by counted (runs_from n i (job_on x i) t (t + long x) xs) ≡ (t + long x - t) * value (job_on x i) + sum_by (λ x. long x * value (job_on x i)) xs → sum_by counted
-              (cond v (runs_from n i j a (t + long x) xs) (part_on n i j a t ++ runs_from n i (job_on x i) t (t + long x) xs)) ≡ (t - a) * value j + sum_by (λ y. long y * value (job_on y i)) (x ∷ xs)
-          by true e same other = omega (arith, same, both (value j) (long x), ap (λ k. long x * value k) (eqb-true (job_on x i) j e), sum_by-cons (λ y. long y * value (job_on y i)) x xs)
-          by false e same other = omega (
-            arith,
-            sum_by-append counted (part_on n i j a t) (runs_from n i (job_on x i) t (t + long x) xs),
-            part_work j a t,
-            other,
-            ap
-                (λ k. k * value (job_on x i)) (lasts (long x)),
-            sum_by-cons (λ y. long y * value (job_on y i)) x xs,
-          )
-
     runs_few : (j a t : ℕ) (xs : List Segment) → length (runs_from n i j a t xs) ≤ suc (length xs)
-    runs_few j a t [] = by (eqb j n)
-      where
-        by : (v : Bool) → length (cond v [] (piece_on i j a t ∷ [])) ≤ 1
-        by true = omega arith
-        by false = omega arith
-    runs_few j a t (x ∷ xs) = by (eqb (job_on x i) j) (eqb j n) (runs_few j a (t + long x) xs) (runs_few (job_on x i) t (t + long x) xs)
-      where
-        by : (v w : Bool) → length (runs_from n i j a (t + long x) xs) ≤ suc (length xs) → length (runs_from n i (job_on x i) t (t + long x) xs) ≤ suc (length xs)
-            → length (cond v (runs_from n i j a (t + long x) xs) (cond w [] (piece_on i j a t ∷ []) ++ runs_from n i (job_on x i) t (t + long x) xs)) ≤ suc (suc (length xs))
-        by true w l k = omega (arith, l)
-        by false true l k = omega (arith, k)
-        by false false l k = omega (arith, k)
+    runs_few j a t [] = cond_both (eqb j n) [] (piece_on i j a t ∷ []) (λ ps. length ps ≤ 1) (λ _. omega arith) (λ _. omega arith)
+    runs_few j a t (x ∷ xs) =
+        let next = runs_few (job_on x i) t (t + long x) xs in
+        cond_both (eqb (job_on x i) j) _ _ (λ ps. length ps ≤ suc (suc (length xs))) (λ _. omega (arith, runs_few j a (t + long x) xs)) (λ _. cond_both (eqb j n) [] (piece_on i j a t ∷ [])
+        (λ ps. length (ps ++ runs_from n i (job_on x i) t (t + long x) xs) ≤ suc (suc (length xs))) (λ _. omega (arith, next)) (λ _. omega (arith, next)))
 
   -- ---- all machines
   -- what is said of the pieces up to the end
@@ -255,11 +213,10 @@ module _ (m n : ℕ) where
         by : (start q < finish p) ⊎ (finish p ≤ start q) → (start p < finish q) ⊎ (finish q ≤ start p) → (finish p ≤ start q) ⊎ (finish q ≤ start p)
         by (inr a) z = inl a
         by (inl a) (inr z) = inr z
-        by (inl a) (inl z) = least (less_or_not (start p) (start q))
-          where
-            least : (start p < start q) ⊎ (start q ≤ start p) → (finish p ≤ start q) ⊎ (finish q ≤ start p)
-            least (inl y) = absurd (both (start q) (omega (arith, y)) a (omega arith) s.timed.lasts)
-            least (inr y) = absurd (both (start p) (omega arith) r.timed.lasts y z)
+        by (inl a) (inl z) = elim (less_or_not (start p) (start q)) [
+          | inl y ↦ absurd (both (start q) (omega (arith, y)) a (omega arith) s.timed.lasts)
+          | inr y ↦ absurd (both (start p) (omega arith) r.timed.lasts y z)
+        ]
 
     lie_apart : (k : ℕ) → k ≤ m → LieApart k end (runs n xs k)
     lie_apart zero l = record {

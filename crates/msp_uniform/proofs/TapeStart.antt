@@ -1,5 +1,5 @@
 -- The tape begins: the jobs that are left need no more than the last place each.
-use Rattle.std.proofs.Common.{◌≡◌, ℕ, zero, suc, ◌+◌, ◌*◌, ◌<◌, ◌≤◌, inl, inr, List, [], ◌∷◌, length, get_or, All, sum_by, refl, sym, ap, subst, ◌∙◌, zero-add, arith}
+use Rattle.std.proofs.Common.{◌≡◌, ℕ, zero, suc, ◌+◌, ◌*◌, ◌<◌, ◌≤◌, inl, inr, List, [], ◌∷◌, length, get_or, All, sum_by, refl, sym, ap, subst, ◌∙◌, zero-add, add-one, arith}
 use Rattle.std.specs.Int.{◌∣◌}
 use Rattle.std.proofs.Math.Nat.{mul-le-mul_left, dvd-mul_left, dvd-mul_right}
 use Rattle.std.proofs.lemmas.Nat.Gcd.{dvd-zero}
@@ -39,7 +39,7 @@ module _ (speeds : List ℕ) (n : ℕ) (time : ℕ → ℕ) (left : List ℕ) (u
     pub IsTape-start : IsTape speeds n time left unit end h [] xs
     IsTape-start = record {
       each_early = All-nil (IsSegment (length speeds) n (at speeds) h);
-      each_late = subst (λ k. All (IsSegment (length speeds) n (at speeds) k) xs) (one h) p.each;
+      each_late = subst (λ k. All (IsSegment (length speeds) n (at speeds) k) xs) (sym (add-one h)) p.each;
       whole = zero-add (amount (λ _. 1) xs) ∙ p.whole;
       absent_early = λ k d l. All-nil (IsAbsent (length speeds) _);
       absent_late = p.absent;
@@ -47,15 +47,12 @@ module _ (speeds : List ℕ) (n : ℕ) (time : ℕ → ℕ) (left : List ℕ) (u
         | inl c ↦ inl c
         | inr e ↦ inr (zero-add (amount (job_rate (length speeds) (at speeds) j) xs) ∙ e)
       ];
-      room = omega (arith, works-total time unit left, p.fit.all, none h, ap (λ k. total_below k (λ i. amount (rate_at (at speeds) i) xs)) (one h));
+      room = omega (arith, works-total time unit left, p.fit.all, none h, ap (λ k. total_below k (λ i. amount (rate_at (at speeds) i) xs)) (sym (add-one h)));
       short = λ g e k d l. subst (λ a. unit * time (get_or left k d) ≤ a) (sym (zero-add (amount (rate_at (at speeds) h) xs))) (short k d l);
       apart = p.apart;
       inside = p.inside;
     }
       where
-        one : (k : ℕ) → suc k ≡ k + 1
-        one k = omega arith
-
         none : (h : ℕ) → total_below h (λ _. 0) ≡ 0
         none h = total_below-none h (λ _. 0) (λ i l. refl)
 

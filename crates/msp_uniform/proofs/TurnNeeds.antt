@@ -1,6 +1,6 @@
 -- What the steps of a turn ask for.
 use Rattle.std.proofs.Common.{◌≡◌, ℕ, zero, suc, ◌+◌, ◌*◌, ◌-◌, ◌<◌, ◌≤◌, inl, inr, true, false, List, [], ◌∷◌, length, All, refl, ap, subst, ◌∙◌, arith}
-use Rattle.std.proofs.Math.Nat.{mul-le-mul_left}
+use Rattle.std.proofs.Math.Nat.{one-le-mul, mul-le-mul_left}
 use Rattle.std.proofs.lemmas.List.Elements.{All-head, All-tail}
 use Rattle.msp_class.specs.declared.sizes.TheConstants.{GREATEST_SPEED}
 use Rattle.msp_class.proofs.Sums.{sum_by-cons}
@@ -58,11 +58,7 @@ module _ (speeds : List ℕ) (h n : ℕ) (xs : List Segment) (each : All (IsSegm
 
       pub fine_places : (r : ℕ) → r + 1 < h → All (HasPlaces (length speeds) true r) ys
       fine_places r l = All-scaled (IsSegment (length speeds) n (at speeds) h) (HasPlaces (length speeds) true r) d xs ys
-          (λ x y s p. has_both r (omega (arith, l)) y (IsSegment-part (length speeds) n (at speeds) h (x.length * d) x y p (positive x.length d s.lasts some) s)) scaled each
-        where
-          positive : (a b : ℕ) → 1 ≤ a → 1 ≤ b → 1 ≤ a * b
-          positive zero b l k = absurd (omega arith)
-          positive (suc a) b l k = omega (arith, k)
+          (λ x y s p. has_both r (omega (arith, l)) y (IsSegment-part (length speeds) n (at speeds) h (x.length * d) x y p (one-le-mul s.lasts some) s)) scaled each
 
       pub fine_short : All (λ x. x.length ≤ greatest_length) ys
       fine_short = All-scaled (λ x. x.length * d ≤ greatest_length) (λ x. x.length ≤ greatest_length) d xs ys (λ x y s p. omega (arith, p.long, s)) scaled lengths_short

@@ -2,7 +2,7 @@
 use Rattle.std.proofs.Common.{◌+◌, ◌≡◌, ℕ, zero, suc, ◌*◌, ◌<◌, ◌≤◌, ◌⊎◌, inl, inr, List, length, take, get_or, ℤ, pos, ◌*ℤ◌, ◌≤ℤ◌, All, sum_by, IsPermutation, refl, sym, ap}
 use Rattle.std.proofs.Common.{subst, subst₂, ◌∙◌, arith}
 use Rattle.std.proofs.lemmas.Int.{ints}
-use Rattle.std.proofs.Math.Nat.{mul-le-mul_left, eq_of_mul-eq-mul_right}
+use Rattle.std.proofs.Math.Nat.{one-le-mul, mul-le-mul_left, eq_of_mul-eq-mul_right}
 use Rattle.std.proofs.lemmas.List.{get_or-map, length-map}
 use Rattle.std.proofs.lemmas.List.Elements.{All-take}
 use Rattle.std.proofs.lemmas.List.Sorted.{All-permutation, length_permutation}
@@ -97,17 +97,14 @@ module _ (i : Instance) (class : i.class ≡ cut_class)
   first_work q = work_is (take q jobs) (All-take (λ j. j < length i.jobs) q jobs all_in)
 
   law : (s : Schedule) → Feasible i s → (pos t.work *ℤ s.unit) ≤ℤ (cost_of i s *ℤ pos t.speed)
-  law s e = by k.asked.greatest.reached
+  law s e = elim k.asked.greatest.reached [
+    | inl (a, b) ↦ read _ _ _ _ a b (work_is jobs all_in) (total_speed machines) (law_of_least_end.total i class s e h.some jobs machines by_time by_speed)
+    | inr (q, some, l, m, a, b) ↦ read _ _ _ _ a b (first_work q) (total_speed (take q machines)) (law_of_least_end.firsts i class s e h.some jobs machines by_time by_speed q
+        (omega (arith, l, order_length i.machines (speed_of i) machines by_speed)) (omega (arith, m, order_length (length i.jobs) (time_at i) jobs by_time)))
+  ]
     where
       read : (w v : ℕ) (ws vs : ℕ) → t.work ≡ w → t.speed ≡ v → w ≡ ws → v ≡ vs → (pos ws *ℤ s.unit) ≤ℤ (cost_of i s *ℤ pos vs) → (pos t.work *ℤ s.unit) ≤ℤ (cost_of i s *ℤ pos t.speed)
       read w v ws vs a b c d l = subst₂ (λ x y. (pos x *ℤ s.unit) ≤ℤ (cost_of i s *ℤ pos y)) (sym (a ∙ c)) (sym (b ∙ d)) l
-
-      by : ((t.work ≡ sum_by (at t.times.items) jobs) × (t.speed ≡ sum_by (at t.speeds.items) machines))
-          ⊎ ((q : ℕ) × (1 ≤ q) × (q < length machines) × (q ≤ length jobs) × (t.work ≡ sum_by (at t.times.items) (take q jobs)) × (t.speed ≡ sum_by (at t.speeds.items) (take q machines)))
-          → (pos t.work *ℤ s.unit) ≤ℤ (cost_of i s *ℤ pos t.speed)
-      by (inl (a, b)) = read _ _ _ _ a b (work_is jobs all_in) (total_speed machines) (law_of_least_end.total i class s e h.some jobs machines by_time by_speed)
-      by (inr (q, some, l, m, a, b)) = read _ _ _ _ a b (first_work q) (total_speed (take q machines)) (law_of_least_end.firsts i class s e h.some jobs machines by_time by_speed q
-          (omega (arith, l, order_length i.machines (speed_of i) machines by_speed)) (omega (arith, m, order_length (length i.jobs) (time_at i) jobs by_time)))
 
   pub slices : All (λ x. IsSliceOf i.machines (length i.jobs) x.length x.body.value.jobs) xs
   slices = subst₂ (λ m n. All (λ x. IsSliceOf m n x.length x.body.value.jobs) xs) many_machines many_jobs f.slices
@@ -152,14 +149,10 @@ module _ (i : Instance) (class : i.class ≡ cut_class)
 
     -- the quotient of a work and a speed
     compared : (n d w v : ℕ) → n * unit ≡ f.end * d → w * t.speed ≤ t.work * v → w * d ≤ n * v
-    compared n d w v e l = le_of_mul-le-mul_left {k = unit * t.speed} (by (mul-le-mul_left (unit * d) l)) (positive unit t.speed f.within.some k.asked.greatest.some)
+    compared n d w v e l = le_of_mul-le-mul_left {k = unit * t.speed} (by (mul-le-mul_left (unit * d) l)) (one-le-mul f.within.some k.asked.greatest.some)
       where
         by : unit * d * (w * t.speed) ≤ unit * d * (t.work * v) → unit * t.speed * (w * d) ≤ unit * t.speed * (n * v)
         by m = omega (arith, m, ap (λ x. x * (t.speed * v)) e, ap (λ x. x * (d * v)) f.within.least)
-
-        positive : (a b : ℕ) → 1 ≤ a → 1 ≤ b → 0 < a * b
-        positive zero b l k = absurd (omega (arith, l))
-        positive (suc a) b l k = omega (arith, k)
 
     -- numerator and denominator
     module _ (n d : ℕ) (num_is : c.num ≡ pos n) (den_is : c.den ≡ pos d) (e : n * unit ≡ f.end * d) where
@@ -181,21 +174,17 @@ module _ (i : Instance) (class : i.class ≡ cut_class)
         total = after (work i jobs) (speed i machines) (subst₂ (λ w v. w * t.speed ≤ t.work * v) (work_is jobs all_in) (total_speed machines) k.asked.greatest.total);
         firsts = λ q l m. after (work i (take q jobs)) (speed i (take q machines)) (subst₂ (λ w v. w * t.speed ≤ t.work * v) (first_work q) (total_speed (take q machines))
             (k.asked.greatest.firsts q (omega (arith, l, order_length i.machines (speed_of i) machines by_speed)) (omega (arith, m, order_length (length i.jobs) (time_at i) jobs by_time))));
-        reached = by k.asked.greatest.reached;
-      }
-        where
-          by : ((t.work ≡ sum_by (at t.times.items) jobs) × (t.speed ≡ sum_by (at t.speeds.items) machines))
-              ⊎ ((q : ℕ) × (1 ≤ q) × (q < length machines) × (q ≤ length jobs) × (t.work ≡ sum_by (at t.times.items) (take q jobs)) × (t.speed ≡ sum_by (at t.speeds.items) (take q machines)))
-              → IsOver c (pos (work i jobs)) (pos (speed i machines))
-              ⊎ ((q : ℕ) × (1 ≤ q) × (q < i.machines) × (q ≤ length i.jobs) × IsOver c (pos (work i (take q jobs))) (pos (speed i (take q machines))))
-          by (inl (a, b)) = inl (over_quotient _ _ (a ∙ work_is jobs all_in) (b ∙ total_speed machines))
-          by (inr (q, some, l, m, a, b)) = inr (
+        reached = elim k.asked.greatest.reached [
+          | inl (a, b) ↦ inl (over_quotient _ _ (a ∙ work_is jobs all_in) (b ∙ total_speed machines))
+          | inr (q, some, l, m, a, b) ↦ inr (
             q,
             some,
             omega (arith, l, order_length i.machines (speed_of i) machines by_speed),
             omega (arith, m, order_length (length i.jobs) (time_at i) jobs by_time),
             over_quotient _ _ (a ∙ first_work q) (b ∙ total_speed (take q machines)),
           )
+        ];
+      }
 
     made_cost : IsUniformCost i c
     made_cost =

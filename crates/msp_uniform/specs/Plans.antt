@@ -182,3 +182,9 @@ pub record IsLaidOver (speed : ℕ → ℕ) (job place rest more : ℕ) (early l
   pub also : AreLaid false speed job place' more 0 early early' seconds
   pub late_is : late' ≡ seconds ++ firsts
   pub place_is : place ≡ suc place'
+
+-- The next job is on the tape, and each place holds what it held.
+pub record IsNextTape (t : Task) (holds : List ℕ) (job unit h : ℕ) (early late : List Segment) (h' rest : ℕ) (early' late' : List Segment) : Type 0 where
+  pub held : DoHold t.speeds.items holds h' early' late'
+  pub left : rest ≡ amount (rate_at (at t.speeds.items) h') late'
+  pub taped : (jobs : List ℕ) → IsTaped t (job ∷ jobs) unit h early late → IsTaped t jobs unit h' early' late'

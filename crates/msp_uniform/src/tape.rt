@@ -2,7 +2,7 @@
 ghost use Rattle.std.specs.Prelude.{◌≡◌, ◌+◌, ◌-◌, ◌<◌, ◌≤◌, ◌^◌, ◌∷◌, List, ℕ, All, IfOk, OnOk};
 ghost use Rattle.msp_class.specs.declared.sizes.TheConstants.{GREATEST_SPEED};
 ghost use Rattle.msp_uniform.specs.Segments.{at, rate_at, amount};
-ghost use Rattle.msp_uniform.specs.Plans.{IsTask, IsReached, AreShort, IsTaped, DoHold, IsFilled, CanBeLaid, IsLaidHere, IsLaidOver};
+ghost use Rattle.msp_uniform.specs.Plans.{IsTask, IsReached, AreShort, IsTaped, DoHold, IsFilled, CanBeLaid, IsLaidHere, IsLaidOver, IsNextTape};
 
 use crate::laying::lay;
 use crate::segments::Segment;
@@ -36,9 +36,8 @@ fn lay_here(
     requires late { CanBeLaid speeds.now tape.old.place work tape.old.late.items }
     requires speeds { All (λ s. s ≤ GREATEST_SPEED) speeds.now }
     requires rest { work ≤ tape.old.rest }
-    ensures laid { OnOk result (IsLaidHere (at speeds.now) job tape.old.place work tape.old.early.items tape.old.late.items tape.new.early.items tape.new.late.items) }
-    ensures place { OnOk result (tape.new.place ≡ tape.old.place) }
-    ensures rest { OnOk result (tape.new.rest + work ≡ tape.old.rest) }
+    ensures { OnOk result (IsLaidHere (at speeds.now) job tape.old.place work tape.old.early.items tape.old.late.items tape.new.early.items tape.new.late.items
+        × (tape.new.place ≡ tape.old.place) × (tape.new.rest + work ≡ tape.old.rest)) }
 {
     lay(
         alloc,
@@ -107,10 +106,8 @@ fn lay_next(
     requires taped { (left : List ℕ) × IsTaped task.now (job ∷ left) unit tape.old.place tape.old.early.items tape.old.late.items }
     requires rest { tape.old.rest ≡ amount (rate_at (at task.now.speeds.items) tape.old.place) tape.old.late.items }
     requires holds { DoHold task.now.speeds.items holds.now tape.old.place tape.old.early.items tape.old.late.items }
-    ensures holds { OnOk result (DoHold task.now.speeds.items holds.now tape.new.place tape.new.early.items tape.new.late.items) }
-    ensures rest { OnOk result (tape.new.rest ≡ amount (rate_at (at task.now.speeds.items) tape.new.place) tape.new.late.items) }
-    ensures taped { OnOk result ((left : List ℕ) → IsTaped task.now (job ∷ left) unit tape.old.place tape.old.early.items tape.old.late.items
-        → IsTaped task.now left unit tape.new.place tape.new.early.items tape.new.late.items) }
+    ensures { OnOk result (IsNextTape task.now holds.now job unit tape.old.place tape.old.early.items tape.old.late.items
+        tape.new.place tape.new.rest tape.new.early.items tape.new.late.items) }
 {
     let speeds = task.speeds.as_slice();
     let work = need_of(task.times.as_slice(), unit, job);
