@@ -1,8 +1,8 @@
 // The report of `solve`.
-ghost use Rattle.std.specs.Prelude.{◌≡◌, ◌++◌, map, IfOk, OnOk};
+ghost use Rattle.std.specs.Prelude.{◌≡◌, ◌++◌, IfOk, OnOk};
 ghost use Rattle.msp_pieces.specs.Fraction.{IsLowest};
 ghost use Rattle.msp_grammar.specs.ScheduleText.{IsStated};
-ghost use Rattle.msp_report.specs.SolveText.{word_beside, solver_word, solver_line, solve_report};
+ghost use Rattle.msp_report.specs.SolveText.{solver_word, solver_line, solve_report};
 
 use crate::chain_text::put_chain;
 use msp_class::NoMemory;
@@ -13,66 +13,48 @@ use msp_text::Part::Text;
 use msp_text::{put, put_all};
 use std::alloc::Global;
 
-/// The word for each solver.
-const WORDS: [(SolverName, &[u8]); 36] = [
-    (SolverName::Smith, b"smith"),
-    (SolverName::Lawler, b"lawler"),
-    (SolverName::Moore, b"moore"),
-    (SolverName::Horn, b"horn"),
-    (SolverName::Blocks, b"blocks"),
-    (SolverName::UnitBlocks, b"unit-blocks"),
-    (SolverName::Shortest, b"shortest"),
-    (SolverName::Wrap, b"wrap"),
-    (SolverName::Levels, b"levels"),
-    (SolverName::Uniform, b"uniform"),
-    (SolverName::Unrelated, b"unrelated"),
-    (SolverName::SlotsLate, b"slots-late"),
-    (SolverName::SlotsCount, b"slots-count"),
-    (SolverName::Johnson, b"johnson"),
-    (SolverName::Jackson, b"jackson"),
-    (SolverName::Open2, b"open2"),
-    (SolverName::OpenCut, b"open-cut"),
-    (SolverName::UniformCut, b"uniform-cut"),
-    (SolverName::Lexical, b"lexical"),
-    (SolverName::LateTable, b"late-table"),
-    (SolverName::Search, b"search"),
-    (SolverName::TreeDue, b"tree-due"),
-    (SolverName::PairDue, b"pair-due"),
-    (SolverName::Stairs, b"stairs"),
-    (SolverName::CutSum, b"cut-sum"),
-    (SolverName::CutWeights, b"cut-weights"),
-    (SolverName::OpenWeights, b"open-weights"),
-    (SolverName::CutOpenWeights, b"cut-open-weights"),
-    (SolverName::PlacesMost, b"places-most"),
-    (SolverName::PlacesLate, b"places-late"),
-    (SolverName::PlacesCount, b"places-count"),
-    (SolverName::LevelsSum, b"levels-sum"),
-    (SolverName::EqualHeads, b"equal-heads"),
-    (SolverName::JacksonCut, b"jackson-cut"),
-    (SolverName::LinesLate, b"lines-late"),
-    (SolverName::LinesCount, b"lines-count"),
-];
-
-/// The word beside the solver in a table.
-fn word_beside(table: &[(SolverName, &'static [u8])], solver: SolverName) -> &'static [u8]
-    ensures { result.now ≡ word_beside (map (λ row. (row.0, row.1.now)) table.now) solver }
-{
-    let mut rows = table;
-    'rows: while let [row, more @ ..] = rows {
-        if row.0 == solver {
-            return row.1;
-        }
-        rows = more;
-    }
-    b""
-}
-
 /// The word for a solver.
-#[tactic(auto, unfolding(crate::specs::SolveText::solver_word))]
 fn word(solver: SolverName) -> &'static [u8]
     ensures { result.now ≡ solver_word solver }
 {
-    word_beside(&WORDS, solver)
+    match solver {
+        SolverName::Smith => b"smith",
+        SolverName::Lawler => b"lawler",
+        SolverName::Moore => b"moore",
+        SolverName::Horn => b"horn",
+        SolverName::Blocks => b"blocks",
+        SolverName::UnitBlocks => b"unit-blocks",
+        SolverName::Shortest => b"shortest",
+        SolverName::Wrap => b"wrap",
+        SolverName::Levels => b"levels",
+        SolverName::Uniform => b"uniform",
+        SolverName::Unrelated => b"unrelated",
+        SolverName::SlotsLate => b"slots-late",
+        SolverName::SlotsCount => b"slots-count",
+        SolverName::Johnson => b"johnson",
+        SolverName::Jackson => b"jackson",
+        SolverName::Open2 => b"open2",
+        SolverName::OpenCut => b"open-cut",
+        SolverName::UniformCut => b"uniform-cut",
+        SolverName::Lexical => b"lexical",
+        SolverName::LateTable => b"late-table",
+        SolverName::Search => b"search",
+        SolverName::TreeDue => b"tree-due",
+        SolverName::PairDue => b"pair-due",
+        SolverName::Stairs => b"stairs",
+        SolverName::CutSum => b"cut-sum",
+        SolverName::CutWeights => b"cut-weights",
+        SolverName::OpenWeights => b"open-weights",
+        SolverName::CutOpenWeights => b"cut-open-weights",
+        SolverName::PlacesMost => b"places-most",
+        SolverName::PlacesLate => b"places-late",
+        SolverName::PlacesCount => b"places-count",
+        SolverName::LevelsSum => b"levels-sum",
+        SolverName::EqualHeads => b"equal-heads",
+        SolverName::JacksonCut => b"jackson-cut",
+        SolverName::LinesLate => b"lines-late",
+        SolverName::LinesCount => b"lines-count",
+    }
 }
 
 #[tactic(auto, unfolding(crate::specs::SolveText::solver_line))]
