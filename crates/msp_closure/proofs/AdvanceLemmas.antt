@@ -103,8 +103,7 @@ module _ (usable : ℕ → Bool) (ls : List Link) (before after : List ℕ) (lev
           let same : get_or ls j d ≡ get_or ls n e = ap (λ i. get_or ls i d) here ∙ get_or_default ls n d e below in
           let s = are.sound (get_or ls n e) (Contains-get_or ls n e below) in
           let to : (get_or ls n e).to ≡ rank_of s.next = ap (λ l. l.to) s.joins in
-          let P : Link → Type 0 = λ l. get_or after l.from 0 ≡ FAR → get_or before l.to 0 ≢ level in
-          subst P (sym same)
+          subst (λ (l : Link). get_or after l.from 0 ≡ FAR → get_or before l.to 0 ≢ level) (sym same)
           (λ far was. missed far (ap (λ i. get_or after i 0) to
           ∙ level_after usable before after level changed s.next (omega arith) p.raises (sym (ap (λ i. get_or before i 0) to) ∙ was)))
       | inr apart ↦ p.misses j d (below_next j n early apart)
@@ -121,12 +120,11 @@ module _ (usable : ℕ → Bool) (ls : List Link) (before after : List ℕ) (lev
       let value : value_of after s.next ≡ level = sym (ap (λ i. get_or after i 0) to) ∙ leads in
       let led : LeadsToValue usable before s.start level s.row =
       (s.next, s.steps, level_before usable before after level changed s.next (omega arith) p.raises value) in
-      let P : ℕ → Type 0 = λ i. Raises usable before (set after i (level + 1)) level true in
       let inside : (get_or ls n e).from < length after = omega (arith, rank_of-below s.start) in
       let next : get_or (set after (get_or ls n e).from (level + 1)) (get_or ls n e).from 0 ≡ level + 1
       = get_or-set_same after (get_or ls n e).from (level + 1) 0 inside in
       record {
-        raises = subst P (sym from)
+        raises = subst (λ (i : ℕ). Raises usable before (set after i (level + 1)) level true) (sym from)
             (Raises-more usable before after level changed s.start small len (sym (ap (λ i. get_or after i 0) from) ∙ far) (s.row, led) p.raises);
         misses = λ j d early still. elim (cases_eq (get_or ls j d).from (get_or ls n e).from) as (λ _. get_or before (get_or ls j d).to 0 ≢ level) [
           | inl same ↦ absurd (omega (arith, sym next ∙ sym (ap (λ i. get_or (set after (get_or ls n e).from (level + 1)) i 0) same) ∙ still))

@@ -28,8 +28,7 @@ ListedBelow-more t classes n c at flagged s = record {
   ];
   all = λ x has below. elim (cases_eq (rank_of x) n) as (λ _. Contains (classes ++ c ∷ []) x) [
     | inl same ↦
-        let P : Class → Type 0 = Contains (classes ++ c ∷ []) in
-        subst P (rank_of-injective c x (at ∙ sym same)) (Contains-push classes c)
+        subst (Contains (classes ++ c ∷ [])) (rank_of-injective c x (at ∙ sym same)) (Contains-push classes c)
     | inr apart ↦ Contains-append_left classes (c ∷ []) x (s.all x has (below_next (rank_of x) n below apart))
   ];
   rises = all_pairs_push (λ a b. rank_of a < rank_of b) classes c s.rises
@@ -80,8 +79,7 @@ LedBackBelow-next t c b from next back s x below flagged reaches = elim (cases_l
   | inl early ↦ s x early flagged reaches
   | inr high ↦ elim (cases_eq (rank_of x) (rank_of b)) as (λ _. Reaches every_row x c) [
     | inl same ↦
-        let P : Class → Type 0 = λ y. is_flagged t y ≡ true → Reaches every_row y c in
-        subst P (rank_of-injective b x (sym same)) back flagged
+        subst (λ (y : Class). is_flagged t y ≡ true → Reaches every_row y c) (rank_of-injective b x (sym same)) back flagged
     | inr apart ↦ absurd (next.least x high (omega arith) reaches)
   ]
 ]
@@ -103,8 +101,7 @@ Struck-next c before left after from b next others only back s = record {
         | inl same ↦
             let is : b ≡ x = rank_of-injective b x (sym same) in
             let here = only (ap (is_flagged after) is ∙ flagged) in
-            let P : Class → Type 0 = λ y. Reaches every_row y c in
-            ((s.kept x (ap (is_flagged left) (sym is) ∙ here.1)).0, λ below reaches. subst P is here.0)
+            ((s.kept x (ap (is_flagged left) (sym is) ∙ here.1)).0, λ below reaches. subst (λ (y : Class). Reaches every_row y c) is here.0)
         | inr apart ↦
             let old = s.kept x (sym (others x apart) ∙ flagged) in (
               old.0,
@@ -119,9 +116,7 @@ Struck-next c before left after from b next others only back s = record {
       elim (cases_eq (rank_of x) (rank_of b)) as (λ _. is_flagged after x ≡ true) [
         | inl same ↦
             let is : x ≡ b = rank_of-injective x b same in
-            let P : Class → Type 0 = λ y. Reaches every_row c y in
-            let Q : Class → Type 0 = λ y. Reaches every_row y c in
-            let to_b = subst Q is (leads_back (omega arith) (subst P (sym is) next.reached)) in
+            let to_b = subst (λ (y : Class). Reaches every_row y c) is (leads_back (omega arith) (subst (λ (y : Class). Reaches every_row c y) (sym is) next.reached)) in
             ap (is_flagged after) is ∙ back to_b (ap (is_flagged left) (sym is) ∙ left_x)
         | inr apart ↦ others x apart ∙ left_x
       ];
@@ -174,8 +169,7 @@ MaximalBelow-off t left n c at len beaten s = record {
       ];
   all = λ b was maximal. elim (cases_eq (rank_of b) (rank_of c)) as (λ _. is_flagged (set left (rank_of c) false) b ≡ true) [
     | inl same ↦
-        let P : Class → Type 0 = IsMaximal (λ x. is_flagged t x ≡ true) in
-        absurd (beaten (subst P (rank_of-injective b c same) (maximal (omega arith))))
+        absurd (beaten (subst (IsMaximal (λ x. is_flagged t x ≡ true)) (rank_of-injective b c same) (maximal (omega arith))))
     | inr apart ↦ is_flagged-set_other left c b false apart ∙ s.all b was (λ early. maximal (omega arith))
   ];
 }
@@ -189,8 +183,7 @@ MaximalBelow-stay t left n c at not_beaten s = record {
         λ below. elim (cases_eq (rank_of b) n) as (λ _. IsMaximal (λ x. is_flagged t x ≡ true) b) [
           | inl same ↦
               let is : c ≡ b = rank_of-injective c b (at ∙ sym same) in
-              let P : Class → Type 0 = IsMaximal (λ x. is_flagged t x ≡ true) in
-              subst P is (not_beaten (ap (is_flagged t) is ∙ old.0))
+              subst (IsMaximal (λ x. is_flagged t x ≡ true)) is (not_beaten (ap (is_flagged t) is ∙ old.0))
           | inr apart ↦ old.1 (below_next (rank_of b) n below apart)
         ],
       );
@@ -223,8 +216,7 @@ MinimalBelow-next t left after n c at only back s = record {
         old.0,
         λ a below has reaches. elim (cases_eq (rank_of a) n) as (λ _. Reaches every_row b a) [
           | inl same ↦
-              let P : Class → Type 0 = λ y. is_flagged t y ≡ true → Reaches every_row y b → Reaches every_row b y in
-              subst P (rank_of-injective c a (at ∙ sym same)) here.1 has reaches
+              subst (λ (y : Class). is_flagged t y ≡ true → Reaches every_row y b → Reaches every_row b y) (rank_of-injective c a (at ∙ sym same)) here.1 has reaches
           | inr apart ↦ old.1 a (below_next (rank_of a) n below apart) has reaches
         ],
       );

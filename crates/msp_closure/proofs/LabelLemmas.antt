@@ -54,13 +54,7 @@ is_later m e p h s = not (ltb (label_number m) (label_number (mark_of e p h s)) 
 passes-is_later : (m : Mark) → passes (is_later m) ≡ true
 unfolding applies all_of passes is_later
 passes-is_later Both = refl
-passes-is_later Easy = refl
-passes-is_later Torn = refl
-passes-is_later Weak = refl
-passes-is_later Strong = refl
-passes-is_later Hard = refl
-passes-is_later Pseudo = refl
-passes-is_later Unsettled = refl
+passes-is_later _ = refl
 
 not_both : (a b : Bool) → not (a && b) ≡ true → a ≡ true → b ≡ false
 not_both true true h e = cc
@@ -109,8 +103,7 @@ AreLabels-from es tests marks are len each = record {
       let inside : rank_of c < length marks = omega (arith, rank_of-below c) in
       let is : slice_get marks (rank_of c) ≡ Some (mark_of (tests c).0 (tests c).1 (tests c).2 (tests c).3) =
       slice_get-get_or marks (rank_of c) Unsettled inside ∙ ap Some (each c Unsettled) in
-      let P : Option Mark → Type 0 = λ o. IsSomeAnd o (Says es c) in
-      subst P (sym is) (Says-mark_of es c (tests c).0 (tests c).1 (tests c).2 (tests c).3 (are c));
+      subst (λ (o : Option Mark). IsSomeAnd o (Says es c)) (sym is) (Says-mark_of es c (tests c).0 (tests c).1 (tests c).2 (tests c).3 (are c));
 }
 
 -- what the label of a class says

@@ -20,8 +20,7 @@ same_ends c x from to e f = ap₂ (λ m n. record { from = m; to = n }) e f
 pub AddsLink-step : (usable : ℕ → Bool) (before after : List Link) (c x : Class) (row : ℕ) (l : Link) → after ≡ before ++ l ∷ [] → l ≡ link c x
     → step_of usable row c ≡ Some x → AddsLink usable before after c row
 AddsLink-step usable before after c x row l e same steps =
-    let P : List Link → Type 0 = λ ls. AddsLink usable before ls c row in
-    subst P (sym e) (record {
+    subst (λ (ls : List Link). AddsLink usable before ls c row) (sym e) (record {
       keeps = λ m has. Contains-append_left before (l ∷ []) m has;
       sound = λ m has. elim (Contains-push_cases before l m has) as (λ _. Contains before m ⊎ IsStep usable m) [
         | inl old ↦ inl old
@@ -30,8 +29,7 @@ AddsLink-step usable before after c x row l e same steps =
       all = λ y goes.
           let both : Some x ≡ Some y = sym steps ∙ goes in
           let is : x ≡ y = cc in
-          let Q : Link → Type 0 = Contains (before ++ l ∷ []) in
-          subst Q (same ∙ ap (link c) is) (Contains-push before l);
+          subst (Contains (before ++ l ∷ [])) (same ∙ ap (link c) is) (Contains-push before l);
     })
 
 -- no row is below 1

@@ -92,5 +92,4 @@ pub IsWalked-end : (usable : ℕ → Bool) (t : List ℕ) (from here : Class) (r
     → (starts wanted : List Class) → AreDistances usable starts wanted t → IsLedTo usable starts from → value_of t from ≢ FAR → IsNearest usable wanted from rows
 IsWalked-end usable t from here rows none walked starts wanted are led near_from =
     let before = walked starts wanted are led near_from in
-    let P : List ℕ → Type 0 = IsNearest usable wanted from in
-    subst P (append-nil rows) (before.2 [] (IsNearest-end usable starts wanted t are here before.0 before.1 none))
+    subst (IsNearest usable wanted from) (append-nil rows) (before.2 [] (IsNearest-end usable starts wanted t are here before.0 before.1 none))

@@ -121,8 +121,7 @@ pub record IsStart (starts met : List Class) (flags : List Bool) (links : List L
 known_after : (P : Class → Type 0) (met met_after : List Class) (flags flags_after : List Bool) → ((c : Class) → is_flagged flags c ≡ true → Contains met c)
     → Grows P met flags met_after flags_after → (c : Class) → is_flagged flags_after c ≡ true → Contains met_after c
 known_after P met met_after flags flags_after known g c m =
-    let Q : List Class → Type 0 = λ xs. Contains xs c in
-    subst Q (sym g.front) (elim (g.fresh c m) as (λ _. Contains (met ++ g.behind) c) [
+    subst (λ (xs : List Class). Contains xs c) (sym g.front) (elim (g.fresh c m) as (λ _. Contains (met ++ g.behind) c) [
       | inl a ↦ Contains-append_left met g.behind c (known c a)
       | inr b ↦ Contains-append_right met g.behind c b
     ])
@@ -147,8 +146,7 @@ IsStart-next starts met met_after flags flags_after links links_after n x e belo
     | inr apart ↦ g.keeps (get_or starts k d) (s.first k d (below_next k n early apart))
   ];
   sound =
-      let P : List Class → Type 0 = All (Contains starts) in
-      subst P (sym g.front) (All-append (Contains starts) met g.behind s.sound
+      subst (All (Contains starts)) (sym g.front) (All-append (Contains starts) met g.behind s.sound
       (λ k d m. (n, below, get_or_default starts n (get_or g.behind k d) e below ∙ at ∙ sym (g.sound k d m))));
   known = known_after (λ c. c ≡ x) met met_after flags flags_after s.known g;
   none = still ∙ s.none;
@@ -195,8 +193,7 @@ module _ (usable : ℕ → Bool) (starts met met_after : List Class) (flags flag
   IsWalk-next = record {
     started = λ b has. g.keeps b (w.started b has);
     sound =
-        let P : List Class → Type 0 = All (IsLedTo usable starts) in
-        subst P (sym g.front) (All-append (IsLedTo usable starts) met g.behind w.sound
+        subst (All (IsLedTo usable starts)) (sym g.front) (All-append (IsLedTo usable starts) met g.behind w.sound
         (λ k d below. let s = g.sound k d below in led_on usable starts class (get_or g.behind k d) s.0 here s.1));
     known = known_after (Steps usable class) met met_after flags flags_after w.known g;
     closed = λ j d x below s. followed_now (λ c. Steps usable c x → is_flagged flags_after x ≡ true)
@@ -224,8 +221,7 @@ module _ (usable : ℕ → Bool) (starts met : List Class) (flags : List Bool) (
   flagged_on : (a x : Class) → is_flagged flags a ≡ true → Steps usable a x → is_flagged flags x ≡ true
   flagged_on a x m s =
       let has = w.known a m in
-      let P : Class → Type 0 = λ b. Steps usable b x in
-      w.closed has.0 a x (omega (arith, most, has.1)) (subst P (sym has.2) s)
+      w.closed has.0 a x (omega (arith, most, has.1)) (subst (λ (b : Class). Steps usable b x) (sym has.2) s)
 
   flagged_along : (ks : List ℕ) (a b : Class) → Leads usable a ks b → is_flagged flags a ≡ true → is_flagged flags b ≡ true
   flagged_along [] a b stay m = m
@@ -241,7 +237,6 @@ module _ (usable : ℕ → Bool) (starts met : List Class) (flags : List Bool) (
       sound = w.steps;
       all = λ k a x led steps.
           let has = w.known a (led_is_flagged a led) in
-          let P : Class → Type 0 = λ b. Steps usable b x → Contains links (link b x) in
-          subst P has.2 (w.linked has.0 a x (omega (arith, most, has.1))) (k, steps);
+          subst (λ (b : Class). Steps usable b x → Contains links (link b x)) has.2 (w.linked has.0 a x (omega (arith, most, has.1))) (k, steps);
     };
   }

@@ -6,6 +6,7 @@ use Rattle.msp_class.specs.declared.ranks.TheConstants.{CLASSES}
 use Rattle.msp_class.specs.Rank.{rank_of}
 use Rattle.msp_class.proofs.RankLemmas.{rank_of-below, rank_of-injective}
 use Rattle.msp_table.specs.Chains.{Leads, stay, step, Reaches}
+use Rattle.msp_table.proofs.ChainLemmas.{some_one}
 use Rattle.msp_closure.specs.Tables.{is_flagged}
 use Rattle.msp_closure.specs.Walk.{step_of}
 use Rattle.msp_closure.specs.Relation.{relates, IsReach, Rises, Joins, Includes, IsSound, Grows, GrowsAt, IsClosedBut, IncludesFlagged}
@@ -42,8 +43,7 @@ GrowsAt-join usable before after a c k steps j = record {
       | inl same ↦
           let is : x ≡ a = rank_of-injective x a same in
           let either = or_cases (relates before a b) (relates before c b) (sym (j.joined b) ∙ ap (λ y. relates after y b) (sym is) ∙ now) in
-          let P : Class → Type 0 = λ y. Reaches usable y b in
-          subst P (sym is)
+          subst (λ (y : Class). Reaches usable y b) (sym is)
           (elim either as (λ _. Reaches usable a b) [
             | inl own ↦ s a b own
             | inr other ↦
@@ -67,14 +67,10 @@ Includes-join before after a c j = elim (cases_eq (rank_of c) (rank_of a)) as (�
   | inr apart ↦ λ b now. j.joined b ∙ or_right (relates before a b) (relates before c b) (sym (j.others c b apart) ∙ now)
 ]
 
-some_one : {x y : Class} → Some x ≡ Some y → x ≡ y
-some_one e = cc
-
 pub IncludesFlagged-join : (usable : ℕ → Bool) (flags : List Bool) (before after : List ℕ) (a c : Class) (k : ℕ) → step_of usable k a ≡ Some c
     → Joins before after a c → IncludesFlagged usable flags after a k
 IncludesFlagged-join usable flags before after a c k steps j x steps_too flagged =
-    let P : Class → Type 0 = Includes after a in
-    subst P (some_one (sym steps ∙ steps_too)) (Includes-join before after a c j)
+    subst (Includes after a) (some_one (sym steps ∙ steps_too)) (Includes-join before after a c j)
 
 -- what a class includes it includes after its own row grew, and after that of another that is not the included one
 Includes-kept : (usable : ℕ → Bool) (before after : List ℕ) (a x c : Class) → GrowsAt usable before after a → rank_of c ≢ rank_of a
@@ -130,8 +126,7 @@ closed_next usable before after last fresh n v at closed here a k c steps not_fr
       | inr old ↦ kept (closed a k c steps not_fresh (inl old))
       | inl flagged ↦ elim (cases_eq (rank_of a) (rank_of v)) as (λ _. Includes after a c) [
         | inl same ↦
-            let P : Class → Type 0 = λ x. step_of usable k x ≡ Some c → Includes after x c in
-            subst P (rank_of-injective v a (sym same)) (λ s. here k c s flagged) steps
+            subst (λ (x : Class). step_of usable k x ≡ Some c → Includes after x c) (rank_of-injective v a (sym same)) (λ s. here k c s flagged) steps
         | inr apart ↦ elim done as (λ _. Includes after a c) [
           | inl old ↦ absurd (let both : true ≡ false = sym flagged ∙ old in cc)
           | inr high ↦ kept (closed a k c steps not_fresh (inr (omega arith)))

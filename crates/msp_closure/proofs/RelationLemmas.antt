@@ -213,14 +213,17 @@ lowest_some word from bound some =
 abbrev pub NoneBefore : List ℕ → ℕ → ℕ → ℕ → Type 0
 NoneBefore words row from k = (j : ℕ) → from ≤ j → j / 64 < k → bit_at (get_or words (row + j / 64) 0) (j % 64) ≡ 0
 
--- a bit of a row by its class
-pub bit_related : (ws : List ℕ) (a b : Class) (row n : ℕ) → row ≡ rank_of a * WIDTH → n ≡ rank_of b
-    → bit_at (get_or ws (row + n / 64) 0) (n % 64) ≡ 1 → relates ws a b ≡ true
+-- a bit of a row by its class, in words that were read elsewhere
+pub bit_related : (read ws : List ℕ) (a b : Class) (r n : ℕ) → read ≡ ws → r ≡ rank_of a → n ≡ rank_of b
+    → bit_at (get_or read (r * WIDTH + n / 64) 0) (n % 64) ≡ 1 → relates ws a b ≡ true
 unfolding relates
-bit_related ws a b row n at is set_bit =
-    ap (λ v. eqb v 1) (ap₂ (λ i j. bit_at (get_or ws (i + j / 64) 0) (j % 64)) (sym at) (sym is) ∙ set_bit)
+bit_related read ws a b r n same at is set_bit =
+    ap (λ v. eqb v 1)
+    (ap₂ (λ l i. bit_at (get_or l (i * WIDTH + rank_of b / 64) 0) (rank_of b % 64)) (sym same) (sym at)
+    ∙ ap (λ j. bit_at (get_or read (r * WIDTH + j / 64) 0) (j % 64)) (sym is) ∙ set_bit)
 
-pub no_bit_related : (ws : List ℕ) (a b : Class) (row : ℕ) → row ≡ rank_of a * WIDTH
-    → bit_at (get_or ws (row + rank_of b / 64) 0) (rank_of b % 64) ≡ 0 → relates ws a b ≡ false
+pub no_bit_related : (read ws : List ℕ) (a b : Class) (r : ℕ) → read ≡ ws → r ≡ rank_of a
+    → bit_at (get_or read (r * WIDTH + rank_of b / 64) 0) (rank_of b % 64) ≡ 0 → relates ws a b ≡ false
 unfolding relates
-no_bit_related ws a b row at clear = ap (λ v. eqb v 1) (ap (λ i. bit_at (get_or ws (i + rank_of b / 64) 0) (rank_of b % 64)) (sym at) ∙ clear)
+no_bit_related read ws a b r same at clear =
+    ap (λ v. eqb v 1) (ap₂ (λ l i. bit_at (get_or l (i * WIDTH + rank_of b / 64) 0) (rank_of b % 64)) (sym same) (sym at) ∙ clear)

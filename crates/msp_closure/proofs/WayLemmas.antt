@@ -19,16 +19,12 @@ pub record FarSoFar (t : List ℕ) (starts : List Class) (n : ℕ) : Type 0 wher
   pub first : (x : Class) → IsFirst (λ c. value_of t c ≢ FAR) (drop n starts) x → IsFirst (λ c. value_of t c ≢ FAR) starts x
   pub far : (k : ℕ) (d : Class) → k < n → value_of t (get_or starts k d) ≡ FAR
 
-pub FarSoFar-start : (t : List ℕ) (starts : List Class) → FarSoFar t starts 0
-FarSoFar-start t starts = record { first = λ x f. f; far = λ k d below. absurd (omega arith) }
-
 pub FarSoFar-more : (t : List ℕ) (starts : List Class) (n : ℕ) (e : Class) → n < length starts → value_of t (get_or starts n e) ≡ FAR
     → FarSoFar t starts n → FarSoFar t starts (n + 1)
 FarSoFar-more t starts n e below is s = record {
   first = λ x f.
       let not_here : ¬ (value_of t (get_or starts n e) ≢ FAR) = λ near. near is in
-      let P : List Class → Type 0 = λ xs. IsFirst (λ c. value_of t c ≢ FAR) xs x in
-      s.first x (subst P (sym (drop_more starts n e below)) (later not_here f));
+      s.first x (subst (λ (xs : List Class). IsFirst (λ c. value_of t c ≢ FAR) xs x) (sym (drop_more starts n e below)) (later not_here f));
   far = λ k d early. elim (cases_eq k n) as (λ _. value_of t (get_or starts k d) ≡ FAR) [
     | inl same ↦ ap (value_of t) (ap (λ i. get_or starts i d) same ∙ get_or_default starts n d e below) ∙ is
     | inr apart ↦ s.far k d (omega arith)
@@ -38,12 +34,7 @@ FarSoFar-more t starts n e below is s = record {
 pub FarSoFar-found : (t : List ℕ) (starts : List Class) (n : ℕ) (e : Class) → n < length starts → value_of t (get_or starts n e) ≢ FAR
     → FarSoFar t starts n → IsFirst (λ c. value_of t c ≢ FAR) starts (get_or starts n e)
 FarSoFar-found t starts n e below near s =
-    let P : List Class → Type 0 = λ xs. IsFirst (λ c. value_of t c ≢ FAR) xs (get_or starts n e) in
-    s.first (get_or starts n e) (subst P (sym (drop_more starts n e below)) (here near))
-
-pub FarSoFar-none : (t : List ℕ) (starts : List Class) (n : ℕ) → length starts ≤ n → FarSoFar t starts n
-    → (c : Class) → Contains starts c → value_of t c ≡ FAR
-FarSoFar-none t starts n all s = λ c has. sym (ap (value_of t) has.2) ∙ s.far has.0 c (omega (arith, has.1))
+    s.first (get_or starts n e) (subst (λ (xs : List Class). IsFirst (λ c. value_of t c ≢ FAR) xs (get_or starts n e)) (sym (drop_more starts n e below)) (here near))
 
 -- the first with a property is the first with one that is equivalent in the list
 IsFirst-same : {P Q : Class → Type 0} {xs : List Class} {x : Class} → ((c : Class) → Contains xs c → P c → Q c)
@@ -119,20 +110,18 @@ one_is {c} {b} has = elim (Contains-push_cases [] c b has) as (λ _. c ≡ b) [ 
 pub none_from : {E : Type 0} (usable : ℕ → Bool) (wanted listed starts : List Class) (c : Class) (r : Result (Option Chain) E) → wanted ≡ listed
     → starts ≡ c ∷ [] → IfOk r (λ found. IsWay usable wanted starts found) → IfOk r (λ found. IsNone found ↔ (¬ LeadsToOne usable listed c))
 none_from usable wanted listed starts c r is one way =
-    let P : List Class → Type 0 = λ xs. IfOk r (λ found. IsWay usable xs (c ∷ []) found) in
     let R : List Class → Type 0 = λ xs. IfOk r (λ found. IsWay usable wanted xs found) in
     none_exactly (LeadsToOne usable listed c) usable listed (c ∷ []) r (λ leads. (c, Contains-push [] c, leads))
     (λ h. let Q : Class → Type 0 = LeadsToOne usable listed in subst Q (sym (one_is h.1)) h.2)
-    (subst P is (subst R one way))
+    (subst (λ (xs : List Class). IfOk r (λ found. IsWay usable xs (c ∷ []) found)) is (subst R one way))
 
 -- to one wanted class
 pub none_to : {E : Type 0} (usable : ℕ → Bool) (starts listed : List Class) (c : Class) (r : Result (Option Chain) E) → starts ≡ listed
     → IfOk r (λ found. IsWay usable (c ∷ []) starts found) → IfOk r (λ found. IsNone found ↔ (¬ IsLedTo usable listed c))
 none_to usable starts listed c r is way =
-    let P : List Class → Type 0 = λ xs. IfOk r (λ found. IsWay usable (c ∷ []) xs found) in
     none_exactly (IsLedTo usable listed c) usable (c ∷ []) listed r (λ led. (led.0, led.1, (c, Contains-push [] c, led.2)))
     (λ h. let Q : Class → Type 0 = Reaches usable h.0 in (h.0, h.1, subst Q (sym (one_is h.2.1)) h.2.2))
-    (subst P is way)
+    (subst (λ (xs : List Class). IfOk r (λ found. IsWay usable (c ∷ []) xs found)) is way)
 
 -- both
 pub none_between : {E : Type 0} (usable : ℕ → Bool) (a b : Class) (r : Result (Option Chain) E) → IfOk r (λ found. IsWay usable (b ∷ []) (a ∷ []) found)
@@ -140,9 +129,7 @@ pub none_between : {E : Type 0} (usable : ℕ → Bool) (a b : Class) (r : Resul
 none_between usable a b r = none_exactly (Reaches usable a b) usable (b ∷ []) (a ∷ []) r
     (λ reaches. (a, Contains-push [] a, (b, Contains-push [] b, reaches)))
     (λ h.
-    let P : Class → Type 0 = λ x. Reaches usable x b in
-    let Q : Class → Type 0 = Reaches usable h.0 in
-    subst P (sym (one_is h.1)) (subst Q (sym (one_is h.2.1)) h.2.2))
+    subst (λ (x : Class). Reaches usable x b) (sym (one_is h.1)) (subst (Reaches usable h.0) (sym (one_is h.2.1)) h.2.2))
 
 -- from a class to itself no row is the nearest chain
 pub no_rows_is_way : (usable : ℕ → Bool) (a : Class) → IsWay usable (a ∷ []) (a ∷ []) (Some (record { from = a; rows = [] }))

@@ -52,9 +52,6 @@ module _ (i : Instance) (s : Schedule) (shop : is_shop i.class.env ≡ true) (f 
   abbrev unit : ℕ
   unit = nat_abs s.unit
 
-  timed : All IsTimed s.pieces
-  timed = pieces_timed i s f
-
   abbrev size : Piece → ℕ
   size = size_of start finish
 
@@ -71,7 +68,7 @@ module _ (i : Instance) (s : Schedule) (shop : is_shop i.class.env ≡ true) (f 
 
     full : (need_at i j o).time ≢ 0 → sum_by size own ≡ unit * (need_at i j o).time
     full n = pos-same (
-        sym (total_lengths own (All-filter (λ p. (p.job == j) && (p.op == o)) IsTimed s.pieces timed))
+        sym (total_lengths own (All-filter (λ p. (p.job == j) && (p.op == o)) IsTimed s.pieces (pieces_timed i s f)))
         ∙ ap total (map-same length_of (part (frame_of i)) own (λ k d b. let p = get_or own k d in sym (ap (λ r. length_of p *ℤ pos r) (reads.rate p.job p.machine) ∙ *ℤ-one (length_of p))))
         ∙ (fits.work j o l (reads.all j o m n)).sum
         ∙ ap₂ (λ u t. u *ℤ pos t) (unit_in_parts i s f) (reads.want j o))
@@ -114,7 +111,7 @@ module _ (i : Instance) (s : Schedule) (shop : is_shop i.class.env ≡ true) (f 
 
   line : (j : ℕ) → j < length i.jobs → (s.unit *ℤ pos (job_length i j)) ≤ℤ end_of s j
   line j l = subst₂ (λ x y. x ≤ℤ y) (sym (ap (λ u. u *ℤ pos (job_length i j)) (unit_in_parts i s f)))
-      (sym (last_end-is s.pieces j timed)) (pos-le (omega (arith, job_is_worked j l, short)))
+      (sym (last_end-is s.pieces j (pieces_timed i s f))) (pos-le (omega (arith, job_is_worked j l, short)))
     where
       short : sum_by size (share j) ≤ last_of job_of finish s.pieces j - 0
       short = packed start finish 0 (last_of job_of finish s.pieces j)
@@ -164,7 +161,8 @@ module _ (i : Instance) (s : Schedule) (shop : is_shop i.class.env ≡ true) (f 
 
     machine : (end : ℤ) → pos 0 ≤ℤ end → ((j : ℕ) → j < length i.jobs → end_of s j ≤ℤ end) → (s.unit *ℤ pos (machine_load i m)) ≤ℤ end
     machine end b ends = subst₂ (λ x y. x ≤ℤ y) (sym (ap (λ u. u *ℤ pos (machine_load i m)) (unit_in_parts i s f))) (sym (natural end b))
-        (pos-le (machine_is_done (nat_abs end) (λ k d l. let t = timed k d l in omega (arith, ints, t.to, b, last_end-bound s.pieces k d l, ends (get_or s.pieces k d).job (f.place k d l).job))))
+        (pos-le (machine_is_done (nat_abs end)
+        (λ k d l. let t = pieces_timed i s f k d l in omega (arith, ints, t.to, b, last_end-bound s.pieces k d l, ends (get_or s.pieces k d).job (f.place k d l).job))))
 
 pub law_of_machines : LawOfMachines
 law_of_machines i s m end shop f b ends = machine i s shop f m end b ends

@@ -10,9 +10,8 @@ use Rattle.msp_closure.proofs.chains.way_within.Goals as goal
 
 pub returns-in-None-clause-way : goal.returns-in-None-clause-way
 returns-in-None-clause-way c =
-    let P : List Class → Type 0 = λ xs. (x : Class) → Contains xs x → value_of c.in_ok-table.table x ≡ FAR in
     no_way (allows c.args.outlook.now.rows) c.args.outlook.now.starts.items c.args.wanted.now c.in_ok-table.table c.in_ok-table.ensures
-    (subst P c.deref.ensures.value c.in-None.ensures.none)
+    (subst (λ (xs : List Class). (x : Class) → Contains xs x → value_of c.in_ok-table.table x ≡ FAR) c.deref.ensures.value c.in-None.ensures.none)
 
 pub returns-clause-way : goal.returns-clause-way
 returns-clause-way c =

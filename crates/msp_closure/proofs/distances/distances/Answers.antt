@@ -1,7 +1,6 @@
 -- The goals of `distances` that are proved by lemmas.
-use Rattle.std.proofs.Common.{◌<◌, ◌+◌, List, sym, subst, arith}
+use Rattle.std.proofs.Common.{◌<◌, ◌+◌, sym, subst, arith}
 use Rattle.msp_closure.specs.declared.distances.TheConstants.{FAR}
-use Rattle.msp_closure.specs.declared.links.Link.{Link}
 use Rattle.msp_closure.specs.Tables.{allows}
 use Rattle.msp_closure.specs.Links.{AreLinks}
 use Rattle.msp_closure.proofs.LinkLemmas.{AreInside-links}
@@ -17,16 +16,14 @@ passes-init c = (
 
 pub pass-requires-clause-inside : goal.pass-requires-clause-inside
 pass-requires-clause-inside c =
-    let P : List Link → Type 0 = AreLinks (allows c.args.outlook.now.rows) c.args.outlook.now.starts.items in
     AreInside-links (allows c.args.outlook.now.rows) c.args.outlook.now.starts.items c.deref.result.now
-    (subst P (sym c.deref.ensures.value) c.requires.are_links)
+    (subst (AreLinks (allows c.args.outlook.now.rows) c.args.outlook.now.starts.items) (sym c.deref.ensures.value) c.requires.are_links)
 
 pub passes-preserved : goal.passes-preserved
 passes-preserved c =
     let small : c.passes.level + 1 < FAR = omega arith in
-    let P : List Link → Type 0 = AreLinks (allows c.args.outlook.now.rows) c.args.outlook.now.starts.items in
     let advances = c.pass.ensures (allows c.args.outlook.now.rows) c.args.outlook.now.starts.items
-    (subst P (sym c.deref.ensures.value) c.requires.are_links) in (
+    (subst (AreLinks (allows c.args.outlook.now.rows) c.args.outlook.now.starts.items) (sym c.deref.ensures.value) c.requires.are_links) in (
       IsLevel-next (allows c.args.outlook.now.rows) c.args.outlook.now.starts.items c.args.wanted.now c.passes.table c.pass.new.table c.passes.level
           c.pass.result small c.passes.invariant.0 advances,
       omega (arith, c.passes.invariant.1, far_falls advances c.passes-test.true),
@@ -35,8 +32,7 @@ passes-preserved c =
 pub returns : goal.returns
 returns c =
     let small : c.passes.level + 1 < FAR = omega arith in
-    let P : List Link → Type 0 = AreLinks (allows c.args.outlook.now.rows) c.args.outlook.now.starts.items in
     let advances = c.pass.ensures (allows c.args.outlook.now.rows) c.args.outlook.now.starts.items
-    (subst P (sym c.deref.ensures.value) c.requires.are_links) in
+    (subst (AreLinks (allows c.args.outlook.now.rows) c.args.outlook.now.starts.items) (sym c.deref.ensures.value) c.requires.are_links) in
     AreDistances-quiet (allows c.args.outlook.now.rows) c.args.outlook.now.starts.items c.args.wanted.now c.passes.table c.pass.new.table c.passes.level
     c.pass.result small c.passes.invariant.0 advances c.passes-test.false (omega (arith, c.passes.invariant.1))
