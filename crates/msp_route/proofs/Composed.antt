@@ -41,9 +41,8 @@ later-row row e = by (row == 47) (row == 51 || row == 52) (row == 54) e
     by : (a b c : Bool) → a ≡ false
         → (if a then GREATEST_ANSWER_MOMENT +ℤ GREATEST_RAISE else if b then GREATEST_LINED_UP else if c then GREATEST_CLOSED_UP else GREATEST_ANSWER_MOMENT) ≤ℤ GREATEST_ANSWER_MOMENT
     by true b c e = absurd (cc)
-    by false true c e = omega (arith, ints)
-    by false false true e = omega (arith, ints)
     by false false false e = ≤ℤ_refl GREATEST_ANSWER_MOMENT
+    by false _ _ e = omega (arith, ints)
 
 ends-composed : (row : ℕ) (upper lower : Instance) (t s : Schedule) → KeepsBounds row upper lower t s
     → EndsBy GREATEST_ANSWER_MOMENT t → (turns_dates row ≡ true → cost_of lower t ≤ℤ GREATEST_ANSWER_MOMENT) → EndsBy GREATEST_ANSWER_MOMENT s

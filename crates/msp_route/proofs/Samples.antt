@@ -31,8 +31,7 @@ both_listed (suc (suc j)) l = absurd (omega arith)
 -- the due dates of one job, and of two that are near each other, are near
 pub near_one : (n : ℕ) (i : Instance) (x : Job) → HasNearDues n (record i { jobs = x ∷ [] })
 near_one n i x zero zero a b = omega (arith, ints)
-near_one n i x (suc j) k a b = absurd (omega arith)
-near_one n i x zero (suc k) a b = absurd (omega arith)
+near_one n i x _ _ a b = absurd (omega arith)
 
 pub near_two : (n : ℕ) (i : Instance) (x y : Job) → (x.due -ℤ y.due) ≤ℤ pos n → (y.due -ℤ x.due) ≤ℤ pos n → HasNearDues n (record i { jobs = x ∷ y ∷ [] })
 near_two n i x y h k zero zero a b = omega (arith, ints)
@@ -40,8 +39,7 @@ near_two n i x y h k zero (suc zero) a b = h
 near_two n i x y h k (suc zero) zero a b = k
 near_two n i x y h k (suc zero) (suc zero) a b = omega (arith, ints)
 near_two n i x y h k (suc (suc j)) l a b = absurd (omega arith)
-near_two n i x y h k zero (suc (suc l)) a b = absurd (omega arith)
-near_two n i x y h k (suc zero) (suc (suc l)) a b = absurd (omega arith)
+near_two n i x y h k j (suc (suc l)) a b = absurd (omega arith)
 
 -- a schedule over unit 1 may be brought back
 pub unit_one : (k : EnvKind) → pos 1 ≤ℤ greatest_unit k

@@ -36,10 +36,7 @@ module _ (jobs : List ℕ) (blocked : ℕ → Bool) (cost : ℕ → ℤ) (k : �
   }
 
   precedes_on : (a b : Candidate) (z : ℤ) (m : ℕ) → Precedes a b.cost b.job → Precedes b z m → Precedes a z m
-  precedes_on a b z m h g = elim h [
-    | inl l ↦ elim g [ inl l' ↦ inl (omega (arith, ints, l, l')) | inr e' ↦ inl (omega (arith, ints, l, e'.0)) ]
-    | inr e ↦ elim g [ inl l' ↦ inl (omega (arith, ints, e.0, l')) | inr e' ↦ inr (e.0 ∙ e'.0, omega (arith, e.1, e'.1)) ]
-  ]
+  precedes_on a b z m h g = grind (arith, ints)
 
   abbrev Chosen : Candidate → Type 0
   Chosen c = (c.place < k + 1) × (c.job ≡ get_or jobs c.place 0) × (c.cost ≡ cost c.job) × (blocked c.job ≡ false)

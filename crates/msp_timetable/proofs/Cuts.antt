@@ -3,10 +3,9 @@ use Rattle.std.proofs.Common.{◌≡◌, ◌≢◌, ℕ, ◌+◌, ◌-◌, ◌*�
 use Rattle.std.proofs.lemmas.Bool.{eq-eqb, ne_eqb}
 use Rattle.std.proofs.lemmas.Bool.Decides.{nat_tests}
 use Rattle.msp_matching.specs.Passing.{at}
-use Rattle.msp_class.proofs.Cases.{same_or_not}
 use Rattle.msp_timetable.specs.declared.square.Square.{Square}
 use Rattle.msp_timetable.specs.Square.{cell_at, stocks, used, used_at, given_share, padding_share, IsSquare, IsPermuted, IsTaken, IsCut}
-use Rattle.msp_timetable.proofs.Places.{cell-same, cell-other, stocks-set, positive-one, cond-one, ltb-yes, ltb-no, ltb-next}
+use Rattle.msp_timetable.proofs.Places.{cell-same, cell-other, stocks-set, positive-one, cond-one, ltb-yes, ltb-no}
 
 -- one list of stocks: some rows have lost their shares, and the next one
 module _ (n : ℕ) (column : List ℕ) (p : IsPermuted n column) (base now next : List ℕ) (share : ℕ → ℕ → ℕ) (k : ℕ) (lk : k < n) (size : length now ≡ n * n)
@@ -21,14 +20,8 @@ module _ (n : ℕ) (column : List ℕ) (p : IsPermuted n column) (base now next 
     lj = p.inside k lk
 
     pub rows-set : (r c : ℕ) → r < n → c < n → cell_at n next r c + cond (ltb r (k + 1)) (share r c) 0 ≡ cell_at n base r c
-    rows-set r c lr lc = subst (λ xs. cell_at n xs r c + cond (ltb r (k + 1)) (share r c) 0 ≡ cell_at n base r c) (sym e) (elim (same_or_not r k) [
-      | inr d ↦ omega (arith, h r c lr lc, cell-other n now k (at column k) v size lk lj r c lc (inl d), ap (λ b. cond b (share r c) 0) (ltb-next r k d))
-      | inl d ↦ subst (λ x. cell_at n (set now (k * n + at column k) v) x c + cond (ltb x (k + 1)) (share x c) 0 ≡ cell_at n base x c) (sym d) (elim (same_or_not c (at column k)) [
-        | inl q ↦ subst (λ x. cell_at n (set now (k * n + at column k) v) k x + cond (ltb k (k + 1)) (share k x) 0 ≡ cell_at n base k x) (sym q)
-            (omega (arith, cell-same n now k (at column k) v size lk lj, taken, ap (λ b. cond b (share k (at column k)) 0) (ltb-yes k (k + 1) (omega arith))))
-        | inr q ↦ omega (arith, row-now c lc, cell-other n now k (at column k) v size lk lj k c lc (inr q), ap (λ b. cond b (share k c) 0) (ltb-yes k (k + 1) (omega arith)), none c q)
-      ])
-    ])
+    rows-set r c lr lc = rw e
+        (grind (arith, nat_tests, h r c lr lc, row-now c lc, none c, taken, cell-same n now k (at column k) v size lk lj, cell-other n now k (at column k) v size lk lj r c lc))
 
   module _ (e : next ≡ now) (nothing : share k (at column k) ≡ 0) where
     pub rows-kept : (r c : ℕ) → r < n → c < n → cell_at n next r c + cond (ltb r (k + 1)) (share r c) 0 ≡ cell_at n base r c
@@ -76,10 +69,7 @@ module _ (s : Square) (column : List ℕ) (p : IsPermuted s.size column) (d low 
 
     -- the count, where one of the two lists lost a share
     count-next : (a b c u v t : ℕ) → 1 ≤ u → v ≤ 1 → (low ≡ k → v ≡ 0) → a + u ≡ b + v → b + c + cond (ltb low k) 1 0 ≤ t → a + c + cond (ltb low (k + 1)) 1 0 ≤ t
-    count-next a b c u v t lu lv z q f = elim (same_or_not low k) [
-      | inl w ↦ let y : cond (ltb low (k + 1)) 1 0 ≤ 1 = cond-one (ltb low (k + 1)) in let x = z w in omega (arith, lu, x, q, f, y)
-      | inr w ↦ let y : 0 + cond (ltb low (k + 1)) 1 0 ≡ 0 + cond (ltb low k) 1 0 = ap (λ m. 0 + cond m 1 0) (ltb-next low k w) in omega (arith, lu, lv, q, f, y)
-    ]
+    count-next a b c u v t lu lv z q f = grind (arith, nat_tests)
 
     one_of : (x : ℕ) → x ≡ 0 → 0 + cond (ltb 0 x) 1 0 ≡ 0 + 0
     one_of x e = ap (λ m. 0 + cond m 1 0) (ltb-no 0 x (omega arith))

@@ -1,7 +1,7 @@
 -- The square is filled: the matrix, what the lines lack, and the padding from corner to corner.
 use Rattle.std.proofs.Common.{◌≡◌, ◌≢◌, ℕ, zero, suc, ◌+◌, ◌-◌, ◌*◌, ◌<◌, ◌≤◌, ◌⊎◌, inl, inr, refl, List, Bool, true, false, eqb, ltb, length, set, cond, ℤ, pos, nat_abs, ◌≤ℤ◌}
 use Rattle.std.proofs.Common.{sym, ap, subst, ◌∙◌, arith}
-use Rattle.std.proofs.lemmas.Bool.{eq-eqb, ne_eqb}
+use Rattle.std.proofs.lemmas.Bool.{ne_eqb}
 use Rattle.std.proofs.lemmas.Bool.Decides.{nat_tests}
 use Rattle.std.proofs.lemmas.Int.{ints}
 use Rattle.std.proofs.lemmas.List.{get_or-set_same, get_or-set_other, length-set}
@@ -219,14 +219,8 @@ module _ (n : ℕ) (rows columns : List ℕ) where
     still_done : (xs ys : List ℕ) (k : ℕ) → ((r : ℕ) → at ys r + cond (eqb k r) s.both 0 ≡ at xs r) → (r : ℕ) → at xs r ≡ 0 → at ys r ≡ 0
     still_done xs ys k q r z = let w = q r in omega (arith, w, z)
 
-    last_done : (xs ys : List ℕ) (k : ℕ) → ((r : ℕ) → at ys r + cond (eqb k r) s.both 0 ≡ at xs r) → at xs k ≡ s.both → at ys k ≡ 0
-    last_done xs ys k q z = let w = q k in omega (arith, w, z, ap (λ v. cond v s.both 0) (eq-eqb k k refl))
-
     done_next : (xs ys : List ℕ) (k : ℕ) → ((r : ℕ) → at ys r + cond (eqb k r) s.both 0 ≡ at xs r) → at xs k ≡ s.both → ((r : ℕ) → r < k → at xs r ≡ 0) → (r : ℕ) → r < k + 1 → at ys r ≡ 0
-    done_next xs ys k q z f r l = elim (same_or_not r k) [
-      | inl p ↦ ap (at ys) p ∙ last_done xs ys k q z
-      | inr p ↦ still_done xs ys k q r (f r (omega arith))
-    ]
+    done_next xs ys k q z f r l = grind (arith, nat_tests, q r, z, f r)
 
     pub IsCorner-row : done ≡ true → IsCorner padding2 d2 e2 (i + 1) j
     IsCorner-row q = moved (i + 1) j (done_next d d2 i d_low (s.yes q) h.rows_done) (λ c l. still_done e e2 j e_low c (h.columns_done c l)) (omega arith) (omega arith) h.column_here

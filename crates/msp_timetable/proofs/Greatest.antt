@@ -1,6 +1,5 @@
 -- The greatest sum of a line, line after line.
-use Rattle.std.proofs.Common.{◌≡◌, ℕ, ◌+◌, ◌<◌, ◌≤◌, ◌⊎◌, inl, inr, List, sym, ap, ◌∙◌, arith}
-use Rattle.msp_class.proofs.Cases.{same_or_not}
+use Rattle.std.proofs.Common.{◌≡◌, ℕ, ◌+◌, ◌<◌, ◌≤◌, ◌⊎◌, inl, inr, List, sym, ◌∙◌, arith}
 use Rattle.msp_timetable.specs.Split.{greatest_sum}
 use Rattle.msp_timetable.specs.Square.{row_total, column_total, HasSmallLines}
 
@@ -13,14 +12,8 @@ pub record IsGreatestBelow (n : ℕ) (given : List ℕ) (k g : ℕ) : Type 0 whe
 pub IsGreatestBelow-next : (n : ℕ) (given : List ℕ) (k g h : ℕ) → HasSmallLines n given → k < n → IsGreatestBelow n given k g → g ≤ h → row_total n given k ≤ h → column_total n given k ≤ h
     → (h ≡ g) ⊎ ((h ≡ row_total n given k) ⊎ (h ≡ column_total n given k)) → IsGreatestBelow n given (k + 1) h
 IsGreatestBelow-next n given k g h small lk b lg lr lc which = record {
-  rows = λ r l. elim (same_or_not r k) [
-    | inl e ↦ omega (arith, ap (row_total n given) e, lr)
-    | inr e ↦ omega (arith, b.rows r (omega arith), lg)
-  ];
-  columns = λ c l. elim (same_or_not c k) [
-    | inl e ↦ omega (arith, ap (column_total n given) e, lc)
-    | inr e ↦ omega (arith, b.columns c (omega arith), lg)
-  ];
+  rows = λ r l. grind (arith, lr, lg, b.rows r);
+  columns = λ c l. grind (arith, lc, lg, b.columns c);
   line = elim which [
     | inl e ↦ elim b.line [
       | inl z ↦ inl (e ∙ z)

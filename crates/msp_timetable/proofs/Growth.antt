@@ -99,10 +99,7 @@ module _ (n : ℕ) (f : ℕ → ℕ → ℕ) (column owner : List ℕ) (p : IsPe
   other d e = get_or-set_other from c d place 0 e
 
   still : (d : ℕ) → at from d < n → at after d < n
-  still d q = elim (same_or_not d c) [
-    | inl e ↦ absurd (omega (arith, ap (at from) e))
-    | inr e ↦ omega (arith, other d e)
-  ]
+  still d q = grind (arith, other d)
 
   -- the column of a row of the tree is another
   not_new : (k : ℕ) → 1 ≤ k → k < length tree → at column (at tree k) ≢ c
@@ -152,10 +149,7 @@ module _ (n : ℕ) (f : ℕ → ℕ → ℕ) (column owner : List ℕ) (p : IsPe
     not_in (suc j) b e = not_new (suc j) (omega arith) b (ap (at column) e ∙ (o.each c lc).1)
 
     place_of : (k : ℕ) → k < length grown → (k < length tree) ⊎ (k ≡ length tree)
-    place_of k b = elim (same_or_not k (length tree)) [
-      | inl e ↦ inr e
-      | inr e ↦ inl (omega (arith, long))
-    ]
+    place_of k b = grind (arith, long)
 
     pub IsSearch-new : IsSearch n f column start place (c + 1) (set from c place) (tree ++ at owner c ∷ [])
     IsSearch-new = record {

@@ -7,7 +7,6 @@ use Rattle.msp_class.specs.Sums.{total_below}
 use Rattle.msp_class.proofs.Sums.{OnceBelow, OnceBelow-from_distinct, total_below-mono, total_below-constant, total_below-split, total_below-same, sum_by_counts, sum_by-constant}
 use Rattle.msp_class.proofs.Sums.{sum_by-cons, count_by-distinct}
 use Rattle.msp_matching.specs.Passing.{at}
-use Rattle.msp_class.proofs.Cases.{same_or_not}
 use Rattle.msp_matching.proofs.Lists.{same_place, distinct-permutation}
 use Rattle.msp_timetable.specs.Square.{IsPermuted}
 
@@ -56,10 +55,7 @@ IsPermuted-size m n xs e h = subst (λ k. IsPermuted k xs) (sym e) h
 
 -- the least so far, and one more
 pub least-next : (g : ℕ → ℕ) (k least next : ℕ) → next ≤ least → next ≤ g k → (next ≡ least) ⊎ (next ≡ g k) → ((r : ℕ) → r < k → least ≤ g r) → (r : ℕ) → r < k + 1 → next ≤ g r
-least-next g k least next a b e h r l = elim (same_or_not r k) [
-  | inl s ↦ omega (arith, b, ap g s)
-  | inr s ↦ omega (arith, h r (omega arith), a)
-]
+least-next g k least next a b e h r l = grind (arith, h r)
 
 pub some-next : (g : ℕ → ℕ) (k least next : ℕ) → (next ≡ least) ⊎ (next ≡ g k) → (r : ℕ) × (r < k) × (g r ≡ least) → (r : ℕ) × (r < k + 1) × (g r ≡ next)
 some-next g k least next (inl e) w = (w.0, omega (arith, w.1), w.2 ∙ sym e)

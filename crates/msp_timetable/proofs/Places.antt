@@ -1,10 +1,9 @@
 -- The cells of a square that stands in a list: their places differ, and what a write does to them, to the lines and to the count.
-use Rattle.std.proofs.Common.{◌≡◌, ◌≢◌, ℕ, ◌+◌, ◌*◌, ◌<◌, ◌≤◌, ◌⊎◌, inl, inr, List, Bool, true, false, ltb, length, set, cond, ap, arith}
+use Rattle.std.proofs.Common.{◌≡◌, ◌≢◌, ℕ, ◌+◌, ◌*◌, ◌<◌, ◌≤◌, ◌⊎◌, List, Bool, true, false, ltb, length, set, cond, arith}
 use Rattle.std.proofs.Math.Nat.{mul-le-mul_left}
 use Rattle.std.proofs.lemmas.Bool.Decides.{nat_tests}
 use Rattle.std.proofs.lemmas.List.{get_or-set_same, get_or-set_other}
 use Rattle.std.proofs.lemmas.List.Sums.{sum_by-set}
-use Rattle.msp_class.proofs.Cases.{same_or_not}
 use Rattle.msp_timetable.specs.Square.{cell_at, stocks}
 
 -- the rows of a square do not overlap
@@ -15,19 +14,7 @@ pub place_inside : (m n r c : ℕ) → r < m → c < n → r * n + c < m * n
 place_inside m n r c lr lc = omega (arith, rows_apart n r m c 0 lr lc)
 
 pub places_apart : (n r c i j : ℕ) → c < n → j < n → (r ≢ i) ⊎ (c ≢ j) → r * n + c ≢ i * n + j
-places_apart n r c i j lc lj h e = elim (same_or_not r i) [
-  | inl s ↦ elim h [
-    | inl a ↦ a s
-    | inr a ↦ a (omega (arith, e, ap (λ x. x * n) s))
-  ]
-  | inr d ↦ elim (less r i d) [
-    | inl l ↦ let q = rows_apart n r i c j l lc in omega (arith, q, e)
-    | inr l ↦ let q = rows_apart n i r j c l lj in omega (arith, q, e)
-  ]
-]
-  where
-    less : (a b : ℕ) → a ≢ b → (a < b) ⊎ (b < a)
-    less a b m = grind arith
+places_apart n r c i j lc lj h e = grind (arith, rows_apart n r i c j, rows_apart n i r j c)
 
 module _ (n : ℕ) (xs : List ℕ) (i j v : ℕ) (size : length xs ≡ n * n) (li : i < n) (lj : j < n) where
   written : List ℕ
