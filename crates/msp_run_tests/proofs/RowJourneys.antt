@@ -4,7 +4,7 @@ use Rattle.std.proofs.lemmas.Bool.{false≢true}
 use Rattle.std.proofs.lemmas.Int.{ints}
 use Rattle.msp_class.specs.declared.class.Class.{Class}
 use Rattle.msp_class.specs.declared.environments.EnvKind.{EnvKind}
-use Rattle.msp_class.specs.declared.environments.EnvKind.TheVariants.{Identical, Uniform, Unrelated, OpenShop, FlowShop, JobShop}
+use Rattle.msp_class.specs.declared.environments.EnvKind.TheVariants.{Identical}
 use Rattle.msp_class.specs.Env.{kind_of}
 use Rattle.msp_instance.specs.declared.Instance.{Instance}
 use Rattle.msp_instance.proofs.Limits.{Inner-from_class}
@@ -39,11 +39,7 @@ moments from to early = ((omega (arith, ints, early), omega (arith, ints, early)
 
 unit-fits : (k : EnvKind) → GREATEST_CARRIED_UNIT ≤ℤ greatest_unit k
 unit-fits Identical = omega (arith, ints)
-unit-fits Uniform = omega (arith, ints)
-unit-fits Unrelated = omega (arith, ints)
-unit-fits OpenShop = omega (arith, ints)
-unit-fits FlowShop = omega (arith, ints)
-unit-fits JobShop = omega (arith, ints)
+unit-fits _ = omega (arith, ints)
 
 below : (x y z : ℤ) → x ≤ℤ y → y ≤ℤ z → x ≤ℤ z
 below x y z a b = omega (arith, ints, a, b)

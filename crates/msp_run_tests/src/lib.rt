@@ -17,3 +17,5 @@ mod hostile;
 mod rows;
 #[cfg(test)]
 mod solvers;
+#[cfg(test)]
+mod ways;

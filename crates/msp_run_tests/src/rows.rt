@@ -242,7 +242,7 @@ pub fn is_small(inst: &Instance, s: &Schedule) -> bool
 }
 
 /// Whether the schedule is feasible. On unrelated machines a class of cut jobs is not tried.
-pub fn is_feasible(inst: &Instance, s: &Schedule) -> bool
+fn is_feasible(inst: &Instance, s: &Schedule) -> bool
     requires inner { Inner inst.now }
     requires within { Within inst.now s.now }
     ensures { IsTrue result → Feasible inst.now s.now }
@@ -253,22 +253,15 @@ pub fn is_feasible(inst: &Instance, s: &Schedule) -> bool
     first_break(inst, s).is_none()
 }
 
-/// A solution of the lower instance.
-fn solution_below(rt: &impl Abort, alloc: Global, inst: &Instance) -> Solution
+/// The schedule with its cost. It has to be feasible, and within the bounds of one that is brought back.
+pub fn with_cost(rt: &impl Abort, inst: &Instance, schedule: Schedule) -> Solution
     requires { Inner inst.now }
     ensures solution { IsSolution inst.now result }
     ensures sized { IsSized inst.now result.schedule }
     ensures ends { EndsBy GREATEST_ANSWER_MOMENT result.schedule }
 {
-    let schedule = lined_up(rt, alloc, inst);
-    assert!(rt;
-        is_small(inst, &schedule),
-        "the lower schedule is too large"
-    );
-    assert!(rt;
-        is_feasible(inst, &schedule),
-        "the lower schedule is not feasible"
-    );
+    assert!(rt; is_small(inst, &schedule), "a schedule is too large");
+    assert!(rt; is_feasible(inst, &schedule), "a schedule is not feasible");
     let cost = cost(inst, &schedule);
     Solution { schedule, cost }
 }
@@ -302,7 +295,7 @@ fn cost_of_journey(rt: &impl Abort, alloc: Global, inst: &Instance, number: u8) 
 {
     let rows = row_over(rt, alloc, inst, number);
     let lower = carry(alloc, inst, &rows).expect(rt, "memory");
-    let below = solution_below(rt, alloc, &lower);
+    let below = with_cost(rt, &lower, lined_up(rt, alloc, &lower));
     let above = bring(alloc, inst, &rows, below).expect(rt, "memory");
     assert!(rt;
         is_feasible(inst, &above.schedule),

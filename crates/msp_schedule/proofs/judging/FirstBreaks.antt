@@ -1,11 +1,10 @@
 -- Conditions that are kept are not broken, and the first one that is broken is named.
-use Rattle.std.proofs.Common.{◌≡◌, ℕ, suc, List, ◌<◌, ◌⊎◌, inl, inr, length, get_or, All, AllPairs, ℤ, pos, ◌*ℤ◌, ◌≤ℤ◌, ◌<ℤ◌, refl, sym, ap, subst, ◌∙◌, arith, Option, Some, None}
+use Rattle.std.proofs.Common.{◌≡◌, ℕ, zero, suc, ◌+◌, List, ◌<◌, ◌⊎◌, inl, inr, length, get_or, All, AllPairs, ℤ, pos, ◌*ℤ◌, ◌≤ℤ◌, ◌<ℤ◌, refl, sym, ap, subst, ◌∙◌, arith, Option, Some, None}
 use Rattle.std.proofs.lemmas.Int.{ints}
 use Rattle.std.proofs.lemmas.Bool.{cases_lt}
 use Rattle.std.specs.Prelude.{IsNone, IfSome, ◌↔◌}
-use Rattle.msp_schedule.specs.Works.{IsWorked, LacksWorkAmong}
 use Rattle.msp_class.specs.declared.environments.EnvKind.{EnvKind}
-use Rattle.msp_class.specs.declared.environments.EnvKind.TheVariants.{Identical, Uniform, Unrelated, OpenShop, FlowShop, JobShop}
+use Rattle.msp_class.specs.declared.environments.EnvKind.TheVariants.{FlowShop, JobShop}
 use Rattle.msp_class.specs.Env.{kind_of}
 use Rattle.msp_instance.specs.declared.Instance.{Instance}
 use Rattle.msp_instance.specs.Instance.{job_at}
@@ -16,18 +15,21 @@ use Rattle.msp_schedule.specs.declared.breaks.Break.TheVariants.{Span, Place, Ma
 use Rattle.msp_pieces.specs.Piece.{IsApart, piece_at, no_piece}
 use Rattle.msp_pieces.specs.Feasible.{Feasible, FollowsRoute, HasOperation, HasPlace, GetsWork}
 use Rattle.msp_pieces.specs.Within.{Within}
-use Rattle.msp_schedule.specs.Breaks.{no_arc, IsLeast, IsLeastOperation, IsEarly, Overlaps, KeepsArc, KeepsRoute, HasRoutes, IsBroken, IsDecision, IsFirstBreak, turn_of}
+use Rattle.msp_schedule.specs.Breaks.{no_arc, Overlaps, KeepsArc, KeepsRoute, HasRoutes, IsBroken, IsDecision, IsFirstBreak, turn_of}
 
--- the conditions before a turn
+-- the condition of a turn, and those before it
+abbrev pub Kept : ℕ → Instance → Schedule → Type 0
+Kept zero i s = All (λ p. p.from <ℤ p.to) s.pieces
+Kept (suc zero) i s = All (HasPlace i) s.pieces
+Kept (suc (suc zero)) i s = AllPairs (λ p q. p.machine ≡ q.machine → IsApart p q) s.pieces
+Kept (suc (suc (suc zero))) i s = AllPairs (λ p q. p.job ≡ q.job → IsApart p q) s.pieces
+Kept (suc (suc (suc (suc zero)))) i s = All (λ p. (s.unit *ℤ pos (job_at i p.job).release) ≤ℤ p.from) s.pieces
+Kept (suc (suc (suc (suc (suc zero))))) i s = All (KeepsArc s.pieces) i.arcs
+Kept (suc (suc (suc (suc (suc (suc zero)))))) i s = HasRoutes i → (j o : ℕ) → j < length i.jobs → KeepsRoute s.pieces j o
+Kept (suc (suc (suc (suc (suc (suc (suc n))))))) i s = (j o : ℕ) → j < length i.jobs → HasOperation (kind_of i.class.env) i j o → GetsWork i s j o
+
 pub record KeepsUpTo (n : ℕ) (i : Instance) (s : Schedule) : Type 0 where
-  pub span : 0 < n → All (λ p. p.from <ℤ p.to) s.pieces
-  pub place : 1 < n → All (HasPlace i) s.pieces
-  pub machine : 2 < n → AllPairs (λ p q. p.machine ≡ q.machine → IsApart p q) s.pieces
-  pub job : 3 < n → AllPairs (λ p q. p.job ≡ q.job → IsApart p q) s.pieces
-  pub release : 4 < n → All (λ p. (s.unit *ℤ pos (job_at i p.job).release) ≤ℤ p.from) s.pieces
-  pub arc : 5 < n → All (KeepsArc s.pieces) i.arcs
-  pub route : 6 < n → HasRoutes i → (j o : ℕ) → j < length i.jobs → KeepsRoute s.pieces j o
-  pub work : 7 < n → (j o : ℕ) → j < length i.jobs → HasOperation (kind_of i.class.env) i j o → GetsWork i s j o
+  pub each : (k : ℕ) → k < n → Kept k i s
 
 -- two pieces of a lane that overlap are not apart
 overlap_is_not_apart : (a b : Piece) → a.from <ℤ a.to → b.from <ℤ b.to → (a.from ≤ℤ b.from) → b.from <ℤ a.to → ¬ IsApart a b
@@ -64,38 +66,35 @@ module _ (lane : Piece → ℕ) (xs : List Piece) (lasts : All (λ p. p.from <�
 
 module _ (i : Instance) (s : Schedule) where
   pub not_broken : (n : ℕ) → KeepsUpTo n i s → (b : Break) → turn_of b < n → ¬ IsBroken i s b
-  not_broken n h (Span k) t b = let lasts = h.span t k no_piece b.inside in let empty = b.holds in omega (arith, ints)
-  not_broken n h (Place k) t b = b.holds (h.place (omega (arith, t)) k no_piece b.inside)
-  not_broken n h (Machine k l) t b = no_overlap (λ p. p.machine) s.pieces (h.span (omega (arith, t))) (h.machine (omega (arith, t))) k l b.overlap
-  not_broken n h (Job k l) t b = no_overlap (λ p. p.job) s.pieces (h.span (omega (arith, t))) (h.job (omega (arith, t))) k l b.overlap
-  not_broken n h (Release k) t b = let late = h.release (omega (arith, t)) k no_piece b.inside in let early = b.holds in omega (arith, ints)
-  not_broken n h (Arc k) t b = b.holds (h.arc (omega (arith, t)) k no_arc b.inside)
-  not_broken n h (Route j o) t b = b.1.holds (h.route (omega (arith, t)) b.0 j o b.1.inside)
-  not_broken n h (Work j o) t b = b.holds.1 (h.work (omega (arith, t)) j o b.inside b.holds.0)
+  not_broken n h (Span k) t b = let lasts = h.each 0 t k no_piece b.inside in let empty = b.holds in omega (arith, ints)
+  not_broken n h (Place k) t b = b.holds (h.each 1 t k no_piece b.inside)
+  not_broken n h (Machine k l) t b = no_overlap (λ p. p.machine) s.pieces (h.each 0 (omega (arith, t))) (h.each 2 t) k l b.overlap
+  not_broken n h (Job k l) t b = no_overlap (λ p. p.job) s.pieces (h.each 0 (omega (arith, t))) (h.each 3 t) k l b.overlap
+  not_broken n h (Release k) t b = let late = h.each 4 t k no_piece b.inside in let early = b.holds in omega (arith, ints)
+  not_broken n h (Arc k) t b = b.holds (h.each 5 t k no_arc b.inside)
+  not_broken n h (Route j o) t b = b.1.holds (h.each 6 t b.0 j o b.1.inside)
+  not_broken n h (Work j o) t b = b.holds.1 (h.each 7 t j o b.inside b.holds.0)
 
   pub first_of : (b : Break) → KeepsUpTo (turn_of b) i s → IsBroken i s b → IsFirstBreak i s b
   first_of b h broken = record { broken = broken; first = λ c t. not_broken (turn_of b) h c t }
 
   -- each condition is kept: the schedule is feasible
   routed_by : (k : EnvKind) → kind_of i.class.env ≡ k → All (HasPlace i) s.pieces → (HasRoutes i → (j o : ℕ) → j < length i.jobs → KeepsRoute s.pieces j o) → FollowsRoute k s.pieces
-  routed_by Identical e place h = tt
-  routed_by Uniform e place h = tt
-  routed_by Unrelated e place h = tt
-  routed_by OpenShop e place h = tt
   routed_by FlowShop e place h = λ k d l m b n same less. h (inl e) (get_or s.pieces m b).job (get_or s.pieces m b).op (place m b n).job k d l m b n same refl less refl
   routed_by JobShop e place h = λ k d l m b n same less. h (inr e) (get_or s.pieces m b).job (get_or s.pieces m b).op (place m b n).job k d l m b n same refl less refl
+  routed_by _ e place h = tt
 
   pub feasible_when_kept : pos 1 ≤ℤ s.unit → All (λ p. pos 0 ≤ℤ p.from) s.pieces → KeepsUpTo 8 i s → Feasible i s
   feasible_when_kept unit natural h = record {
     unit = unit;
-    span = λ k d l. (natural k d l, h.span (omega arith) k d l);
-    place = h.place (omega arith);
-    machine = h.machine (omega arith);
-    job = h.job (omega arith);
-    release = h.release (omega arith);
-    arc = h.arc (omega arith);
-    route = routed_by (kind_of i.class.env) refl (h.place (omega arith)) (h.route (omega arith));
-    work = h.work (omega arith);
+    span = λ k d l. (natural k d l, h.each 0 (omega arith) k d l);
+    place = h.each 1 (omega arith);
+    machine = h.each 2 (omega arith);
+    job = h.each 3 (omega arith);
+    release = h.each 4 (omega arith);
+    arc = h.each 5 (omega arith);
+    route = routed_by (kind_of i.class.env) refl (h.each 1 (omega arith)) (h.each 6 (omega arith));
+    work = h.each 7 (omega arith);
   }
 
   pub feasible_if_kept : Within i s → KeepsUpTo 8 i s → Feasible i s
@@ -103,28 +102,23 @@ module _ (i : Instance) (s : Schedule) where
 
   -- a feasible schedule keeps them all
   routes_by : (k : EnvKind) → FollowsRoute k s.pieces → (k ≡ FlowShop) ⊎ (k ≡ JobShop) → (j o : ℕ) → KeepsRoute s.pieces j o
-  routes_by Identical h (inl e) j o = absurd (cc)
-  routes_by Identical h (inr e) j o = absurd (cc)
-  routes_by Uniform h (inl e) j o = absurd (cc)
-  routes_by Uniform h (inr e) j o = absurd (cc)
-  routes_by Unrelated h (inl e) j o = absurd (cc)
-  routes_by Unrelated h (inr e) j o = absurd (cc)
-  routes_by OpenShop h (inl e) j o = absurd (cc)
-  routes_by OpenShop h (inr e) j o = absurd (cc)
   routes_by FlowShop h routed j o = λ k d l m b n ej eq less eo. h k d l m b n (ej ∙ sym eq) (subst (λ x. (get_or s.pieces k d).op < x) (sym eo) less)
   routes_by JobShop h routed j o = λ k d l m b n ej eq less eo. h k d l m b n (ej ∙ sym eq) (subst (λ x. (get_or s.pieces k d).op < x) (sym eo) less)
+  routes_by _ h (inl e) j o = absurd (cc)
+  routes_by _ h (inr e) j o = absurd (cc)
 
   pub kept_if_feasible : (n : ℕ) → Feasible i s → KeepsUpTo n i s
-  kept_if_feasible n f = record {
-    span = λ t k d l. (f.span k d l).1;
-    place = λ t. f.place;
-    machine = λ t. f.machine;
-    job = λ t. f.job;
-    release = λ t. f.release;
-    arc = λ t. f.arc;
-    route = λ t routed j o l. routes_by (kind_of i.class.env) f.route routed j o;
-    work = λ t. f.work;
-  }
+  kept_if_feasible n f = record { each = λ k below. by k }
+    where
+      by : (k : ℕ) → Kept k i s
+      by zero = λ k d l. (f.span k d l).1
+      by (suc zero) = f.place
+      by (suc (suc zero)) = f.machine
+      by (suc (suc (suc zero))) = f.job
+      by (suc (suc (suc (suc zero)))) = f.release
+      by (suc (suc (suc (suc (suc zero))))) = f.arc
+      by (suc (suc (suc (suc (suc (suc zero)))))) = λ routed j o l. routes_by (kind_of i.class.env) f.route routed j o
+      by (suc (suc (suc (suc (suc (suc (suc m))))))) = f.work
 
   pub not_feasible : ((b : Break) × IsFirstBreak i s b) → ¬ Feasible i s
   not_feasible (b, h) f = not_broken (suc (turn_of b)) (kept_if_feasible (suc (turn_of b)) f) b (omega arith) h.broken
@@ -139,125 +133,10 @@ module _ (i : Instance) (s : Schedule) where
 
   -- one condition after another
   pub up_to_none : KeepsUpTo 0 i s
-  up_to_none = record {
-    span = λ t. absurd (omega (arith, t));
-    place = λ t. absurd (omega (arith, t));
-    machine = λ t. absurd (omega (arith, t));
-    job = λ t. absurd (omega (arith, t));
-    release = λ t. absurd (omega (arith, t));
-    arc = λ t. absurd (omega (arith, t));
-    route = λ t. absurd (omega (arith, t));
-    work = λ t. absurd (omega (arith, t));
-  }
+  up_to_none = record { each = λ k l. absurd (omega (arith, l)) }
 
-  pub up_to_span : KeepsUpTo 0 i s → All (λ p. p.from <ℤ p.to) s.pieces → KeepsUpTo 1 i s
-  up_to_span h x = record {
-    span = λ t. x;
-    place = λ t. absurd (omega (arith, t));
-    machine = λ t. absurd (omega (arith, t));
-    job = λ t. absurd (omega (arith, t));
-    release = λ t. absurd (omega (arith, t));
-    arc = λ t. absurd (omega (arith, t));
-    route = λ t. absurd (omega (arith, t));
-    work = λ t. absurd (omega (arith, t));
-  }
-
-  pub up_to_place : KeepsUpTo 1 i s → All (HasPlace i) s.pieces → KeepsUpTo 2 i s
-  up_to_place h x = record {
-    span = λ t. h.span (omega arith);
-    place = λ t. x;
-    machine = λ t. absurd (omega (arith, t));
-    job = λ t. absurd (omega (arith, t));
-    release = λ t. absurd (omega (arith, t));
-    arc = λ t. absurd (omega (arith, t));
-    route = λ t. absurd (omega (arith, t));
-    work = λ t. absurd (omega (arith, t));
-  }
-
-  pub up_to_machine : KeepsUpTo 2 i s → AllPairs (λ p q. p.machine ≡ q.machine → IsApart p q) s.pieces → KeepsUpTo 3 i s
-  up_to_machine h x = record {
-    span = λ t. h.span (omega arith);
-    place = λ t. h.place (omega arith);
-    machine = λ t. x;
-    job = λ t. absurd (omega (arith, t));
-    release = λ t. absurd (omega (arith, t));
-    arc = λ t. absurd (omega (arith, t));
-    route = λ t. absurd (omega (arith, t));
-    work = λ t. absurd (omega (arith, t));
-  }
-
-  pub up_to_job : KeepsUpTo 3 i s → AllPairs (λ p q. p.job ≡ q.job → IsApart p q) s.pieces → KeepsUpTo 4 i s
-  up_to_job h x = record {
-    span = λ t. h.span (omega arith);
-    place = λ t. h.place (omega arith);
-    machine = λ t. h.machine (omega arith);
-    job = λ t. x;
-    release = λ t. absurd (omega (arith, t));
-    arc = λ t. absurd (omega (arith, t));
-    route = λ t. absurd (omega (arith, t));
-    work = λ t. absurd (omega (arith, t));
-  }
-
-  pub up_to_release : KeepsUpTo 4 i s → All (λ p. (s.unit *ℤ pos (job_at i p.job).release) ≤ℤ p.from) s.pieces → KeepsUpTo 5 i s
-  up_to_release h x = record {
-    span = λ t. h.span (omega arith);
-    place = λ t. h.place (omega arith);
-    machine = λ t. h.machine (omega arith);
-    job = λ t. h.job (omega arith);
-    release = λ t. x;
-    arc = λ t. absurd (omega (arith, t));
-    route = λ t. absurd (omega (arith, t));
-    work = λ t. absurd (omega (arith, t));
-  }
-
-  pub up_to_arc : KeepsUpTo 5 i s → All (KeepsArc s.pieces) i.arcs → KeepsUpTo 6 i s
-  up_to_arc h x = record {
-    span = λ t. h.span (omega arith);
-    place = λ t. h.place (omega arith);
-    machine = λ t. h.machine (omega arith);
-    job = λ t. h.job (omega arith);
-    release = λ t. h.release (omega arith);
-    arc = λ t. x;
-    route = λ t. absurd (omega (arith, t));
-    work = λ t. absurd (omega (arith, t));
-  }
-
-  pub up_to_route : KeepsUpTo 6 i s → (HasRoutes i → (j o : ℕ) → j < length i.jobs → KeepsRoute s.pieces j o) → KeepsUpTo 7 i s
-  up_to_route h x = record {
-    span = λ t. h.span (omega arith);
-    place = λ t. h.place (omega arith);
-    machine = λ t. h.machine (omega arith);
-    job = λ t. h.job (omega arith);
-    release = λ t. h.release (omega arith);
-    arc = λ t. h.arc (omega arith);
-    route = λ t. x;
-    work = λ t. absurd (omega (arith, t));
-  }
-
-  pub up_to_work : KeepsUpTo 7 i s → ((j o : ℕ) → j < length i.jobs → HasOperation (kind_of i.class.env) i j o → GetsWork i s j o) → KeepsUpTo 8 i s
-  up_to_work h x = record {
-    span = λ t. h.span (omega arith);
-    place = λ t. h.place (omega arith);
-    machine = λ t. h.machine (omega arith);
-    job = λ t. h.job (omega arith);
-    release = λ t. h.release (omega arith);
-    arc = λ t. h.arc (omega arith);
-    route = λ t. h.route (omega arith);
-    work = λ t. x;
-  }
-
-  -- the same where the unit is passed as a number
-  pub up_to_release_at : (u : ℤ) → u ≡ s.unit → KeepsUpTo 4 i s → All (λ p. (u *ℤ pos (job_at i p.job).release) ≤ℤ p.from) s.pieces → KeepsUpTo 5 i s
-  up_to_release_at u e h x = up_to_release h (subst (λ v. All (λ p. (v *ℤ pos (job_at i p.job).release) ≤ℤ p.from) s.pieces) e x)
-
-  pub up_to_work_at : (u : ℤ) → u ≡ s.unit → KeepsUpTo 7 i s → ((j o : ℕ) → j < length i.jobs → IsWorked i u s.pieces j o) → KeepsUpTo 8 i s
-  up_to_work_at u e h x = up_to_work h (subst (λ v. (j o : ℕ) → j < length i.jobs → IsWorked i v s.pieces j o) e x)
-
-  pub first_release_at : (u : ℤ) (k : ℕ) → u ≡ s.unit → KeepsUpTo 4 i s → IsLeast (length s.pieces) (λ l. IsEarly i u (piece_at s.pieces l)) k → IsFirstBreak i s (Release k)
-  first_release_at u k e h x = first_of (Release k) h (subst (λ v. IsLeast (length s.pieces) (λ l. IsEarly i v (piece_at s.pieces l)) k) e x)
-
-  pub first_work_at : (u : ℤ) (j o : ℕ) → u ≡ s.unit → KeepsUpTo 7 i s → IsLeastOperation i (LacksWorkAmong i u s.pieces) j o → IsFirstBreak i s (Work j o)
-  first_work_at u j o e h x = first_of (Work j o) h (subst (λ v. IsLeastOperation i (LacksWorkAmong i v s.pieces) j o) e x)
+  pub up_to_next : (n : ℕ) → KeepsUpTo n i s → Kept n i s → KeepsUpTo (n + 1) i s
+  up_to_next n h x = record { each = λ k l. elim (cases_lt k n) [ inl less ↦ h.each k less | inr more ↦ subst (λ m. Kept m i s) (omega (arith, l, more)) x ] }
 
 -- the schedule whose pieces are passed as a slice
 abbrev pub with_pieces : Schedule → List Piece → Schedule

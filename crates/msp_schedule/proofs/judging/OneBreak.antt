@@ -1,5 +1,5 @@
 -- A schedule has at most one first break.
-use Rattle.std.proofs.Common.{◌≡◌, ℕ, zero, suc, ◌⊎◌, inl, inr, List, ◌≤ℤ◌, ◌<ℤ◌, refl, sym, ap, ap₂, subst, ◌∙◌, arith}
+use Rattle.std.proofs.Common.{◌≡◌, ℕ, ◌<◌, ◌⊎◌, inl, inr, List, ◌≤ℤ◌, ◌<ℤ◌, sym, ap, ap₂, subst, ◌∙◌, arith}
 use Rattle.std.proofs.lemmas.Int.{ints}
 use Rattle.std.proofs.lemmas.Bool.{cases_lt}
 use Rattle.msp_class.proofs.IntegerRing.{≤ℤ_total, ≤ℤ_antisym}
@@ -11,25 +11,17 @@ use Rattle.msp_schedule.specs.declared.breaks.Break.TheVariants.{Span, Place, Ma
 use Rattle.msp_pieces.specs.Piece.{piece_at}
 use Rattle.msp_schedule.specs.Breaks.{IsLeast, IsLeastOperation, StandsAhead, Overlaps, IsFirstOverlap, IsBroken, IsFirstBreak, turn_of}
 
+neither_less : (m n : ℕ) → ¬ (m < n) → ¬ (n < m) → m ≡ n
+neither_less m n a b = elim (cases_lt m n) [ inl less ↦ absurd (a less) | inr more ↦ elim (cases_lt n m) [ inl less ↦ absurd (b less) | inr back ↦ omega (arith, more, back) ] ]
+
 least_is_one : (bound : ℕ) (P : ℕ → Type 0) (k l : ℕ) → IsLeast bound P k → IsLeast bound P l → k ≡ l
-least_is_one bound P k l a b = elim (cases_lt k l) [
-  | inl less ↦ absurd (b.least k less a.holds)
-  | inr more ↦ elim (cases_lt l k) [ inl less ↦ absurd (a.least l less b.holds) | inr back ↦ omega (arith, more, back) ]
-]
+least_is_one bound P k l a b = neither_less k l (λ less. b.least k less a.holds) (λ less. a.least l less b.holds)
 
 least_operation_is_one : (i : Instance) (P : ℕ → ℕ → Type 0) (j o k q : ℕ) → IsLeastOperation i P j o → IsLeastOperation i P k q → (j ≡ k) × (o ≡ q)
 least_operation_is_one i P j o k q a b =
-    let jobs : j ≡ k = elim (cases_lt j k) [
-      | inl less ↦ absurd (b.job j o less a.holds)
-      | inr more ↦ elim (cases_lt k j) [ inl less ↦ absurd (a.job k q less b.holds) | inr back ↦ omega (arith, more, back) ]
-    ] in
-    (jobs, operations o q a (subst (λ x. IsLeastOperation i P x q) (sym jobs) b))
-  where
-    operations : (o q : ℕ) → IsLeastOperation i P j o → IsLeastOperation i P j q → o ≡ q
-    operations o q a b = elim (cases_lt o q) [
-      | inl less ↦ absurd (b.operation o less a.holds)
-      | inr more ↦ elim (cases_lt q o) [ inl less ↦ absurd (a.operation q less b.holds) | inr back ↦ omega (arith, more, back) ]
-    ]
+    let jobs : j ≡ k = neither_less j k (λ less. b.job j o less a.holds) (λ less. a.job k q less b.holds) in
+    let same : IsLeastOperation i P j q = subst (λ x. IsLeastOperation i P x q) (sym jobs) b in
+    (jobs, neither_less o q (λ less. same.operation o less a.holds) (λ less. a.operation q less same.holds))
 
 module _ (lane : Piece → ℕ) (ps : List Piece) where
   ahead_or_same : (k l : ℕ) → StandsAhead ps k l ⊎ (StandsAhead ps l k ⊎ (k ≡ l))
@@ -74,55 +66,18 @@ module _ (lane : Piece → ℕ) (ps : List Piece) where
         | inr (inr same) ↦ same
       ]
 
--- a break by its turn and its numbers, where one that has one number has it twice
-abbrev make : ℕ → ℕ → ℕ → Break
-make zero a b = Span a
-make (suc zero) a b = Place a
-make (suc (suc zero)) a b = Machine a b
-make (suc (suc (suc zero))) a b = Job a b
-make (suc (suc (suc (suc zero)))) a b = Release a
-make (suc (suc (suc (suc (suc zero))))) a b = Arc a
-make (suc (suc (suc (suc (suc (suc zero)))))) a b = Route a b
-make (suc (suc (suc (suc (suc (suc (suc n))))))) a b = Work a b
-
-abbrev numbers : Break → ℕ × ℕ
-numbers (Span a) = (a, a)
-numbers (Place a) = (a, a)
-numbers (Machine a b) = (a, b)
-numbers (Job a b) = (a, b)
-numbers (Release a) = (a, a)
-numbers (Arc a) = (a, a)
-numbers (Route a b) = (a, b)
-numbers (Work a b) = (a, b)
-
-made : (b : Break) → make (turn_of b) (numbers b).0 (numbers b).1 ≡ b
-made (Span a) = refl
-made (Place a) = refl
-made (Machine a b) = refl
-made (Job a b) = refl
-made (Release a) = refl
-made (Arc a) = refl
-made (Route a b) = refl
-made (Work a b) = refl
-
 module _ (i : Instance) (s : Schedule) where
-  one_of_turn : (t a b c d : ℕ) → IsBroken i s (make t a b) → IsBroken i s (make t c d) → make t a b ≡ make t c d
-  one_of_turn zero a b c d x y = ap Span (least_is_one _ _ a c x y)
-  one_of_turn (suc zero) a b c d x y = ap Place (least_is_one _ _ a c x y)
-  one_of_turn (suc (suc zero)) a b c d x y = let e = first_overlap_is_one _ _ a b c d x y in ap₂ Machine e.0 e.1
-  one_of_turn (suc (suc (suc zero))) a b c d x y = let e = first_overlap_is_one _ _ a b c d x y in ap₂ Job e.0 e.1
-  one_of_turn (suc (suc (suc (suc zero)))) a b c d x y = ap Release (least_is_one _ _ a c x y)
-  one_of_turn (suc (suc (suc (suc (suc zero))))) a b c d x y = ap Arc (least_is_one _ _ a c x y)
-  one_of_turn (suc (suc (suc (suc (suc (suc zero)))))) a b c d x y = let e = least_operation_is_one i _ a b c d x.1 y.1 in ap₂ Route e.0 e.1
-  one_of_turn (suc (suc (suc (suc (suc (suc (suc n))))))) a b c d x y = let e = least_operation_is_one i _ a b c d x y in ap₂ Work e.0 e.1
+  one_of_turn : (b c : Break) → turn_of b ≡ turn_of c → IsBroken i s b → IsBroken i s c → b ≡ c
+  one_of_turn (Span a) (Span c) e x y = ap Span (least_is_one _ _ a c x y)
+  one_of_turn (Place a) (Place c) e x y = ap Place (least_is_one _ _ a c x y)
+  one_of_turn (Machine a b) (Machine c d) e x y = let f = first_overlap_is_one _ _ a b c d x y in ap₂ Machine f.0 f.1
+  one_of_turn (Job a b) (Job c d) e x y = let f = first_overlap_is_one _ _ a b c d x y in ap₂ Job f.0 f.1
+  one_of_turn (Release a) (Release c) e x y = ap Release (least_is_one _ _ a c x y)
+  one_of_turn (Arc a) (Arc c) e x y = ap Arc (least_is_one _ _ a c x y)
+  one_of_turn (Route a b) (Route c d) e x y = let f = least_operation_is_one i _ a b c d x.1 y.1 in ap₂ Route f.0 f.1
+  one_of_turn (Work a b) (Work c d) e x y = let f = least_operation_is_one i _ a b c d x y in ap₂ Work f.0 f.1
+  one_of_turn _ _ e x y = absurd (omega (arith, e))
 
   pub one_break : (b c : Break) → IsFirstBreak i s b → IsFirstBreak i s c → b ≡ c
   one_break b c x y =
-      let turns : turn_of b ≡ turn_of c = elim (cases_lt (turn_of b) (turn_of c)) [
-        | inl less ↦ absurd (y.first b less x.broken)
-        | inr more ↦ elim (cases_lt (turn_of c) (turn_of b)) [ inl less ↦ absurd (x.first c less y.broken) | inr back ↦ omega (arith, more, back) ]
-      ] in
-      let of_c : ℕ → Break = λ t. make t (numbers c).0 (numbers c).1 in
-      let first : IsBroken i s (make (turn_of b) (numbers b).0 (numbers b).1) = subst (IsBroken i s) (sym (made b)) x.broken in
-      let second : IsBroken i s (of_c (turn_of b)) = subst (λ t. IsBroken i s (of_c t)) (sym turns) (subst (IsBroken i s) (sym (made c)) y.broken) in
-      sym (made b) ∙ one_of_turn (turn_of b) _ _ _ _ first second ∙ ap of_c turns ∙ made c
+      one_of_turn b c (neither_less (turn_of b) (turn_of c) (λ less. y.first b less x.broken) (λ less. x.first c less y.broken)) x.broken y.broken

@@ -20,12 +20,11 @@ use Rattle.msp_schedule.specs.declared.breaks.Break.TheVariants.{Span, Place, Ma
 use Rattle.msp_pieces.specs.Piece.{length_of, pieces_of, IsApart, no_piece, piece_at}
 use Rattle.msp_pieces.specs.Feasible.{Feasible, HasOperation, MayRun, HasPlace, GetsWork, IsWholeWork, total, work_of, whole_work}
 use Rattle.msp_schedule.specs.Breaks.{no_arc, arc_at, IsLeast, IsLeastOperation, IsEmpty, IsEarly, StandsAhead, Overlaps, IsFirstOverlap, KeepsArc, KeepsRoute}
-use Rattle.msp_schedule.specs.Breaks.{HasRoutes, LacksWork, IsBroken, turn_of, IsFirstBreak, IsDecision}
+use Rattle.msp_schedule.specs.Breaks.{LacksWork, IsBroken, turn_of, IsFirstBreak, IsDecision}
 use Rattle.msp_schedule.specs.Lanes.{Precedes, IsFirstOverlapBelow}
 use Rattle.msp_pieces.proofs.lists.Intervals.{greatest_by, greatest_by-bound}
 use Rattle.msp_schedule.proofs.judging.OverlapFacts.{nothing_new, new_is_first, new_is_better, known_stays, apart_without_overlap, is_first}
-use Rattle.msp_schedule.proofs.judging.FirstBreaks.{KeepsUpTo, first_of, feasible_when_kept, up_to_none, up_to_span, up_to_place, up_to_machine, up_to_job, up_to_release}
-use Rattle.msp_schedule.proofs.judging.FirstBreaks.{up_to_arc, up_to_route, up_to_work}
+use Rattle.msp_schedule.proofs.judging.FirstBreaks.{KeepsUpTo, first_of, feasible_when_kept, up_to_none, up_to_next}
 
 -- ---- what can be decided
 abbrev Decided : Type 0 → Type 0
@@ -38,6 +37,10 @@ not_decided P (inr n) = inl n
 stable : (P : Type 0) → Decided P → ¬ (¬ P) → P
 stable P (inl h) n = h
 stable P (inr m) n = absurd (n m)
+
+decided_by : {P Q : Type 0} → (P → Q) → (Q → P) → Decided P → Decided Q
+decided_by to back (inl h) = inl (to h)
+decided_by to back (inr n) = inr (λ q. n (back q))
 
 both : (P Q : Type 0) → Decided P → Decided Q → Decided (P × Q)
 both P Q (inl p) (inl q) = inl (p, q)
@@ -87,12 +90,7 @@ not_below x y n = elim (≤ℤ_total y x) [ inl h ↦ h | inr k ↦ absurd (n k)
 
 all_decided : {X : Type 0} (P : X → Type 0) → ((x : X) → Decided (P x)) → (xs : List X) → Decided (All P xs)
 all_decided P d [] = inl (All-nil P)
-all_decided {X} P d (x ∷ xs) = by (d x) (all_decided P d xs)
-  where
-    by : Decided (P x) → Decided (All P xs) → Decided (All P (x ∷ xs))
-    by (inl h) (inl t) = inl (All-cons P x xs h t)
-    by (inl h) (inr n) = inr (λ a. n (All-tail P x xs a))
-    by (inr n) t = inr (λ a. n (All-head P x xs a))
+all_decided P d (x ∷ xs) = decided_by (λ h. All-cons P x xs h.0 h.1) (λ a. (All-head P x xs a, All-tail P x xs a)) (both _ _ (d x) (all_decided P d xs))
 
 -- the first number with a property
 first_below : (P : ℕ → Type 0) → ((k : ℕ) → Decided (P k)) → (n : ℕ) → ((k : ℕ) → k < n → ¬ P k) ⊎ ((k : ℕ) × IsLeast n P k)
@@ -143,17 +141,9 @@ module _ (lane : Piece → ℕ) (ps : List Piece) where
   precedes_decided k l = some_of _ _ (less_decided (lane (piece_at ps k)) (lane (piece_at ps l))) (both _ _ (same_decided (lane (piece_at ps k)) (lane (piece_at ps l))) (ahead_decided k l))
 
   overlaps_decided : (k l : ℕ) → Decided (Overlaps lane ps k l)
-  overlaps_decided k l = by (less_decided k (length ps)) (less_decided l (length ps))
-      (same_decided (lane (piece_at ps k)) (lane (piece_at ps l))) (ahead_decided k l) (below_decided (piece_at ps l).from (piece_at ps k).to)
-    where
-      by : Decided (k < length ps) → Decided (l < length ps) → Decided (lane (piece_at ps k) ≡ lane (piece_at ps l))
-          → Decided (StandsAhead ps k l) → Decided ((piece_at ps l).from <ℤ (piece_at ps k).to) → Decided (Overlaps lane ps k l)
-      by (inl a) (inl b) (inl c) (inl e) (inl f) = inl (record { one = a; other = b; same = c; ahead = e; early = f })
-      by (inr n) b c e f = inr (λ h. n h.one)
-      by (inl a) (inr n) c e f = inr (λ h. n h.other)
-      by (inl a) (inl b) (inr n) e f = inr (λ h. n h.same)
-      by (inl a) (inl b) (inl c) (inr n) f = inr (λ h. n h.ahead)
-      by (inl a) (inl b) (inl c) (inl e) (inr n) = inr (λ h. n h.early)
+  overlaps_decided k l = decided_by (λ h. record { one = h.0; other = h.1.0; same = h.1.1.0; ahead = h.1.1.1.0; early = h.1.1.1.1 }) (λ o. (o.one, (o.other, (o.same, (o.ahead, o.early)))))
+      (both _ _ (less_decided k (length ps)) (both _ _ (less_decided l (length ps))
+      (both _ _ (same_decided (lane (piece_at ps k)) (lane (piece_at ps l))) (both _ _ (ahead_decided k l) (below_decided (piece_at ps l).from (piece_at ps k).to)))))
 
   abbrev Known : ℕ → Type 0
   Known n = (best : Option (ℕ × ℕ)) × IsFirstOverlapBelow lane ps n best
@@ -188,37 +178,26 @@ module _ (lane : Piece → ℕ) (ps : List Piece) where
 
 -- ---- places, arcs, routes and work
 operation_decided : (k : EnvKind) (i : Instance) (j o : ℕ) → Decided (HasOperation k i j o)
-operation_decided Identical i j o = same_decided o 0
-operation_decided Uniform i j o = same_decided o 0
-operation_decided Unrelated i j o = same_decided o 0
 operation_decided OpenShop i j o = both _ _ (less_decided o (length (job_at i j).needs)) (not_decided _ (same_decided (need_at i j o).time 0))
 operation_decided FlowShop i j o = both _ _ (less_decided o (length (job_at i j).needs)) (not_decided _ (same_decided (need_at i j o).time 0))
 operation_decided JobShop i j o = both _ _ (less_decided o (length (job_at i j).needs)) (not_decided _ (same_decided (need_at i j o).time 0))
+operation_decided _ i j o = same_decided o 0
 
 operation_below : (k : EnvKind) (i : Instance) (j o : ℕ) → HasOperation k i j o → o < suc (length (job_at i j).needs)
-operation_below Identical i j o h = omega (arith, h)
-operation_below Uniform i j o h = omega (arith, h)
-operation_below Unrelated i j o h = omega (arith, h)
 operation_below OpenShop i j o h = omega (arith, h.0)
 operation_below FlowShop i j o h = omega (arith, h.0)
 operation_below JobShop i j o h = omega (arith, h.0)
+operation_below _ i j o h = omega (arith, h)
 
 run_decided : (k : EnvKind) (i : Instance) (j o m : ℕ) → Decided (MayRun k i j o m)
-run_decided Identical i j o m = less_decided m i.machines
-run_decided Uniform i j o m = less_decided m i.machines
-run_decided Unrelated i j o m = less_decided m i.machines
 run_decided OpenShop i j o m = same_decided m (need_at i j o).machine
 run_decided FlowShop i j o m = same_decided m (need_at i j o).machine
 run_decided JobShop i j o m = same_decided m (need_at i j o).machine
+run_decided _ i j o m = less_decided m i.machines
 
 place_decided : (i : Instance) (p : Piece) → Decided (HasPlace i p)
-place_decided i p = by (less_decided p.job (length i.jobs)) (operation_decided (kind_of i.class.env) i p.job p.op) (run_decided (kind_of i.class.env) i p.job p.op p.machine)
-  where
-    by : Decided (p.job < length i.jobs) → Decided (HasOperation (kind_of i.class.env) i p.job p.op) → Decided (MayRun (kind_of i.class.env) i p.job p.op p.machine) → Decided (HasPlace i p)
-    by (inl a) (inl b) (inl c) = inl (record { job = a; operation = b; machine = c })
-    by (inr n) b c = inr (λ h. n h.job)
-    by (inl a) (inr n) c = inr (λ h. n h.operation)
-    by (inl a) (inl b) (inr n) = inr (λ h. n h.machine)
+place_decided i p = decided_by (λ h. record { job = h.0; operation = h.1.0; machine = h.1.1 }) (λ h. (h.job, (h.operation, h.machine)))
+    (both _ _ (less_decided p.job (length i.jobs)) (both _ _ (operation_decided (kind_of i.class.env) i p.job p.op) (run_decided (kind_of i.class.env) i p.job p.op p.machine)))
 
 arc_decided : (ps : List Piece) (a : ArcValue) → Decided (KeepsArc ps a)
 arc_decided ps a = all_decided _ (λ p. all_decided _ (λ q. when _ _ (same_decided p.job a.before) (when _ _ (same_decided q.job a.after) (at_most_decided p.to q.from))) ps) ps
@@ -244,12 +223,9 @@ routes_decided FlowShop = inl (inl refl)
 routes_decided JobShop = inl (inr refl)
 
 whole_decided : (k : EnvKind) (i : Instance) (unit : ℤ) (p : Piece) → Decided (IsWholeWork k i unit p)
-whole_decided Identical i unit p = equal_decided (length_of p) (unit *ℤ pos (need_at i p.job p.op).time)
 whole_decided Uniform i unit p = equal_decided (length_of p *ℤ pos (slice_index_or i.speeds p.machine 0)) (unit *ℤ pos (need_at i p.job p.op).time)
 whole_decided Unrelated i unit p = equal_decided (length_of p) (unit *ℤ pos (need_at i p.job p.machine).time)
-whole_decided OpenShop i unit p = equal_decided (length_of p) (unit *ℤ pos (need_at i p.job p.op).time)
-whole_decided FlowShop i unit p = equal_decided (length_of p) (unit *ℤ pos (need_at i p.job p.op).time)
-whole_decided JobShop i unit p = equal_decided (length_of p) (unit *ℤ pos (need_at i p.job p.op).time)
+whole_decided _ i unit p = equal_decided (length_of p) (unit *ℤ pos (need_at i p.job p.op).time)
 
 abbrev IsSole : (Piece → Type 0) → List Piece → Type 0
 IsSole P ps = (p : Piece) × (ps ≡ p ∷ []) × P p
@@ -287,6 +263,10 @@ module _ (i : Instance) (s : Schedule) (unit : pos 1 ≤ℤ s.unit) (natural : A
   pieces_all : (Q : Piece → Type 0) → ((k : ℕ) → k < length s.pieces → Q (piece_at s.pieces k)) → All Q s.pieces
   pieces_all Q h k d l = subst Q (get_or_default s.pieces k no_piece d l) (h k l)
 
+  first_piece : (P : Piece → Type 0) → ((p : Piece) → Decided (P p))
+      → ((k : ℕ) → k < length s.pieces → ¬ P (piece_at s.pieces k)) ⊎ ((k : ℕ) × IsLeast (length s.pieces) (λ l. P (piece_at s.pieces l)) k)
+  first_piece P d = first_below (λ l. P (piece_at s.pieces l)) (λ l. d (piece_at s.pieces l)) (length s.pieces)
+
   work_decided : (j o : ℕ) → Decided (GetsWork i s j o)
   work_decided j o = choice_decided i.class.cut _ _
       (equal_decided (total (map (work_of (kind_of i.class.env) i) (pieces_of s j o))) (s.unit *ℤ pos (whole_work (kind_of i.class.env) i j o)))
@@ -296,64 +276,50 @@ module _ (i : Instance) (s : Schedule) (unit : pos 1 ≤ℤ s.unit) (natural : A
   lacks_decided j o = both _ _ (operation_decided (kind_of i.class.env) i j o) (not_decided _ (work_decided j o))
 
   by_work : KeepsUpTo 7 i s → Outcome
-  by_work h = by (first_operation i (LacksWork i s) lacks_decided (λ j. suc (length (job_at i j).needs)) (λ j o m x. omega (arith, m, operation_below (kind_of i.class.env) i j o x.0)))
-    where
-      by : (((j o : ℕ) → j < length i.jobs → ¬ LacksWork i s j o) ⊎ ((j : ℕ) × ((o : ℕ) × IsLeastOperation i (LacksWork i s) j o))) → Outcome
-      by (inl none) = (None, feasible_when_kept i s unit natural (up_to_work i s h (λ j o l has. stable (GetsWork i s j o) (work_decided j o) (λ n. none j o l (has, n)))))
-      by (inr (j, (o, x))) = broken (Work j o) h x
+  by_work h = elim (first_operation i (LacksWork i s) lacks_decided (λ j. suc (length (job_at i j).needs)) (λ j o m x. omega (arith, m, operation_below (kind_of i.class.env) i j o x.0))) [
+    | inl none ↦ (None, feasible_when_kept i s unit natural (up_to_next i s 7 h (λ j o l has. stable (GetsWork i s j o) (work_decided j o) (λ n. none j o l (has, n)))))
+    | inr (j, (o, x)) ↦ broken (Work j o) h x
+  ]
 
   by_route : KeepsUpTo 6 i s → Outcome
-  by_route h = by (routes_decided (kind_of i.class.env)) (first_operation i (λ j o. ¬ KeepsRoute s.pieces j o)
-      (λ j o. not_decided _ (route_decided s.pieces j o)) (λ j. suc (greatest_by (λ p. p.op) s.pieces)) (λ j o m n. n (keeps_beyond s.pieces j o m)))
-    where
-      by : Decided (HasRoutes i) → (((j o : ℕ) → j < length i.jobs → ¬ (¬ KeepsRoute s.pieces j o)) ⊎ ((j : ℕ) × ((o : ℕ) × IsLeastOperation i (λ j o. ¬ KeepsRoute s.pieces j o) j o))) → Outcome
-      by (inr n) found = by_work (up_to_route i s h (λ r. absurd (n r)))
-      by (inl r) (inl none) = by_work (up_to_route i s h (λ _ j o l. stable (KeepsRoute s.pieces j o) (route_decided s.pieces j o) (none j o l)))
-      by (inl r) (inr (j, (o, x))) = broken (Route j o) h (r, x)
+  by_route h = elim (routes_decided (kind_of i.class.env)) [
+    | inr n ↦ by_work (up_to_next i s 6 h (λ r. absurd (n r)))
+    | inl r ↦ elim (first_operation i (λ j o. ¬ KeepsRoute s.pieces j o)
+        (λ j o. not_decided _ (route_decided s.pieces j o)) (λ j. suc (greatest_by (λ p. p.op) s.pieces)) (λ j o m n. n (keeps_beyond s.pieces j o m))) [
+          | inl none ↦ by_work (up_to_next i s 6 h (λ _ j o l. stable (KeepsRoute s.pieces j o) (route_decided s.pieces j o) (none j o l)))
+          | inr (j, (o, x)) ↦ broken (Route j o) h (r, x)
+        ]
+  ]
 
   by_arc : KeepsUpTo 5 i s → Outcome
-  by_arc h = by (first_below (λ l. ¬ KeepsArc s.pieces (arc_at i l)) (λ l. not_decided _ (arc_decided s.pieces (arc_at i l))) (length i.arcs))
-    where
-      by : (((k : ℕ) → k < length i.arcs → ¬ (¬ KeepsArc s.pieces (arc_at i k))) ⊎ ((k : ℕ) × IsLeast (length i.arcs) (λ l. ¬ KeepsArc s.pieces (arc_at i l)) k)) → Outcome
-      by (inl none) =
-          by_route (up_to_arc i s h (λ k d l. subst (KeepsArc s.pieces) (get_or_default i.arcs k no_arc d l) (stable (KeepsArc s.pieces (arc_at i k)) (arc_decided s.pieces (arc_at i k)) (none k l))))
-      by (inr (k, x)) = broken (Arc k) h x
+  by_arc h = elim (first_below (λ l. ¬ KeepsArc s.pieces (arc_at i l)) (λ l. not_decided _ (arc_decided s.pieces (arc_at i l))) (length i.arcs)) [
+    | inl none ↦ by_route (up_to_next i s 5 h (λ k d l. subst (KeepsArc s.pieces) (get_or_default i.arcs k no_arc d l) (stable _ (arc_decided s.pieces (arc_at i k)) (none k l))))
+    | inr (k, x) ↦ broken (Arc k) h x
+  ]
 
   by_release : KeepsUpTo 4 i s → Outcome
-  by_release h =
-      by (first_below (λ l. IsEarly i s.unit (piece_at s.pieces l)) (λ l. below_decided (piece_at s.pieces l).from (s.unit *ℤ pos (job_at i (piece_at s.pieces l).job).release)) (length s.pieces))
-    where
-      by : (((k : ℕ) → k < length s.pieces → ¬ IsEarly i s.unit (piece_at s.pieces k)) ⊎ ((k : ℕ) × IsLeast (length s.pieces) (λ l. IsEarly i s.unit (piece_at s.pieces l)) k)) → Outcome
-      by (inl none) = by_arc (up_to_release i s h (pieces_all (λ p. (s.unit *ℤ pos (job_at i p.job).release) ≤ℤ p.from) (λ k l. not_below _ _ (none k l))))
-      by (inr (k, x)) = broken (Release k) h x
+  by_release h = elim (first_piece (IsEarly i s.unit) (λ p. below_decided p.from (s.unit *ℤ pos (job_at i p.job).release))) [
+    | inl none ↦ by_arc (up_to_next i s 4 h (pieces_all (λ p. (s.unit *ℤ pos (job_at i p.job).release) ≤ℤ p.from) (λ k l. not_below _ _ (none k l))))
+    | inr (k, x) ↦ broken (Release k) h x
+  ]
 
   by_job : KeepsUpTo 3 i s → Outcome
-  by_job h = by (overlap_or_apart (λ p. p.job) s.pieces)
-    where
-      by : AllPairs (λ p q. p.job ≡ q.job → IsApart p q) s.pieces ⊎ ((a : ℕ) × ((b : ℕ) × IsFirstOverlap (λ p. p.job) s.pieces a b)) → Outcome
-      by (inl apart) = by_release (up_to_job i s h apart)
-      by (inr (a, (b, x))) = broken (Job a b) h x
+  by_job h = elim (overlap_or_apart (λ p. p.job) s.pieces) [ inl apart ↦ by_release (up_to_next i s 3 h apart) | inr (a, (b, x)) ↦ broken (Job a b) h x ]
 
   by_machine : KeepsUpTo 2 i s → Outcome
-  by_machine h = by (overlap_or_apart (λ p. p.machine) s.pieces)
-    where
-      by : AllPairs (λ p q. p.machine ≡ q.machine → IsApart p q) s.pieces ⊎ ((a : ℕ) × ((b : ℕ) × IsFirstOverlap (λ p. p.machine) s.pieces a b)) → Outcome
-      by (inl apart) = by_job (up_to_machine i s h apart)
-      by (inr (a, (b, x))) = broken (Machine a b) h x
+  by_machine h = elim (overlap_or_apart (λ p. p.machine) s.pieces) [ inl apart ↦ by_job (up_to_next i s 2 h apart) | inr (a, (b, x)) ↦ broken (Machine a b) h x ]
 
   by_place : KeepsUpTo 1 i s → Outcome
-  by_place h = by (first_below (λ l. ¬ HasPlace i (piece_at s.pieces l)) (λ l. not_decided _ (place_decided i (piece_at s.pieces l))) (length s.pieces))
-    where
-      by : (((k : ℕ) → k < length s.pieces → ¬ (¬ HasPlace i (piece_at s.pieces k))) ⊎ ((k : ℕ) × IsLeast (length s.pieces) (λ l. ¬ HasPlace i (piece_at s.pieces l)) k)) → Outcome
-      by (inl none) = by_machine (up_to_place i s h (pieces_all (HasPlace i) (λ k l. stable (HasPlace i (piece_at s.pieces k)) (place_decided i (piece_at s.pieces k)) (none k l))))
-      by (inr (k, x)) = broken (Place k) h x
+  by_place h = elim (first_piece (λ p. ¬ HasPlace i p) (λ p. not_decided _ (place_decided i p))) [
+    | inl none ↦ by_machine (up_to_next i s 1 h (pieces_all (HasPlace i) (λ k l. stable _ (place_decided i (piece_at s.pieces k)) (none k l))))
+    | inr (k, x) ↦ broken (Place k) h x
+  ]
 
   decision : Outcome
-  decision = by (first_below (λ l. IsEmpty (piece_at s.pieces l)) (λ l. at_most_decided (piece_at s.pieces l).to (piece_at s.pieces l).from) (length s.pieces))
-    where
-      by : (((k : ℕ) → k < length s.pieces → ¬ IsEmpty (piece_at s.pieces k)) ⊎ ((k : ℕ) × IsLeast (length s.pieces) (λ l. IsEmpty (piece_at s.pieces l)) k)) → Outcome
-      by (inl none) = by_place (up_to_span i s (up_to_none i s) (pieces_all (λ p. p.from <ℤ p.to) (λ k l. not_at_most _ _ (none k l))))
-      by (inr (k, x)) = broken (Span k) (up_to_none i s) x
+  decision = elim (first_piece IsEmpty (λ p. at_most_decided p.to p.from)) [
+    | inl none ↦ by_place (up_to_next i s 0 (up_to_none i s) (pieces_all (λ p. p.from <ℤ p.to) (λ k l. not_at_most _ _ (none k l))))
+    | inr (k, x) ↦ broken (Span k) (up_to_none i s) x
+  ]
 
   pub some_break : ¬ Feasible i s → (b : Break) × IsFirstBreak i s b
   some_break n = by decision

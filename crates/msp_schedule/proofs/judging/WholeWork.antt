@@ -5,7 +5,7 @@ use Rattle.std.proofs.lemmas.Bool.{cases_lt}
 use Rattle.std.specs.Prelude.{IsTrue, ◌↔◌, ◌==◌, ◌&&◌}
 use Rattle.msp_class.specs.declared.class.Env.{Env}
 use Rattle.msp_class.specs.declared.environments.EnvKind.{EnvKind}
-use Rattle.msp_class.specs.declared.environments.EnvKind.TheVariants.{Identical, Uniform, Unrelated, OpenShop, FlowShop, JobShop}
+use Rattle.msp_class.specs.declared.environments.EnvKind.TheVariants.{Identical, Uniform, Unrelated}
 use Rattle.msp_class.specs.Env.{kind_of}
 use Rattle.msp_instance.specs.declared.Instance.{Instance}
 use Rattle.msp_instance.specs.Instance.{no_job, job_at, need_at}
@@ -21,9 +21,7 @@ inside_by : (k : EnvKind) (e : Env) (i : Instance) (p : Piece) → HasShape k e 
 inside_by Identical e i p shape op may = omega (arith, shape.0, op)
 inside_by Uniform e i p shape op may = omega (arith, shape.0, op)
 inside_by Unrelated e i p shape op may = omega (arith, shape.0, may)
-inside_by OpenShop e i p shape op may = op.0
-inside_by FlowShop e i p shape op may = op.0
-inside_by JobShop e i p shape op may = op.0
+inside_by _ e i p shape op may = op.0
 
 -- the need of a piece is there
 pub need_inside : (i : Instance) (p : Piece) → Inner i → HasPlace i p → need_of (kind_of i.class.env) p < length (job_at i p.job).needs
@@ -31,19 +29,11 @@ need_inside i p inner h = inside_by (kind_of i.class.env) i.class.env i p (inner
 
 whole_by : (k : EnvKind) (i : Instance) (unit : ℤ) (p : Piece) → IsWholeWork k i unit p → measured_by k i p ≡ unit *ℤ pos (need_at i p.job (need_of k p)).time
 whole_by Identical i unit p h = h
-whole_by Uniform i unit p h = h
-whole_by Unrelated i unit p h = h
-whole_by OpenShop i unit p h = h
-whole_by FlowShop i unit p h = h
-whole_by JobShop i unit p h = h
+whole_by _ i unit p h = h
 
 by_whole : (k : EnvKind) (i : Instance) (unit : ℤ) (p : Piece) → measured_by k i p ≡ unit *ℤ pos (need_at i p.job (need_of k p)).time → IsWholeWork k i unit p
 by_whole Identical i unit p h = h
-by_whole Uniform i unit p h = h
-by_whole Unrelated i unit p h = h
-by_whole OpenShop i unit p h = h
-by_whole FlowShop i unit p h = h
-by_whole JobShop i unit p h = h
+by_whole _ i unit p h = h
 
 pub is_whole : (i : Instance) (unit : ℤ) (p : Piece)
     → IsWholeWork (kind_of i.class.env) i unit p → measured_by (kind_of i.class.env) i p ≡ unit *ℤ pos (need_at i p.job (need_of (kind_of i.class.env) p)).time
@@ -78,25 +68,20 @@ whole_if-passed i unit u p m n at t takes eu en em ea et h =
 pub sole_has : (P : Piece → Type 0) (xs : List Piece) (j o : ℕ) (p : Piece) → pieces_among xs j o ≡ p ∷ [] → All P xs → P p
 sole_has P xs j o p e h = All-head P p [] (subst (All P) e (All-filter (λ q. (q.job == j) && (q.op == o)) P xs h))
 
-operation_inside_by : (k : EnvKind) (e : Env) (i : Instance) (j o : ℕ) → k ≢ Unrelated → HasShape k e i.machines (job_at i j).needs → HasOperation k i j o → o < length (job_at i j).needs
-operation_inside_by Identical e i j o n shape op = omega (arith, shape.0, op)
-operation_inside_by Uniform e i j o n shape op = omega (arith, shape.0, op)
-operation_inside_by Unrelated e i j o n shape op = absurd (n refl)
-operation_inside_by OpenShop e i j o n shape op = op.0
-operation_inside_by FlowShop e i j o n shape op = op.0
-operation_inside_by JobShop e i j o n shape op = op.0
+-- an operation beyond the needs has no work to do
+beyond_by : (k : EnvKind) (e : Env) (i : Instance) (j o : ℕ) → 1 ≤ i.machines → HasShape k e i.machines (job_at i j).needs → HasOperation k i j o → o < length (job_at i j).needs
+beyond_by Identical e i j o m shape op = omega (arith, shape.0, op)
+beyond_by Uniform e i j o m shape op = omega (arith, shape.0, op)
+beyond_by Unrelated e i j o m shape op = omega (arith, shape.0, op, m)
+beyond_by _ e i j o m shape op = op.0
 
 -- the need of an operation is there, and says how much work it is
 pub operation_inside : (i : Instance) (j o : ℕ) → kind_of i.class.env ≢ Unrelated → Inner i → j < length i.jobs → HasOperation (kind_of i.class.env) i j o → o < length (job_at i j).needs
-operation_inside i j o n inner job op = operation_inside_by (kind_of i.class.env) i.class.env i j o n (inner.conditions.jobs j no_job job).needs.shape op
+operation_inside i j o n inner job op = beyond_by (kind_of i.class.env) i.class.env i j o inner.conditions.machines.0 (inner.conditions.jobs j no_job job).needs.shape op
 
 whole_work_by : (k : EnvKind) (i : Instance) (j o : ℕ) → k ≢ Unrelated → whole_work k i j o ≡ (need_at i j o).time
-whole_work_by Identical i j o n = refl
-whole_work_by Uniform i j o n = refl
 whole_work_by Unrelated i j o n = absurd (n refl)
-whole_work_by OpenShop i j o n = refl
-whole_work_by FlowShop i j o n = refl
-whole_work_by JobShop i j o n = refl
+whole_work_by _ i j o n = refl
 
 -- what a cut operation gets, and a whole one
 pub gets_cut : (i : Instance) (unit u : ℤ) (xs : List Piece) (j o : ℕ) (sum n : ℤ) (t : ℕ) (takes : Bool)
@@ -142,15 +127,6 @@ pub lacks_first : (i : Instance) (unit u : ℤ) (xs : List Piece) (j ops o : ℕ
 lacks_first i unit u xs j ops o e inside lacks before =
     subst (λ v. IsLeast ops (λ q. LacksWorkAmong i v xs j q) o) e (record { inside = inside; holds = lacks; least = λ q below. not_lacking i u xs j q (before q below) })
 
--- an operation beyond the needs has no work to do
-beyond_by : (k : EnvKind) (e : Env) (i : Instance) (j o : ℕ) → 1 ≤ i.machines → HasShape k e i.machines (job_at i j).needs → HasOperation k i j o → o < length (job_at i j).needs
-beyond_by Identical e i j o m shape op = omega (arith, shape.0, op)
-beyond_by Uniform e i j o m shape op = omega (arith, shape.0, op)
-beyond_by Unrelated e i j o m shape op = omega (arith, shape.0, op, m)
-beyond_by OpenShop e i j o m shape op = op.0
-beyond_by FlowShop e i j o m shape op = op.0
-beyond_by JobShop e i j o m shape op = op.0
-
 pub all_worked : (i : Instance) (u : ℤ) (xs : List Piece) (j ops : ℕ)
     → Inner i → j < length i.jobs → ops ≡ length (job_at i j).needs → ((q : ℕ) → q < ops → IsWorked i u xs j q) → (q : ℕ) → IsWorked i u xs j q
 all_worked i u xs j ops inner inside es h q op =
@@ -173,12 +149,8 @@ lacks_least i unit u v xs job ops o e f inside least before = subst (λ x. IsLea
 })
 
 measured_is : (k : EnvKind) (i : Instance) (p : Piece) → k ≢ Unrelated → measured_by k i p ≡ work_of k i p
-measured_is Identical i p n = refl
-measured_is Uniform i p n = refl
 measured_is Unrelated i p n = absurd (n refl)
-measured_is OpenShop i p n = refl
-measured_is FlowShop i p n = refl
-measured_is JobShop i p n = refl
+measured_is _ i p n = refl
 
 pub work_is : (i : Instance) (p : Piece) (w : ℤ) → kind_of i.class.env ≢ Unrelated → w ≡ measured_by (kind_of i.class.env) i p → w ≡ work_of (kind_of i.class.env) i p
 work_is i p w n e = e ∙ measured_is (kind_of i.class.env) i p n
