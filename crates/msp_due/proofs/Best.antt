@@ -1,15 +1,15 @@
 -- The schedule of the least bound is best.
-use Rattle.std.proofs.Common.{◌≡◌, ◌≢◌, ℕ, zero, suc, ◌+◌, ◌-◌, ◌*◌, ◌<◌, ◌≤◌, ◌⊎◌, inl, inr, Bool, true, eqb, leb, ℤ, List, length, get_or, map, filter, pos, nat_abs, ◌+ℤ◌, ◌-ℤ◌}
-use Rattle.std.proofs.Common.{◌*ℤ◌, ◌≤ℤ◌, ◌<ℤ◌, All, AllPairs, Contains, refl, sym, ap, ap₂, subst, subst₂, ◌∙◌, arith}
+use Rattle.std.proofs.Common.{◌≡◌, ℕ, zero, suc, ◌+◌, ◌-◌, ◌*◌, ◌<◌, ◌≤◌, ◌⊎◌, inl, inr, Bool, true, eqb, leb, ℤ, List, length, get_or, map, filter, pos, nat_abs, ◌-ℤ◌}
+use Rattle.std.proofs.Common.{◌*ℤ◌, ◌≤ℤ◌, ◌<ℤ◌, All, refl, sym, ap, ap₂, subst, subst₂, ◌∙◌, arith}
 use Rattle.std.specs.Prelude.{◌&&◌, ◌==◌, ◌↔◌, IsTrue}
 use Rattle.std.proofs.lemmas.Bool.{cases_lt, eqb-true, eq-eqb}
 use Rattle.std.proofs.lemmas.Int.{ints}
 use Rattle.std.proofs.lemmas.List.{get_or_default}
-use Rattle.std.proofs.lemmas.List.Elements.{All-map, All-contains, Contains-get_or}
+use Rattle.std.proofs.lemmas.List.Elements.{All-contains}
 use Rattle.std.proofs.lemmas.List.Sums.{length-filter}
 use Rattle.msp_class.specs.Crit.{is_greatest}
 use Rattle.msp_class.specs.Sums.{total_below}
-use Rattle.msp_class.proofs.Sums.{OnceBelow-contains, OnceBelow-from_permutation, Contains-filter, total_below-term, total_below-constant}
+use Rattle.msp_class.proofs.Sums.{OnceBelow-from_permutation, Contains-filter, total_below-term, total_below-constant}
 use Rattle.msp_class.proofs.IntegerRing.{natural, le-pos, pos-le, ≤ℤ_trans, ≤ℤ_total, ≤ℤ_antisym, ≤ℤ-<ℤ, *ℤ-cancel, *ℤ-cancel_lt, *ℤ_comm, *ℤ-one}
 use Rattle.msp_instance.specs.declared.Arc.{Arc}
 use Rattle.msp_instance.specs.declared.Instance.{Instance}
@@ -22,21 +22,19 @@ use Rattle.msp_pieces.specs.declared.Schedule.{Schedule}
 use Rattle.msp_pieces.specs.Feasible.{Feasible}
 use Rattle.msp_pieces.specs.Cost.{cost_of, end_of, job_cost, Best}
 use Rattle.msp_pieces.specs.Blocks.{cost_at}
-use Rattle.msp_pieces.proofs.changes.Moves.{Contains-map}
 use Rattle.msp_pieces.proofs.costs.Charges.{charge_of, cost_of-bound, job_cost-mono, job_cost-scale}
 use Rattle.msp_pieces.proofs.bounds.Certified.{ranked}
 use Rattle.msp_route.specs.Bounds.{IsAnswer}
 use Rattle.msp_route.specs.Halving.{IsLeastBound}
 use Rattle.msp_route.proofs.KeyedJobs.{rises_or_stays}
 use Rattle.msp_slots.specs.Pieces.{piece_at}
-use Rattle.msp_slots.specs.Seating.{one_if, begin_at}
 use Rattle.msp_slots.specs.Places.{ArePlaces, EndAfterPlaces}
-use Rattle.msp_slots.specs.ListSchedule.{RunsAhead, WaitsForJob, IsListSchedule}
 use Rattle.msp_slots.proofs.Progress.{stands-in}
 use Rattle.msp_slots.proofs.ListSchedules.{begins_soon}
+use Rattle.msp_slots.proofs.PieceJobs.{job_inside, each_job}
 use Rattle.msp_slots.proofs.Places.{law_of_places, injected}
 use Rattle.msp_due.specs.Due.{tree_class, pair_class, CanMeet}
-use Rattle.msp_due.specs.Steps.{how_many, cost_in, IsDueSlot, AreLowered, CanPlace, IsListed, long_piece}
+use Rattle.msp_due.specs.Steps.{how_many, cost_in, CanPlace, IsListed, long_piece}
 use Rattle.msp_due.proofs.Facts.{HasOneTime, HasOneTime-from, tree_or_pair}
 use Rattle.msp_due.proofs.Counts.{both_is_true, how_many-some, covered, slots_hold}
 use Rattle.msp_due.proofs.Meeting.{IsRun, le_leb, leb_le, tree_step, pair_step, all_in_time}
@@ -165,22 +163,16 @@ module _ (i : Instance) (t : HasOneTime i) where
     EndInTime p = p.to ≤ℤ pos (slot p.job)
 
     pub jobs_in_time : All EndInTime pieces → (j : ℕ) → j < n → h.schedule.begin j < slot j
-    jobs_in_time all j l = All-contains (λ j. h.schedule.begin j < slot j) (map (λ p. p.job) pieces)
-        j (All-map (λ j. h.schedule.begin j < slot j) (λ p. p.job) pieces (λ k d b. early (get_or pieces k d) (h.schedule.each k d b) (all k d b)))
-        (OnceBelow-contains (OnceBelow-from_permutation h.schedule.all) j l)
+    jobs_in_time all = each_job pieces (OnceBelow-from_permutation h.schedule.all) (λ j. h.schedule.begin j < slot j) (λ k d b. early (get_or pieces k d) (h.schedule.each k d b) (all k d b))
       where
         early : (p : Piece) → p ≡ piece_at (h.schedule.begin p.job) (h.schedule.machine p.job) p.job → EndInTime p → h.schedule.begin p.job < slot p.job
         early p e m = omega (arith, le-pos (subst (λ x. x ≤ℤ pos (slot p.job)) (ap (λ p. p.to) e) m))
 
     pub pieces_in_time : ((j : ℕ) → j < n → h.schedule.begin j < slot j) → All EndInTime pieces
-    pieces_in_time early k d b = in_time (get_or pieces k d) (h.schedule.each k d b) (early (get_or pieces k d).job (job_inside k d b))
+    pieces_in_time early k d b = in_time (get_or pieces k d) (h.schedule.each k d b) (early (get_or pieces k d).job (job_inside pieces (OnceBelow-from_permutation h.schedule.all) k d b))
       where
         in_time : (p : Piece) → p ≡ piece_at (h.schedule.begin p.job) (h.schedule.machine p.job) p.job → h.schedule.begin p.job < slot p.job → EndInTime p
         in_time p e l = subst (λ x. x ≤ℤ pos (slot p.job)) (sym (ap (λ p. p.to) e)) (pos-le (omega (arith, l)))
-
-        job_inside : All (λ p. p.job < n) pieces
-        job_inside k d l = All-contains (λ j. j < n) (map (λ p. p.job) pieces) (get_or pieces k d).job
-            (OnceBelow-from_permutation h.schedule.all).within (Contains-map (λ p. p.job) pieces (get_or pieces k d) (Contains-get_or pieces k d l))
 
     cost_met : ((j : ℕ) → j < n → h.schedule.begin j < slot j) → (j : ℕ) → j < n → cost_in i j (h.schedule.begin j + 1) ≤ℤ bound
     cost_met early j l = (h.dues j l).met (h.schedule.begin j + 1) (omega arith) (omega (arith, early j l, (h.lowered j l).most))
@@ -262,6 +254,11 @@ module _ (i : Instance) (t : HasOneTime i) where
         strict p q = ≤ℤ-<ℤ p (subst (λ x. cost_of i s <ℤ x) (ap (λ u. bound *ℤ u) unit_is ∙ *ℤ_comm bound (pos unit)) q)
 
 -- ---- what is claimed
+pub record IsDueAnswer (i : Instance) (s : Schedule) (bound : ℤ) : Type 0 where
+  pub best : Best i s
+  pub answer : IsAnswer i s
+  pub cost : cost_of i s ≡ bound
+
 module _ (i : Instance) (class : (i.class ≡ tree_class) ⊎ (i.class ≡ pair_class)) (inner : Inner i) (bound : ℤ) (low : List ℕ) (pieces : List Piece) (h : IsListed i bound low pieces) where
   abbrev t : HasOneTime i
   t = HasOneTime-from i class inner
@@ -288,11 +285,7 @@ module _ (i : Instance) (class : (i.class ≡ tree_class) ⊎ (i.class ≡ pair_
     EndBySlots = All (λ p. p.to ≤ℤ pos (get_or xs p.job 0)) ps
 
     pub jobs_inside : All (λ p. p.job < length xs) ps
-    jobs_inside = subst₂ (λ ps xs. All (λ p. p.job < length xs) ps) (sym same) (sym alike) (λ k d l. omega (arith, inside k d l, h.whole))
-      where
-        inside : All (λ p. p.job < length i.jobs) pieces
-        inside k d l = All-contains (λ j. j < length i.jobs) (map (λ p. p.job) pieces) (get_or pieces k d).job
-            (OnceBelow-from_permutation h.schedule.all).within (Contains-map (λ p. p.job) pieces (get_or pieces k d) (Contains-get_or pieces k d l))
+    jobs_inside = subst₂ (λ ps xs. All (λ p. p.job < length xs) ps) (sym same) (sym alike) (λ k d l. omega (arith, job_inside pieces (OnceBelow-from_permutation h.schedule.all) k d l, h.whole))
 
     ends_same : EndBySlots ≡ Ends
     ends_same = ap₂ (λ ps (xs : List ℕ). All (λ p. p.to ≤ℤ pos (get_or xs p.job 0)) ps) same alike
@@ -303,18 +296,15 @@ module _ (i : Instance) (class : (i.class ≡ tree_class) ⊎ (i.class ≡ pair_
     pub answers_meet : (r : Bool) → IsTrue r ↔ EndBySlots → IsTrue r ↔ CanMeet i bound
     answers_meet r e = let f = subst (λ X. IsTrue r ↔ X) ends_same e in (λ y. meet_exactly.0 (f.0 y), λ y. f.1 (meet_exactly.1 y))
 
-  pub is_answer : IsAnswer i (record { unit = pos 1; pieces = map (long_piece (common_time i)) pieces })
-  is_answer = answer i t h.order pieces h.schedule
-
-  module _ (least : IsLeastBound (CanPlace i) bound) where
-    ended : Ends
-    ended = place_exactly.1 least.met
-
-    pub cost_is : cost_of i (record { unit = pos 1; pieces = map (long_piece (common_time i)) pieces }) ≡ bound
-    cost_is = least_cost i t bound low pieces h least ended
-
-    pub is_best : Best i (record { unit = pos 1; pieces = map (long_piece (common_time i)) pieces })
-    is_best = record {
+  pub due_answer : IsLeastBound (CanPlace i) bound → IsDueAnswer i (record { unit = pos 1; pieces = map (long_piece (common_time i)) pieces }) bound
+  due_answer least = record {
+    best = record {
       feasible = feasible i t h.order pieces h.schedule;
       least = λ s f. subst (λ x. (x *ℤ s.unit) ≤ℤ (cost_of i s *ℤ pos 1)) (sym cost_is) (no_less i t s f bound least);
-    }
+    };
+    answer = answer i t h.order pieces h.schedule;
+    cost = cost_is;
+  }
+    where
+      cost_is : cost_of i (record { unit = pos 1; pieces = map (long_piece (common_time i)) pieces }) ≡ bound
+      cost_is = least_cost i t bound low pieces h least (place_exactly.1 least.met)

@@ -1,13 +1,14 @@
 -- How many numbers below n pass a test.
-use Rattle.std.proofs.Common.{◌≡◌, ◌≢◌, ℕ, zero, suc, ◌+◌, ◌*◌, ◌<◌, ◌≤◌, ◌⊎◌, inl, inr, Bool, true, false, cond, eqb, ltb, leb, refl, sym, ap, subst, ◌∙◌, arith}
+use Rattle.std.proofs.Common.{◌≡◌, ◌≢◌, ℕ, zero, suc, ◌+◌, ◌*◌, ◌<◌, ◌≤◌, inl, inr, Bool, true, false, cond, eqb, ltb, leb, refl, sym, ap, ◌∙◌, arith}
 use Rattle.std.specs.Prelude.{◌&&◌}
-use Rattle.std.proofs.lemmas.Bool.{cases_lt, eqb-true, eq-eqb, ne_eqb, lt-ltb, le-leb}
+use Rattle.std.proofs.lemmas.Bool.{eqb-true, eq-eqb, ne_eqb}
 use Rattle.std.proofs.lemmas.Bool.Decides.{nat_tests}
 use Rattle.msp_class.specs.Sums.{total_below}
-use Rattle.msp_class.proofs.Sums.{total_below-mono, total_below-same, total_below-add, total_below-exchange, total_below-only, total_below-none, total_below-term, total_below-constant}
+use Rattle.msp_class.proofs.Sums.{total_below-mono, total_below-same, total_below-add, total_below-exchange, total_below-only, total_below-none, total_below-term}
 use Rattle.msp_pieces.proofs.feasible.OneMachine.{both_true}
 use Rattle.msp_slots.specs.Seating.{one_if, begin_at}
-use Rattle.msp_slots.proofs.Places.{one_passes, cases_eq}
+use Rattle.msp_class.proofs.Cases.{same_or_not}
+use Rattle.msp_pieces.proofs.lists.Positions.{count_at_most_one}
 use Rattle.msp_due.specs.Steps.{how_many}
 
 pub both_is_true : (a b : Bool) → a ≡ true → b ≡ true → (a && b) ≡ true
@@ -43,7 +44,7 @@ how_many-some n f x l passes = omega (arith, total_below-term n (λ j. one_if (f
 
 -- where fewer than two pass, any two that pass are one
 pub only_one : (n : ℕ) (f : ℕ → Bool) (a b : ℕ) → how_many n f < 2 → a < n → b < n → f a ≡ true → f b ≡ true → a ≡ b
-only_one n f a b few k l p q = elim (cases_eq a b) [
+only_one n f a b few k l p q = elim (same_or_not a b) [
   | inl same ↦ same
   | inr other ↦ absurd (omega (
     arith,
@@ -63,7 +64,7 @@ only_one n f a b few k l p q = elim (cases_eq a b) [
 -- each number below k that passes is the value of one below n that does
 row : (k v : ℕ) (t : Bool) → total_below k (λ y. one_if (t && eqb v y)) ≤ one_if t
 row k v false = omega (arith, total_below-none k (λ y. one_if (false && eqb v y)) (λ y l. refl))
-row k v true = one_passes k (λ y. eqb v y) (λ a b l m e f. sym (eqb-true v a e) ∙ eqb-true v b f)
+row k v true = count_at_most_one k (λ y. eqb v y) (λ a b l m e f. sym (eqb-true v a e) ∙ eqb-true v b f)
 
 pub covered : (n k : ℕ) (f g : ℕ → Bool) (value : ℕ → ℕ) → ((y : ℕ) → y < k → g y ≡ true → (p : ℕ) × (p < n) × (f p ≡ true) × (value p ≡ y)) → how_many k g ≤ how_many n f
 covered n k f g value h =

@@ -3,7 +3,7 @@ use Rattle.std.proofs.Common.{◌≡◌, ℕ, ◌+◌, ◌*◌, ◌-◌, ◌/◌
 use Rattle.std.specs.Prelude.{◌↔◌, IsTrue, if◌then◌else◌}
 use Rattle.std.proofs.lemmas.Bool.{cases_lt}
 use Rattle.std.proofs.lemmas.Int.{ints}
-use Rattle.std.proofs.lemmas.List.{get_or_append_left, get_or-append_right, get_or_default}
+use Rattle.std.proofs.lemmas.List.{get_or_append_left, get_or_push, get_or_default}
 use Rattle.std.proofs.Math.Nat.{mul-le-mul_left}
 use Rattle.msp_class.proofs.IntegerRing.{pos-le, ≤ℤ_trans, ≤ℤ_total}
 use Rattle.msp_instance.specs.declared.Instance.{Instance}
@@ -72,11 +72,8 @@ AreDueSlots-next i bound k slots new slot e len is h j l = elim (cases_lt j k) [
   | inr last ↦
       let at : k ≡ j = omega (arith, l, last) in
       subst (λ j. IsDueSlot i bound j (get_or new j 0)) at
-      (subst (IsDueSlot i bound k) (sym (ap (λ xs. get_or xs k 0) e ∙ get_or-append_right slots (slot ∷ []) k k 0 len (omega arith) ∙ ap (λ n. get_or (slot ∷ []) n 0) (none k))) is)
+      (subst (IsDueSlot i bound k) (sym (ap (λ xs. get_or xs k 0) e ∙ get_or_push slots slot 0 k len)) is)
 ]
-  where
-    none : (k : ℕ) → k - k ≡ 0
-    none k = omega arith
 
 pub due_small : (i : Instance) (bound : ℤ) (slots moved : List ℕ) → moved ≡ slots → length slots ≡ length i.jobs → AreDueSlots i bound (length i.jobs) slots → All (λ s. s ≤ length i.jobs) moved
 due_small i bound slots moved e whole h = subst (All (λ s. s ≤ length i.jobs)) (sym e) (λ k d l. omega (arith, get_or_default slots k d 0 l, (h k (omega (arith, l, whole))).most))

@@ -1,19 +1,15 @@
 -- What an instance of one of the two classes has.
-use Rattle.std.proofs.Common.{◌≡◌, ℕ, ◌*◌, ◌<◌, ◌≤◌, ◌⊎◌, inl, inr, Bool, true, false, length, get_or, List, All, Contains, refl, ap, subst, sym, ◌∙◌, arith}
+use Rattle.std.proofs.Common.{◌≡◌, ℕ, ◌<◌, ◌≤◌, ◌⊎◌, inl, inr, false, length, All, ap, subst, arith}
 use Rattle.std.specs.Prelude.{MatchOption, ⊤}
 use Rattle.msp_class.specs.declared.sizes.TheConstants.{MOST_JOBS, GREATEST_EQUAL_TIME}
-use Rattle.msp_class.specs.declared.class.Class.{Class}
 use Rattle.msp_class.specs.declared.class.Crit.TheVariants.{Fmax}
-use Rattle.msp_class.specs.declared.class.Times.{Times}
 use Rattle.msp_class.specs.declared.class.Times.TheVariants.{Equal}
-use Rattle.msp_class.specs.declared.environments.EnvKind.{EnvKind}
 use Rattle.msp_class.specs.declared.environments.EnvKind.TheVariants.{Unrelated}
 use Rattle.msp_class.specs.Env.{kind_of, fixed_machines}
 use Rattle.msp_instance.specs.declared.Instance.{Instance}
-use Rattle.msp_instance.specs.declared.Need.{Need}
 use Rattle.msp_instance.specs.Instance.{no_job, no_need, job_at, common_time}
-use Rattle.msp_instance.specs.Conditions.{Inner, IsAcyclic, MeetsConditions, HasRelease, HasSameTimes, HasShape, HasTimes, IsJobOf, inner_limits, least_time, greatest_time, leaving}
-use Rattle.msp_pieces.proofs.feasible.OfClass.{IsOfClass, IsOfClass-from}
+use Rattle.msp_instance.specs.Conditions.{Inner, IsAcyclic, HasRelease, HasSameTimes, HasShape, HasTimes, IsJobOf, inner_limits, least_time, greatest_time, leaving}
+use Rattle.msp_pieces.proofs.feasible.OfClass.{IsOfClass-from}
 use Rattle.msp_slots.specs.Places.{TakeCommonTime}
 use Rattle.msp_due.specs.Due.{tree_class, pair_class}
 

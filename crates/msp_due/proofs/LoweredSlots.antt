@@ -1,8 +1,8 @@
 -- Due slots lowered by those of the jobs that follow, from the last job of a forward order to the first.
-use Rattle.std.proofs.Common.{◌≡◌, ◌≢◌, ℕ, zero, suc, ◌+◌, ◌*◌, ◌/◌, ◌%◌, ◌-◌, ◌<◌, ◌≤◌, ◌⊎◌, inl, inr, min, Bool, true, false, eqb, ltb, leb, List, length, get_or, set, replicate}
+use Rattle.std.proofs.Common.{◌≡◌, ◌≢◌, ℕ, zero, suc, ◌+◌, ◌*◌, ◌/◌, ◌%◌, ◌-◌, ◌<◌, ◌≤◌, inl, inr, min, Bool, true, false, eqb, ltb, leb, List, length, get_or, set, replicate}
 use Rattle.std.proofs.Common.{Fits, w32, All, ap₂, refl, sym, ap, subst, ◌∙◌, arith}
 use Rattle.std.specs.Prelude.{◌&&◌, IsTrue, ◌↔◌, if◌then◌else◌}
-use Rattle.std.proofs.lemmas.Bool.{cases_lt, eqb-true, eq-eqb}
+use Rattle.std.proofs.lemmas.Bool.{cases_lt}
 use Rattle.std.proofs.lemmas.Bool.Decides.{nat_tests}
 use Rattle.std.proofs.lemmas.Grind.{div_ceil_times}
 use Rattle.std.proofs.lemmas.List.{get_or-set_same, get_or-set_other, get_or_default, get_or-replicate, get_or_past, length-replicate, length-set}
@@ -10,18 +10,17 @@ use Rattle.std.proofs.lemmas.List.Elements.{All-contains}
 use Rattle.std.proofs.Math.Nat.{mul-le-mul_left}
 use Rattle.msp_class.specs.declared.sizes.TheConstants.{MOST_JOBS}
 use Rattle.msp_class.specs.Sums.{total_below}
-use Rattle.msp_class.proofs.Sums.{total_below-same, total_below-add, total_below-none, total_below-bound}
-use Rattle.msp_instance.specs.declared.Arc.{Arc}
+use Rattle.msp_class.proofs.Sums.{total_below-same, total_below-add, total_below-none, total_below-bound, cond-le}
 use Rattle.msp_instance.specs.declared.Instance.{Instance}
 use Rattle.msp_instance.specs.Conditions.{IsSequence, GoesForward}
-use Rattle.msp_instance.specs.Paths.{HasStep, HasPath, one, more}
+use Rattle.msp_instance.specs.Paths.{HasPath, one, more}
 use Rattle.msp_instance.proofs.CycleLemmas.{OnceBelow-from_sequence}
 use Rattle.msp_class.proofs.Sums.{OnceBelow-distinct}
 use Rattle.msp_pieces.proofs.bounds.Certified.{place_in, place_in-is}
 use Rattle.msp_pieces.proofs.lists.ForwardOrders.{at_inside, each_at, set_elsewhere, leads_to}
 use Rattle.msp_pieces.proofs.lists.Places.{total_below-within}
 use Rattle.msp_slots.specs.Seating.{one_if}
-use Rattle.msp_slots.proofs.Places.{cases_eq}
+use Rattle.msp_class.proofs.Cases.{same_or_not}
 use Rattle.msp_due.specs.Steps.{how_many, due_after, IsLowered, AreLowered, AreLoweredFrom}
 use Rattle.msp_due.proofs.Counts.{how_many-same}
 
@@ -100,12 +99,8 @@ counted n f low (suc k) =
     parts x false = refl
     parts x true = grind (arith, nat_tests)
 
-one_most : (b : Bool) → one_if b ≤ 1
-one_most true = omega arith
-one_most false = omega arith
-
 pub how_many-most : (n : ℕ) (f : ℕ → Bool) → how_many n f ≤ n
-how_many-most n f = omega (arith, total_below-bound n 1 (λ z. one_if (f z)) (λ z _. one_most (f z)))
+how_many-most n f = omega (arith, total_below-bound n 1 (λ z. one_if (f z)) (λ z _. cond-le (f z) 1))
 
 -- those due by c are those counted in the slots up to it
 pub counted_by : (n : ℕ) (leads : ℕ → ℕ → Bool) (low : ℕ → ℕ) (x : ℕ) (counts : ℕ → ℕ)
@@ -178,7 +173,7 @@ module _ (i : Instance) (order : List ℕ) (s : IsSequence i order) (forward : A
     after-same x job c low new fails same = how_many-same n (λ z. leads x z && leb (low z) c) (λ z. leads x z && leb (new z) c) (λ z l. each z)
       where
         each : (z : ℕ) → (leads x z && leb (low z) c) ≡ (leads x z && leb (new z) c)
-        each z = elim (cases_eq z job) [
+        each z = elim (same_or_not z job) [
           | inl is ↦ ap (λ t. t && leb (low z) c) (ap (leads x) is ∙ fails) ∙ sym (ap (λ t. t && leb (new z) c) (ap (leads x) is ∙ fails))
           | inr other ↦ ap (λ y. leads x z && leb y c) (sym (same z other))
         ]
@@ -227,7 +222,7 @@ module _ (i : Instance) (order : List ℕ) (s : IsSequence i order) (forward : A
       AreLoweredFrom-next = record {
         whole = length-set low job value ∙ h.whole;
         inside = omega (arith, near);
-        most = λ x. elim (cases_eq x job) [ inl is ↦ omega (arith, ap (λ x. get_or new x 0) is, here, value_small, ap (λ x. get_or due x 0) is) | inr other ↦ omega (arith, others x other, h.most x) ];
+        most = λ x. elim (same_or_not x job) [ inl is ↦ omega (arith, ap (λ x. get_or new x 0) is, here, value_small, ap (λ x. get_or due x 0) is) | inr other ↦ omega (arith, others x other, h.most x) ];
         still = λ k l. elsewhere k (omega (arith, l, near)) (λ e. absurd (omega (arith, e, l))) ∙ h.still k (omega (arith, l));
         done = λ k from l. elim (cases_lt p k) [
           | inl past ↦ subst (λ y. IsLowered (length due + 1) m (due_after (length due) leads (λ z. get_or new z 0) (get_or order k 0)) (get_or due (get_or order k 0) 0) y)
@@ -248,6 +243,10 @@ AreLoweredFrom-end i m leads order due low place e s whole h =
     each_at i order s (λ x. IsLowered (length i.jobs + 1) m (due_after (length i.jobs) leads (λ z. get_or low z 0) x) (get_or due x 0) (get_or low x 0))
     (λ k l. subst (λ n. IsLowered (n + 1) m (due_after n leads (λ z. get_or low z 0) (get_or order k 0)) (get_or due (get_or order k 0) 0) (get_or low (get_or order k 0) 0))
     whole (h.done k (omega (arith, e)) l))
+
+pub place_inside : (i : Instance) (order due low : List ℕ) (place : ℕ) → IsSequence i order → 0 < place → place ≤ length order → length low ≡ length due → length due ≡ length i.jobs
+    → get_or order (place - 1) 0 < length low
+place_inside i order due low place s some inside whole all = omega (arith, at_inside i order s (place - 1) (omega (arith, some, inside)), whole, all)
 
 -- no lowered due slot is later than the number of jobs
 pub low_small : (n : ℕ) (due low : List ℕ) → All (λ s. s ≤ n) due → length low ≡ length due → ((x : ℕ) → get_or low x 0 ≤ get_or due x 0) → All (λ s. s ≤ n) low

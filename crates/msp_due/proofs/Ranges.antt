@@ -1,5 +1,5 @@
 -- The bounds between which the least one lies.
-use Rattle.std.proofs.Common.{◌≡◌, ◌≢◌, ℕ, ◌+◌, ◌<◌, ◌≤◌, inl, inr, eqb, ℤ, List, length, get_or, pos, ◌≤ℤ◌, FitsSigned, to_z, of_z, All, AllPairs, Contains, refl, sym, ap, ap₂}
+use Rattle.std.proofs.Common.{◌≡◌, ◌≢◌, ℕ, ◌+◌, ◌<◌, ◌≤◌, inl, inr, eqb, ℤ, List, length, get_or, pos, ◌≤ℤ◌, FitsSigned, to_z, of_z, All, AllPairs, sym, ap, ap₂}
 use Rattle.std.proofs.Common.{subst, subst₂, ◌∙◌, arith}
 use Rattle.std.specs.Int.{int_max, w128}
 use Rattle.std.specs.Prelude.{slice_get, Some}
@@ -17,7 +17,7 @@ use Rattle.msp_pieces.specs.Within.{greatest_cost}
 use Rattle.msp_pieces.proofs.bounds.Certified.{place_in, place_in-is}
 use Rattle.msp_route.specs.Halving.{IsRange}
 use Rattle.msp_slots.specs.Places.{ArePlaces}
-use Rattle.msp_slots.proofs.Places.{one_passes}
+use Rattle.msp_pieces.proofs.lists.Positions.{count_at_most_one}
 use Rattle.msp_due.specs.Steps.{cost_in, IsGreatestCost, CanPlace}
 use Rattle.msp_due.proofs.DueSlots.{cost_in-mono}
 use Rattle.msp_due.proofs.Facts.{HasOneTime}
@@ -76,7 +76,7 @@ module _ (i : Instance) (t : HasOneTime i) (order : List ℕ) (s : IsSequence i 
 
   in_a_row : ArePlaces i (place_in order)
   in_a_row = record {
-    few = λ x. omega (arith, one_passes n (λ j. eqb (place_in order j) x) (λ a b k l e f. alone a b k l (eqb-true (place_in order a) x e ∙ sym (eqb-true (place_in order b) x f))), t.machine);
+    few = λ x. omega (arith, count_at_most_one n (λ j. eqb (place_in order j) x) (λ a b k l e f. alone a b k l (eqb-true (place_in order a) x e ∙ sym (eqb-true (place_in order b) x f))), t.machine);
     forward = λ k d l. rise (get_or i.arcs k d) (forward k d l);
     early = λ j l. (at_place j l).0;
   }

@@ -4,11 +4,11 @@ use Rattle.std.proofs.Common.{count_by, sum_by, All, Contains, IsPermutation, re
 use Rattle.std.proofs.lemmas.Bool.{cases_lt, eqb-true, eq-eqb, false≢true}
 use Rattle.std.proofs.lemmas.Bool.Decides.{nat_tests}
 use Rattle.std.proofs.lemmas.List.Elements.{All-head, All-tail, All-cons, All-filter, All-contains, filter_passes, Contains-get_or, Contains-append_left, Contains-append_right}
-use Rattle.std.proofs.lemmas.List.Sums.{length-filter, sum_by-cons, sum_by-append}
+use Rattle.std.proofs.lemmas.List.Sums.{length-filter, count_by-le-length, sum_by-append}
 use Rattle.std.proofs.lemmas.List.Filters.{length-filter_both, sum_by-filter_both}
 use Rattle.std.proofs.lemmas.List.Sorted.{All-permutation, sum_by-IsPermutation, Contains-permutation, IsPermutation-sym}
 use native.Mathlib.Nat.{lt_of_mul-lt-mul_left}
-use Rattle.msp_class.proofs.Sums.{Contains-filter, Contains-from_filter, sum_by-contains}
+use Rattle.msp_class.proofs.Sums.{Contains-tail, Contains-filter, Contains-from_filter, sum_by-contains, sum_by-agree, sum_by-add, sum_by-none, sum_by-same, sum_by-constant}
 use Rattle.msp_levels.specs.Steps.{level_from, Fits}
 
 -- ---- lists without repeats
@@ -17,10 +17,6 @@ HasOnce xs = (k : ℕ) → count_by (λ x. eqb x k) xs ≤ 1
 
 pub HasOnce-filter : (p : ℕ → Bool) (xs : List ℕ) → HasOnce xs → HasOnce (filter p xs)
 HasOnce-filter p xs h k = omega (arith, h k, sum_by-filter_both p (λ x. not (p x)) (λ x. refl) (λ x. cond (eqb x k) 1 0) xs)
-
-Contains-rest : (x y : ℕ) (xs : List ℕ) → Contains (x ∷ xs) y → x ≢ y → Contains xs y
-Contains-rest x y xs (zero, l, e) ne = absurd (ne e)
-Contains-rest x y xs (suc k, l, e) ne = (k, omega (arith, l), e)
 
 -- a list without repeats is no longer than one whose members give all of its members
 pub cover : (f : ℕ → ℕ) (xs ys : List ℕ) → HasOnce ys → All (λ y. (x : ℕ) × Contains xs x × (f x ≡ y)) ys → length ys ≤ length xs
@@ -40,7 +36,7 @@ cover f (x ∷ xs) ys once h =
     others k d l =
         let (z, c, e) = All-filter other (λ y. (z : ℕ) × Contains (x ∷ xs) z × (f z ≡ y)) ys h k d l in
         let passes : other (get_or (filter other ys) k d) ≡ true = filter_passes other ys k d l in
-        (z, Contains-rest x z xs c (λ same. absurd (by (get_or (filter other ys) k d) passes (sym e ∙ ap f (sym same)))), e)
+        (z, Contains-tail x xs z c (λ same. absurd (by (get_or (filter other ys) k d) passes (sym e ∙ ap f (sym same)))), e)
       where
         by : (y : ℕ) → not (eqb y (f x)) ≡ true → y ≡ f x → ⊥
         by y p e = false≢true (sym (ap not (eq-eqb y (f x) e)) ∙ p)
@@ -50,43 +46,24 @@ abbrev pub level_at : (ℕ → ℕ) → ℕ → List ℕ → ℕ
 level_at level t xs = sum_by (λ j. cond (eqb (level j) t) 1 0) xs
 
 from_next : (level : ℕ → ℕ) (t : ℕ) (xs : List ℕ) → level_from level t xs ≡ level_at level t xs + level_from level (t + 1) xs
-from_next level t [] = refl
-from_next level t (x ∷ xs) = omega (
-  arith,
-  sum_by-cons (λ j. cond (leb t (level j)) 1 0)
-      x xs,
-  sum_by-cons (λ j. cond (eqb (level j) t) 1 0) x xs,
-  sum_by-cons (λ j. cond (leb (t + 1) (level j)) 1 0) x xs,
-  from_next level t xs,
-  one (level x),
-)
+from_next level t xs =
+    sum_by-agree (λ j. cond (leb t (level j)) 1 0) (λ j. cond (eqb (level j) t) 1 0 + cond (leb (t + 1) (level j)) 1 0) xs (λ j. one (level j))
+    ∙ sum_by-add (λ j. cond (eqb (level j) t) 1 0) (λ j. cond (leb (t + 1) (level j)) 1 0) xs
   where
     one : (l : ℕ) → cond (leb t l) 1 0 ≡ cond (eqb l t) 1 0 + cond (leb (t + 1) l) 1 0
     one l = grind (arith, nat_tests)
 
 none_from : (level : ℕ → ℕ) (t : ℕ) (xs : List ℕ) → All (λ j. level j < t) xs → level_from level t xs ≡ 0
-none_from level t [] h = refl
-none_from level t (x ∷ xs) h = omega
-    (arith, sum_by-cons (λ j. cond (leb t (level j)) 1 0) x xs, none_from level t xs (All-tail (λ j. level j < t) x xs h), one (level x) (All-head (λ j. level j < t) x xs h))
+none_from level t xs h = sum_by-none (λ j. cond (leb t (level j)) 1 0) xs (λ k d l. one (level (get_or xs k d)) (h k d l))
   where
-    one : (l : ℕ) → l < t → cond (leb t l) 1 0 + 0 ≡ 0
+    one : (l : ℕ) → l < t → cond {A = ℕ} (leb t l) 1 0 ≡ 0
     one l h = grind (arith, nat_tests)
 
 all_from : (level : ℕ → ℕ) (t : ℕ) (xs : List ℕ) → All (λ j. t ≤ level j) xs → level_from level t xs ≡ length xs
-all_from level t [] h = refl
-all_from level t (x ∷ xs) h = omega
-    (arith, sum_by-cons (λ j. cond (leb t (level j)) 1 0) x xs, all_from level t xs (All-tail (λ j. t ≤ level j) x xs h), one (level x) (All-head (λ j. t ≤ level j) x xs h))
+all_from level t xs h = omega (arith, sum_by-same (λ j. cond (leb t (level j)) 1 0) (λ _. 1) xs (λ k d l. one (level (get_or xs k d)) (h k d l)), sum_by-constant 1 xs)
   where
-    one : (l : ℕ) → t ≤ l → cond (leb t l) 1 0 + 0 ≡ 1
+    one : (l : ℕ) → t ≤ l → cond {A = ℕ} (leb t l) 1 0 ≡ 1
     one l h = grind (arith, nat_tests)
-
-from_most : (level : ℕ → ℕ) (t : ℕ) (xs : List ℕ) → level_from level t xs ≤ length xs
-from_most level t [] = omega arith
-from_most level t (x ∷ xs) = omega (arith, sum_by-cons (λ j. cond (leb t (level j)) 1 0) x xs, from_most level t xs, one (leb t (level x)))
-  where
-    one : (b : Bool) → cond b 1 0 ≤ 1
-    one true = omega arith
-    one false = omega arith
 
 some_from : (level : ℕ → ℕ) (xs : List ℕ) (j : ℕ) → Contains xs j → 1 ≤ level_from level (level j) xs
 some_from level xs j c = omega (arith, sum_by-contains (λ k. cond (leb (level j) (level k)) 1 0) xs j c, one (level j))
@@ -173,7 +150,7 @@ module _ (m : ℕ) (level after : ℕ → ℕ) (blocked : ℕ → Bool) (left ta
         let (a, b) = narrow d (t + 1) (omega (arith, e)) (λ k x l w. h k x l (omega (arith, w))) in
         let here : level_at level t rest ≤ level_from level (t + 1) taken = omega (arith, width t h, split (λ j. cond (eqb (level j) (t + 1)) 1 0), a, from_next level (t + 1) taken) in
         let room : m * suc d ≡ m + m * d = omega arith in
-        (here, omega (arith, here, from_next level t rest, b, from_most level (t + 1) taken, few, room))
+        (here, omega (arith, here, from_next level t rest, b, count_by-le-length (λ j. leb (t + 1) (level j)) taken, few, room))
 
     pub Fits-next : Fits m level left (g + 1) → Fits m level rest g
     Fits-next h k d l = elim (all_or (λ r. t ≤ level r → blocked r ≡ true) Full rest either) [

@@ -1,7 +1,6 @@
 -- What an instance of the rule's class has.
-use Rattle.std.proofs.Common.{◌≡◌, ℕ, ◌<◌, length, arith}
+use Rattle.std.proofs.Common.{◌≡◌, ℕ}
 use Rattle.msp_instance.specs.declared.Instance.{Instance}
-use Rattle.msp_instance.specs.Instance.{no_need, no_job, need_at}
 use Rattle.msp_instance.specs.Conditions.{Inner}
 use Rattle.msp_pieces.proofs.feasible.OfClass.{IsOfClass, IsOfClass-from}
 use Rattle.msp_pieces.specs.Levels.{AreLevels}
@@ -13,9 +12,6 @@ IsUnitForest i = IsOfClass i levels_class
 
 pub IsUnitForest-from : (i : Instance) → i.class ≡ levels_class → Inner i → IsUnitForest i
 IsUnitForest-from i e h = IsOfClass-from i levels_class e h
-
-pub ones : (i : Instance) → IsUnitForest i → (j : ℕ) → j < length i.jobs → (need_at i j 0).time ≡ 1
-ones i t j b = let job = t.jobs j no_job b in job.times 0 no_need (omega (arith, job.needs.shape.0))
 
 pub IsForest-from : (i : Instance) (level : ℕ → ℕ) → IsUnitForest i → AreLevels i level → IsForest i level
 IsForest-from i level t levels = record { few = t.degree; ends = t.ends; levels = levels; some = t.machine }

@@ -1,36 +1,34 @@
 -- The schedule of the rule is feasible and best, and costs the greatest bound of a level.
-use Rattle.std.proofs.Common.{◌≡◌, ℕ, ◌+◌, ◌-◌, ◌*◌, ◌/◌, ◌<◌, ◌≤◌, inl, inr, true, List, length, get_or, pos, ◌*ℤ◌, ◌≤ℤ◌, All, AllPairs, sym, ap, subst, subst₂, ◌∙◌, arith}
+use Rattle.std.proofs.Common.{◌≡◌, ℕ, ◌+◌, ◌-◌, ◌*◌, ◌/◌, ◌<◌, ◌≤◌, inl, inr, List, length, get_or, pos, ◌*ℤ◌, ◌≤ℤ◌, All, refl, sym, subst, arith}
 use Rattle.std.specs.List.{range_with_len}
 use Rattle.std.proofs.lemmas.Bool.{cases_lt}
-use Rattle.std.proofs.lemmas.Int.{ints}
 use Rattle.std.proofs.lemmas.Nat.{le-div}
 use native.Mathlib.Nat.{mul-le-mul_left}
-use Rattle.msp_class.specs.Crit.{is_greatest}
-use Rattle.msp_class.proofs.IntegerRing.{pos-le, ≤ℤ_trans, ≤ℤ_antisym, one-*ℤ, *ℤ-one, *ℤ_comm}
+use Rattle.msp_class.specs.Env.{kind_of}
+use Rattle.msp_class.proofs.IntegerRing.{pos-le}
 use Rattle.msp_class.proofs.Sums.{OnceBelow-range}
 use Rattle.msp_instance.specs.declared.Instance.{Instance}
-use Rattle.msp_instance.specs.Instance.{no_job, job_at}
+use Rattle.msp_instance.specs.Instance.{no_job}
 use Rattle.msp_instance.specs.Conditions.{Inner}
 use Rattle.msp_pieces.specs.declared.Piece.{Piece}
 use Rattle.msp_pieces.specs.declared.Schedule.{Schedule}
 use Rattle.msp_pieces.specs.declared.Frac.{Frac}
 use Rattle.msp_pieces.specs.Fraction.{IsOver}
-use Rattle.msp_pieces.specs.Feasible.{Feasible}
-use Rattle.msp_pieces.specs.Cost.{cost_of, end_of, job_cost, Best}
+use Rattle.msp_pieces.specs.Cost.{cost_of, end_of}
 use Rattle.msp_pieces.specs.Settled.{IsSettled}
-use Rattle.msp_pieces.specs.Within.{Within}
 use Rattle.msp_pieces.proofs.lists.Intervals.{greatest_below, greatest_below-bound, greatest_below-reached}
-use Rattle.msp_pieces.proofs.costs.Charges.{charge_of, cost_of-bound, cost_of-least}
-use Rattle.msp_route.specs.Bounds.{IsAnswer, answer_unit}
+use Rattle.msp_route.specs.Bounds.{IsBestAnswer}
 use Rattle.msp_route.proofs.OneEach.{one_each_is_answer}
-use Rattle.msp_pieces.specs.Levels.{AreLevels, jobs_from, level_bound}
-use Rattle.msp_slots.specs.ListSchedule.{IsListSchedule}
-use Rattle.msp_slots.proofs.UnitPieces.{HasUnitJobs, AreUnitPieces, one_each, uncut, unit_pieces_are_feasible, unit_pieces_are_within, unit_piece_ends}
-use Rattle.msp_slots.proofs.ListSchedules.{unit_pieces, list_schedule_is_settled}
+use Rattle.msp_route.proofs.Owed.{unit_one}
+use Rattle.msp_pieces.specs.Levels.{jobs_from, level_bound}
+use Rattle.msp_slots.proofs.LeastCosts.{IsBestAt, IsBestAt-ends}
+use Rattle.msp_slots.proofs.UnitPieces.{HasUnitJobs, HasUnitJobs-from, IsInUnits}
+use Rattle.msp_slots.proofs.ListSchedules.{list_in_units, list_schedule_is_settled}
 use Rattle.msp_levels.specs.Levels.{levels_class, IsGreatestBound, IsLevelCost}
-use Rattle.msp_levels.specs.Steps.{level_from, Fits}
+use Rattle.msp_levels.specs.Steps.{level_from, Fits, AreByLevel}
+use Rattle.msp_levels.proofs.ByLevel.{no_greater}
 use Rattle.msp_levels.proofs.Progress.{ends_soon}
-use Rattle.msp_levels.proofs.Facts.{IsUnitForest, IsUnitForest-from, IsForest-from, ones}
+use Rattle.msp_levels.proofs.Facts.{IsUnitForest, IsUnitForest-from, IsForest-from}
 use Rattle.msp_pieces.proofs.bounds.LevelBound.{StepsDown-levels, law_of_levels}
 
 -- the quotient rounded up is enough
@@ -40,22 +38,18 @@ enough n m some = elim (cases_lt (m * ((n + (m - 1)) / m)) n) [
   | inr more ↦ more
 ]
 
-abbrev schedule_of : List Piece → Schedule
-schedule_of pieces = record { unit = pos 1; pieces = pieces }
-
-module _ (i : Instance) (t : IsUnitForest i) (level : ℕ → ℕ) (levels : AreLevels i level)
-    (order : List ℕ) (falling : AllPairs (λ a b. level b ≤ level a) order) (pieces : List Piece) (h : IsListSchedule i order pieces) where
+module _ (i : Instance) (t : IsUnitForest i) (pieces : List Piece) (r : AreByLevel i pieces) where
   abbrev n : ℕ
   n = length i.jobs
 
+  abbrev level : ℕ → ℕ
+  level = r.level
+
   unit_jobs : HasUnitJobs i
-  unit_jobs = record { kind = t.kind; cut = t.cut; few = t.few; ones = ones i t }
+  unit_jobs = HasUnitJobs-from i _ _ _ _ refl t
 
-  units : AreUnitPieces i h.begin h.machine pieces
-  units = unit_pieces i order pieces h t.few (λ j l. (t.jobs j no_job l).release)
-
-  feasible : Feasible i (schedule_of pieces)
-  feasible = unit_pieces_are_feasible i unit_jobs h.begin h.machine pieces units
+  units : IsInUnits i r.runs.begin pieces
+  units = list_in_units i r.order pieces r.runs unit_jobs (λ j l. (t.jobs j no_job l).release)
 
   -- ---- the cost
   abbrev levels_bound : ℕ
@@ -73,61 +67,27 @@ module _ (i : Instance) (t : IsUnitForest i) (level : ℕ → ℕ) (levels : Are
       by : (x : ℕ) → level_bound i level x ≤ levels_bound → level_from level x (range_with_len 0 n) + i.machines * x ≤ i.machines * levels_bound
       by x h = omega (arith, enough (jobs_from i level x) i.machines t.machine, mul-le-mul_left i.machines h)
 
-  soon_enough : (j : ℕ) → j < n → h.begin j + 1 ≤ levels_bound
-  soon_enough j l = ends_soon i level (IsForest-from i level t levels) order falling h.begin h.machine h.runs levels_bound fits j l
+  soon_enough : (j : ℕ) → j < n → r.runs.begin j + 1 ≤ levels_bound
+  soon_enough = ends_soon i level (IsForest-from i level t r.levels) r.order (no_greater level r.order r.by_level.falls) r.runs.begin r.runs.machine r.runs.runs levels_bound fits
 
-  charge : (s : Schedule) (k : ℕ) → charge_of i s k ≡ end_of s k
-  charge s k = ap (λ c. job_cost c s.unit (job_at i k) (end_of s k)) t.crit
-
-  greatest_crit : is_greatest i.class.crit ≡ true
-  greatest_crit = ap is_greatest t.crit
-
-  upper : cost_of i (schedule_of pieces) ≤ℤ pos levels_bound
-  upper = cost_of-least i (schedule_of pieces) (pos levels_bound) greatest_crit t.some
-      (λ k b. subst (λ x. x ≤ℤ pos levels_bound) (sym (charge (schedule_of pieces) k ∙ unit_piece_ends i unit_jobs h.begin h.machine pieces units k b)) (pos-le (soon_enough k b)))
-
-  lower : (s : Schedule) → Feasible i s → (s.unit *ℤ pos levels_bound) ≤ℤ cost_of i s
-  lower s f =
+  best_at : IsBestAt i pieces (pos levels_bound)
+  best_at = IsBestAt-ends i pieces levels_bound t.crit t.some units.runs.feasible (λ j l. subst (λ x. x ≤ℤ pos levels_bound) (sym (units.runs.ends j l)) (pos-le (soon_enough j l))) (λ s f.
       let (j, b, e) = is_greatest_bound.reached in
-      let (k, inside, bound) = law_of_levels i s level (level j) j t.kind t.cut (ones i t) (StepsDown-levels i level t.ends levels) f b (omega arith) in
-      ≤ℤ_trans (subst (λ v. (s.unit *ℤ pos v) ≤ℤ end_of s k) e bound) (subst (λ x. x ≤ℤ cost_of i s) (charge s k) (cost_of-bound i s greatest_crit k inside))
-
-  cost_is : cost_of i (schedule_of pieces) ≡ pos levels_bound
-  cost_is = ≤ℤ_antisym upper (subst (λ x. x ≤ℤ cost_of i (schedule_of pieces)) (one-*ℤ (pos levels_bound)) (lower (schedule_of pieces) feasible))
-
-  best : Best i (schedule_of pieces)
-  best = record { feasible = feasible; least = least }
-    where
-      least : (s : Schedule) → Feasible i s → (cost_of i (schedule_of pieces) *ℤ s.unit) ≤ℤ (cost_of i s *ℤ pos 1)
-      least s f = subst₂ (λ x y. x ≤ℤ y) (*ℤ_comm s.unit (pos levels_bound) ∙ ap (λ x. x *ℤ s.unit) (sym cost_is)) (sym (*ℤ-one (cost_of i s))) (lower s f)
-
-  -- ---- bounds, and the form of a report
-  within : Within i (schedule_of pieces)
-  within = unit_pieces_are_within i unit_jobs h.begin h.machine pieces units
-
-  answer : IsAnswer i (schedule_of pieces)
-  answer = one_each_is_answer i (uncut i unit_jobs h.begin h.machine pieces units)
-      1 pieces (one_each i unit_jobs h.begin h.machine pieces units) (subst (λ k. pos 1 ≤ℤ answer_unit k) (sym t.kind) (omega (arith, ints)))
-
-  level_cost : (cost : Frac) → IsOver cost (cost_of i (schedule_of pieces)) (pos 1) → IsLevelCost i cost
-  level_cost cost over = (level, levels_bound, levels, is_greatest_bound, subst (λ x. IsOver cost x (pos 1)) cost_is over)
+      let (k, inside, bound) = law_of_levels i s level (level j) j t.kind t.cut unit_jobs.ones (StepsDown-levels i level t.ends r.levels) f b (omega arith) in
+      (k, inside, subst (λ v. (s.unit *ℤ pos v) ≤ℤ end_of s k) e bound))
 
 -- what a schedule of the rule has
 pub record IsHuAnswer (i : Instance) (s : Schedule) : Type 0 where
-  pub best : Best i s
-  pub within : Within i s
-  pub answer : IsAnswer i s
+  pub best : IsBestAnswer i s
   pub settled : IsSettled s
   pub cost : (cost : Frac) → IsOver cost (cost_of i s) s.unit → IsLevelCost i cost
 
-pub IsHuAnswer-from : (i : Instance) → i.class ≡ levels_class → Inner i → (level : ℕ → ℕ) → AreLevels i level → (order : List ℕ)
-    → AllPairs (λ a b. level b ≤ level a) order → (pieces : List Piece) → IsListSchedule i order pieces → IsHuAnswer i (record { unit = pos 1; pieces = pieces })
-IsHuAnswer-from i class inner level levels order falling pieces h =
+pub IsHuAnswer-from : (i : Instance) → i.class ≡ levels_class → Inner i → (pieces : List Piece) → AreByLevel i pieces → IsHuAnswer i (record { unit = pos 1; pieces = pieces })
+IsHuAnswer-from i class inner pieces r =
     let t = IsUnitForest-from i class inner in
+    let units = units i t pieces r in
     record {
-      best = best i t level levels order falling pieces h;
-      within = within i t level levels order falling pieces h;
-      answer = answer i t level levels order falling pieces h;
-      settled = list_schedule_is_settled i order pieces h;
-      cost = level_cost i t level levels order falling pieces h;
+      best = record { best = (best_at i t pieces r).best; answer = one_each_is_answer i units.runs.uncut 1 pieces units.runs.one_each (unit_one (kind_of i.class.env)) };
+      settled = list_schedule_is_settled i r.order pieces r.runs;
+      cost = λ cost over. (r.level, levels_bound i t pieces r, r.levels, is_greatest_bound i t pieces r, subst (λ x. IsOver cost x (pos 1)) (best_at i t pieces r).cost over);
     }

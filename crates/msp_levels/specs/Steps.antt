@@ -1,6 +1,9 @@
 -- What the steps of the rule keep. No public contract cites this file.
-use Rattle.std.specs.Prelude.{◌≡◌, ℕ, ◌+◌, ◌*◌, ◌<◌, ◌≤◌, ◌⊎◌, cond, leb, sum_by, List, All, Contains}
+use Rattle.std.specs.Prelude.{◌≡◌, ℕ, ◌+◌, ◌*◌, ◌<◌, ◌≤◌, ◌⊎◌, cond, leb, sum_by, pos, List, All, Contains}
 use Rattle.msp_instance.specs.declared.Arc.{Arc}
+use Rattle.msp_instance.specs.declared.Instance.{Instance}
+use Rattle.msp_pieces.specs.declared.Piece.{Piece}
+use Rattle.msp_levels.specs.Levels.{IsLevelSchedule}
 
 -- The number is one more than the greatest level of a job to which one of the arcs leads from this one, and 0 where none does.
 pub record IsOver (arcs : List Arc) (level : ℕ → ℕ) (job result : ℕ) : Type 0 where
@@ -14,3 +17,7 @@ level_from level t xs = sum_by (λ j. cond (leb t (level j)) 1 0) xs
 
 abbrev pub Fits : ℕ → (ℕ → ℕ) → List ℕ → ℕ → Type 0
 Fits machines level xs slots = All (λ j. level_from level (level j) xs + machines * level j ≤ machines * slots) xs
+
+-- The pieces are those of the rule, over the unit 1.
+abbrev pub AreByLevel : Instance → List Piece → Type 0
+AreByLevel i pieces = IsLevelSchedule i (record { unit = pos 1; pieces = pieces })

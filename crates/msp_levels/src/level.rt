@@ -4,11 +4,13 @@ ghost use Rattle.std.specs.List.{range_with_len};
 ghost use Rattle.msp_class.specs.declared.sizes.TheConstants.{MOST_JOBS};
 ghost use Rattle.msp_instance.specs.Conditions.{Inner, IsSequence, GoesForward};
 ghost use Rattle.msp_pieces.specs.Levels.{AreLevels};
-ghost use Rattle.msp_levels.specs.Steps.{IsOver};
+ghost use Rattle.msp_levels.specs.Steps.{IsOver, AreByLevel};
 
-use msp_class::NoMemory;
+use msp_class::{List, NoMemory};
 use msp_instance::{Arc, Instance, MOST_JOBS, OrderFault, forward};
+use msp_pieces::Piece;
 use msp_route::{Keyed, job_numbers, sort_by_falling_key};
+use msp_slots::pieces_in_order;
 use std::alloc::Global;
 
 fn no_levels() -> [u32; MOST_JOBS]
@@ -98,4 +100,14 @@ pub fn jobs_by_level(
     let mut all = ranked_jobs(alloc, count, levels)?;
     sort_by_falling_key(&mut all);
     job_numbers(alloc, all.as_slice())
+}
+
+/// The pieces of the rule: the jobs run by falling level.
+pub fn pieces_by_level(alloc: Global, inst: &Instance) -> Result<List<Piece>, NoMemory>
+    requires inner { Inner inst.now }
+    ensures { IfOk result (AreByLevel inst.now) }
+{
+    let levels = levels_of(alloc, inst)?;
+    let order = jobs_by_level(alloc, inst.jobs.len(), &levels)?;
+    pieces_in_order(alloc, inst, order)
 }

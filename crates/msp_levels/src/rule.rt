@@ -7,12 +7,11 @@ ghost use Rattle.msp_pieces.specs.Settled.{IsSettled};
 ghost use Rattle.msp_route.specs.Bounds.{IsAnswer};
 ghost use Rattle.msp_levels.specs.Levels.{levels_class, IsLevelCost, IsLevelSchedule};
 
-use crate::level::{jobs_by_level, levels_of};
+use crate::level::pieces_by_level;
 use msp_class::{Class, Crit, Env, NoMemory, Order, Times};
 use msp_instance::Instance;
 use msp_pieces::{Schedule, Solution};
-use msp_route::Solver;
-use msp_slots::pieces_in_order;
+use msp_route::{Solver, best_solution};
 use std::alloc::Global;
 
 /// The class that the rule solves: `P|intree,p=1|Cmax`.
@@ -38,12 +37,8 @@ fn schedule_by_levels(alloc: Global, inst: &Instance) -> Result<Solution, NoMemo
     ensures settled { IfOk result (λ s. IsSettled s.schedule) }
     ensures lowest { IfOk result (λ s. IsLowest s.cost) }
 {
-    let levels = levels_of(alloc, inst)?;
-    let order = jobs_by_level(alloc, inst.jobs.len(), &levels)?;
-    let pieces = pieces_in_order(alloc, inst, order)?;
-    let schedule = Schedule { unit: 1, pieces };
-    let cost = msp_pieces::cost(inst, &schedule);
-    Ok(Solution { schedule, cost })
+    let pieces = pieces_by_level(alloc, inst)?;
+    Ok(best_solution(inst, Schedule { unit: 1, pieces }))
 }
 
 /// Finds a schedule of least makespan: at each moment, of the jobs that no job left must precede, those of highest level, on machines in

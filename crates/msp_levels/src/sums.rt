@@ -6,12 +6,11 @@ ghost use Rattle.msp_route.specs.Bounds.{IsAnswer};
 ghost use Rattle.msp_levels.specs.Levels.{IsLevelSchedule};
 ghost use Rattle.msp_levels.specs.Sums.{levels_sum_class, IsLeastSum, EndsMost};
 
-use crate::level::{jobs_by_level, levels_of};
+use crate::level::pieces_by_level;
 use msp_class::{Class, Crit, Env, NoMemory, Order, Times};
 use msp_instance::Instance;
 use msp_pieces::{Schedule, Solution};
-use msp_route::Solver;
-use msp_slots::pieces_in_order;
+use msp_route::{Solver, best_solution};
 use std::alloc::Global;
 
 /// The class that the rule solves: `P|outtree,p=1|sumC`.
@@ -49,11 +48,7 @@ impl Solver for LevelsSum {
         ensures most { IfOk result (λ s. EndsMost inst.now s.schedule) }
         ensures pieces { IfOk result (λ s. IsLevelSchedule inst.now s.schedule) }
     {
-        let levels = levels_of(alloc, inst)?;
-        let order = jobs_by_level(alloc, inst.jobs.len(), &levels)?;
-        let pieces = pieces_in_order(alloc, inst, order)?;
-        let schedule = Schedule { unit: 1, pieces };
-        let cost = msp_pieces::cost(inst, &schedule);
-        Ok(Solution { schedule, cost })
+        let pieces = pieces_by_level(alloc, inst)?;
+        Ok(best_solution(inst, Schedule { unit: 1, pieces }))
     }
 }

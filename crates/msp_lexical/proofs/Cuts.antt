@@ -3,7 +3,7 @@ use Rattle.std.proofs.Common.{◌≡◌, ◌≢◌, ℕ, zero, suc, ◌+◌, ◌
 use Rattle.std.proofs.Common.{sym, ap, ap₂, subst, subst₂, ◌∙◌, arith, append_assoc}
 use Rattle.std.specs.List.{AllAdjacentBelow, flat_map}
 use Rattle.std.proofs.lemmas.Bool.{cases_lt}
-use Rattle.std.proofs.lemmas.List.{length-append, get_or_append_left, get_or-append_right}
+use Rattle.std.proofs.lemmas.List.{length-append, get_or_append_left, get_or_push}
 use Rattle.std.proofs.lemmas.List.Elements.{All-nil, All-cons, All-head, All-tail, All-append, All-push, All-weaker}
 use Rattle.std.proofs.lemmas.List.Kept.{AllPairs-cons}
 use Rattle.std.proofs.lemmas.List.Sums.{sum_by_push}
@@ -40,9 +40,7 @@ adjacent-push R xs y h last k d l = elim (cases_lt (k + 1) (length xs)) [
   | inr more ↦
       let n = length-append xs (y ∷ []) in
       let at : k + 1 ≡ length xs = omega (arith, more, l, n) in
-      let zero_is : k + 1 - length xs ≡ 0 = omega (arith, at) in
-      subst₂ R (sym (get_or_append_left xs (y ∷ []) d k (omega (arith, at))))
-      (sym (get_or-append_right xs (y ∷ []) (length xs) (k + 1) d refl (omega (arith, at)) ∙ ap (λ p. get_or (y ∷ []) p d) zero_is)) (last k d at)
+      subst₂ R (sym (get_or_append_left xs (y ∷ []) d k (omega (arith, at)))) (sym (get_or_push xs y d (k + 1) (sym at))) (last k d at)
 ]
 
 module _ (i : Instance) (two : i.machines ≡ 2) (slots : ℕ) (slot label first second : ℕ → ℕ) (leads : ℕ → ℕ → Bool) (s : AreSlots (length i.jobs) slots slot label first second leads)
@@ -60,43 +58,39 @@ module _ (i : Instance) (two : i.machines ≡ 2) (slots : ℕ) (slot label first
   abbrev IsMember : ℕ → ℕ → ℕ → Type 0
   IsMember x least j = (j < n) × (x ≤ slot j) × (top (slot j) ≡ least) × (least ≤ label j)
 
-  members : (d x : ℕ) → x + d < slots → Ends (x + d) → ((y : ℕ) → x ≤ y → y < x + d → Goes y) → All (IsMember x (top x)) (segment first second x d) × (top x ≡ top (x + d))
+  record AreMembers (x d : ℕ) : Type 0 where
+    all : All (IsMember x (top x)) (segment first second x d)
+    last : top x ≡ top (x + d)
+    apart : AllPairs (λ j k. j ≢ k) (segment first second x d)
+
+  members : (d x : ℕ) → x + d < slots → Ends (x + d) → ((y : ℕ) → x ≤ y → y < x + d → Goes y) → AreMembers x d
   members zero x l e inner =
       let same : x + 0 ≡ x = omega arith in
-      let here : x < slots = omega (arith, l) in
-      let f = s.first_in x here in
-      (All-cons (IsMember x (top x)) (first x) [] (f.0, omega (arith, f.1), ap top f.1, omega (arith, (subst Ends same e).0)) (All-nil (IsMember x (top x))), ap top (sym same))
+      let f = s.first_in x (omega (arith, l)) in
+      record {
+        all = All-cons (IsMember x (top x)) (first x) [] (f.0, omega (arith, f.1), ap top f.1, omega (arith, (subst Ends same e).0)) (All-nil (IsMember x (top x)));
+        last = ap top (sym same);
+        apart = λ p q d m k. absurd (omega (arith, m, k));
+      }
   members (suc d) x l e inner =
       let same : x + suc d ≡ (x + 1) + d = omega arith in
       let here : x < slots = omega (arith, l) in
       let f = s.first_in x here in
       let g = inner x (omega arith) (omega arith) in
       let b = s.second_in x here g.2 in
-      let rest = members d (x + 1) (omega (arith, l)) (subst Ends same e) (λ y from to. inner y (omega (arith, from)) (omega (arith, to))) in (
-        All-cons (IsMember x (top x)) (first x) (second x ∷ segment first second (x + 1) d) (f.0, omega (arith, f.1), ap top f.1, omega (arith, g.0, g.3, b.1))
-            (All-cons (IsMember x (top x)) (second x) (segment first second (x + 1) d) (g.2, omega (arith, b.0), ap top b.0, omega (arith, g.0, g.3))
-            (All-weaker (IsMember (x + 1) (top (x + 1))) (IsMember x (top x)) (λ j h. (h.0, omega (arith, h.1), h.2 ∙ sym g.0, omega (arith, h.3, g.0))) (segment first second (x + 1) d) rest.0)),
-        g.0 ∙ rest.1 ∙ ap top (sym same),
-      )
-
-  apart_in : (d x : ℕ) → x + d < slots → Ends (x + d) → ((y : ℕ) → x ≤ y → y < x + d → Goes y) → AllPairs (λ j k. j ≢ k) (segment first second x d)
-  apart_in zero x l e inner = λ p q d m k. absurd (omega (arith, m, k))
-  apart_in (suc d) x l e inner =
-      let same : x + suc d ≡ (x + 1) + d = omega arith in
-      let here : x < slots = omega (arith, l) in
-      let f = s.first_in x here in
-      let g = inner x (omega arith) (omega arith) in
-      let b = s.second_in x here g.2 in
-      let next : Ends ((x + 1) + d) = subst Ends same e in
-      let goes : (y : ℕ) → x + 1 ≤ y → y < (x + 1) + d → Goes y = λ y from to. inner y (omega (arith, from)) (omega (arith, to)) in
-      let rest = (members d (x + 1) (omega (arith, l)) next goes).0 in
       let others = segment first second (x + 1) d in
-      AllPairs-cons (λ j k. j ≢ k) (first x) (second x ∷ others)
-      (All-cons (λ k. first x ≢ k) (second x) others (λ same_job. absurd (omega (arith, b.1, ap label same_job)))
-      (All-weaker (IsMember (x + 1) (top (x + 1))) (λ k. first x ≢ k) (λ k h same_job. absurd (omega (arith, h.1, ap slot same_job, f.1))) others rest))
-      (AllPairs-cons (λ j k. j ≢ k) (second x) others
-      (All-weaker (IsMember (x + 1) (top (x + 1))) (λ k. second x ≢ k) (λ k h same_job. absurd (omega (arith, h.1, ap slot same_job, b.0))) others rest)
-      (apart_in d (x + 1) (omega (arith, l)) next goes))
+      let rest = members d (x + 1) (omega (arith, l)) (subst Ends same e) (λ y from to. inner y (omega (arith, from)) (omega (arith, to))) in
+      record {
+        all = All-cons (IsMember x (top x)) (first x) (second x ∷ others) (f.0, omega (arith, f.1), ap top f.1, omega (arith, g.0, g.3, b.1))
+            (All-cons (IsMember x (top x)) (second x) others (g.2, omega (arith, b.0), ap top b.0, omega (arith, g.0, g.3))
+            (All-weaker (IsMember (x + 1) (top (x + 1))) (IsMember x (top x)) (λ j h. (h.0, omega (arith, h.1), h.2 ∙ sym g.0, omega (arith, h.3, g.0))) others rest.all));
+        last = g.0 ∙ rest.last ∙ ap top (sym same);
+        apart = AllPairs-cons (λ j k. j ≢ k) (first x) (second x ∷ others)
+            (All-cons (λ k. first x ≢ k) (second x) others (λ same_job. absurd (omega (arith, b.1, ap label same_job)))
+            (All-weaker (IsMember (x + 1) (top (x + 1))) (λ k. first x ≢ k) (λ k h same_job. absurd (omega (arith, h.1, ap slot same_job, f.1))) others rest.all))
+            (AllPairs-cons (λ j k. j ≢ k) (second x) others
+            (All-weaker (IsMember (x + 1) (top (x + 1))) (λ k. second x ≢ k) (λ k h same_job. absurd (omega (arith, h.1, ap slot same_job, b.0))) others rest.all) rest.apart);
+      }
 
   -- ---- the slots before one cut into segments
   abbrev IsEarly : ℕ → ℕ → Type 0
@@ -136,10 +130,10 @@ module _ (i : Instance) (two : i.machines ≡ 2) (slots : ℕ) (slot label first
     new = segment first second from d
 
     new_members : All (IsMember from (top from)) new
-    new_members = (members d from l e inner).0
+    new_members = (members d from l e inner).all
 
     top_same : top from ≡ top (from + d)
-    top_same = (members d from l e inner).1
+    top_same = (members d from l e inner).last
 
     -- the slots of the members are those of the segment
     new_early : All (IsEarly (from + d + 1)) new
@@ -171,7 +165,7 @@ module _ (i : Instance) (two : i.machines ≡ 2) (slots : ℕ) (slot label first
 
     apart_next : AllPairs (λ j k. j ≢ k) (flat_map (λ jobs. jobs) (segments ++ new ∷ []))
     apart_next = subst (AllPairs (λ j k. j ≢ k)) (sym (flat_map_push (λ jobs. jobs) segments new))
-        (AllPairs-append (λ j k. j ≢ k) (flat_map (λ jobs. jobs) segments) new h.apart (apart_in d from l e inner) (λ p z b q y c same.
+        (AllPairs-append (λ j k. j ≢ k) (flat_map (λ jobs. jobs) segments) new h.apart (members d from l e inner).apart (λ p z b q y c same.
         let before = All-flat (IsEarly from) segments h.early p z b in
         let m = new_members q y c in
         absurd (omega (arith, ap slot same, before.1, m.1))))
@@ -191,8 +185,7 @@ module _ (i : Instance) (two : i.machines ≡ 2) (slots : ℕ) (slot label first
         last k a at =
             let size = length-append segments (new ∷ []) in
             let place : k ≡ length segments = omega (arith, at, size) in
-            let zero_is : k - length segments ≡ 0 = omega (arith, place) in
-            subst (All (LeadsOn (from + d + 1))) (sym (get_or-append_right segments (new ∷ []) (length segments) k a refl (omega (arith, place)) ∙ ap (λ p. get_or (new ∷ []) p a) zero_is)) new_on
+            subst (All (LeadsOn (from + d + 1))) (sym (get_or_push segments new a k (sym place))) new_on
 
   pub AreSegments-end : (from : ℕ) (segments : List (List ℕ)) → IsCut from segments → AreSegments i segments × (segments_bound i segments ≡ from)
   AreSegments-end from segments h = (

@@ -41,6 +41,12 @@ module _ (i : Instance) (ends : All (λ a. (a.before < length i.jobs) × (a.afte
 abbrev pub Shows : Instance → (ℕ → ℕ → Bool) → Type 0
 Shows i leads = (j k : ℕ) → j < length i.jobs → k < length i.jobs → IsTrue (leads j k) ↔ HasPath i.arcs j k
 
+-- a job has got the next label
+pub record IsLabelled (i : Instance) (leads : ℕ → ℕ → Bool) (count : ℕ) (labels : ℕ → ℕ) (job : ℕ) (left new : List ℕ) : Type 0 where
+  pub next : IsLabelling i leads (count + 1) labels new
+  pub leaves : IsPermutation left (job ∷ new)
+  pub fewer : length new < length left
+
 module _ (i : Instance) (leads : ℕ → ℕ → Bool) (shows : Shows i leads)
     (ends : All (λ a. (a.before < length i.jobs) × (a.after < length i.jobs)) i.arcs) (acyclic : IsAcyclic i) (few : length i.jobs ≤ MOST_JOBS) where
   abbrev n : ℕ
@@ -73,7 +79,7 @@ module _ (i : Instance) (leads : ℕ → ℕ → Bool) (shows : Shows i leads)
     small : count < MOST_JOBS
     small = omega (arith, h.size, l, few)
 
-    pub leaves : IsPermutation left (job ∷ parted)
+    leaves : IsPermutation left (job ∷ parted)
     leaves = IsPermutation-trans left (job ∷ rest) (job ∷ parted) (IsPermutation-remove left place job l is) (IsPermutation-cons job rest parted (IsPermutation-filter_both stays rises other rest))
       where
         other : (j : ℕ) → rises j ≡ not (stays j)
@@ -102,7 +108,7 @@ module _ (i : Instance) (leads : ℕ → ℕ → Bool) (shows : Shows i leads)
         by (zero, b, e) = absurd (differ (sym e))
         by (suc k, b, e) = (k, omega (arith, b), e)
 
-    pub size_next : count + 1 + length parted ≡ n
+    size_next : count + 1 + length parted ≡ n
     size_next = let s = length_permutation left (job ∷ parted) leaves in omega (arith, s, h.size)
 
     -- a job that has its label is another one
@@ -270,20 +276,21 @@ module _ (i : Instance) (leads : ℕ → ℕ → Bool) (shows : Shows i leads)
             let below = less has_x in
             omega (arith, (old y (omega (arith, below, has_x))).1, kept x differ, below)
 
-    pub IsLabelling-next : IsLabelling i leads (count + 1) next parted
-    IsLabelling-next = record {
-      each = each_next;
-      inside = inside_next;
-      once = AllPairs-tail (λ j k. j ≢ k) job parted distinct_all;
-      size = size_next;
-      distinct = distinct_next;
-      lower = lower_next;
-      ranked = ranked_next;
-      sorted = sorted_next;
+    pub IsLabelled-next : IsLabelled i leads count next job left parted
+    IsLabelled-next = record {
+      next = record {
+        each = each_next;
+        inside = inside_next;
+        once = AllPairs-tail (λ j k. j ≢ k) job parted distinct_all;
+        size = size_next;
+        distinct = distinct_next;
+        lower = lower_next;
+        ranked = ranked_next;
+        sorted = sorted_next;
+      };
+      leaves = leaves;
+      fewer = omega (arith, length_permutation left (job ∷ parted) leaves);
     }
-
-    pub fewer_left : length parted < length left
-    fewer_left = omega (arith, length_permutation left (job ∷ parted) leaves)
 
   -- ---- no label, and all labels
   pub IsLabelling-start : (label : ℕ → ℕ) (left : List ℕ) → ((j : ℕ) → j < n → label j ≡ MOST_JOBS) → left ≡ range_with_len 0 n → IsLabelling i leads 0 label left
@@ -315,25 +322,15 @@ module _ (i : Instance) (leads : ℕ → ℕ → Bool) (shows : Shows i leads)
       all j b = elim (h.each j b) [ inl q ↦ let (k, c, e) = q.0 in absurd (omega (arith, c, none)) | inr q ↦ omega (arith, q, whole) ]
 
 -- ---- one label more, at the lists as the code passes them
-pub record IsLabelled (i : Instance) (leads : ℕ → ℕ → Bool) (count : ℕ) (labels : List ℕ) (job : ℕ) (left new : List ℕ) : Type 0 where
-  pub next : IsLabelling i leads (count + 1) (slice_index labels) new
-  pub leaves : IsPermutation left (job ∷ new)
-  pub fewer : length new < length left
-
 pub labelled : (i : Instance) (leads : ℕ → ℕ → Bool) → Shows i leads → All (λ a. (a.before < length i.jobs) × (a.after < length i.jobs)) i.arcs → IsAcyclic i → length i.jobs ≤ MOST_JOBS
     → (count : ℕ) (labels counts left shown after new : List ℕ) (place job : ℕ) → IsLabelling i leads count (slice_index labels) left
     → length labels ≡ MOST_JOBS → ((j : ℕ) → j < MOST_JOBS → slice_index counts j ≡ arcs_into i.arcs left j)
     → shown ≡ left → place < length shown → slice_index counts (get_or shown place 0) ≡ 0 → ((q : ℕ) → q < place → 0 < slice_index counts (get_or shown q 0))
     → job ≡ get_or left place job → after ≡ remove left place → new ≡ filter (λ j. not (leads j job)) after ++ filter (λ j. leads j job) after
-    → IsLabelled i leads count (set labels job count) job left new
-labelled i leads shows ends acyclic few count labels counts left shown after new place job h long counted e l free waits is f new_is = record {
-  next = subst (IsLabelling i leads (count + 1) (slice_index (set labels job count))) (sym all)
-      (IsLabelling-next i leads shows ends acyclic few count (slice_index labels) (slice_index (set labels job count)) left place job h in_left is here_free here_waits given kept);
-  leaves = subst (λ xs. IsPermutation left (job ∷ xs)) (sym all)
-      (leaves i leads shows ends acyclic few count (slice_index labels) (slice_index (set labels job count)) left place job h in_left is here_free here_waits given kept);
-  fewer = subst (λ xs. length xs < length left) (sym all)
-      (fewer_left i leads shows ends acyclic few count (slice_index labels) (slice_index (set labels job count)) left place job h in_left is here_free here_waits given kept);
-}
+    → IsLabelled i leads count (slice_index (set labels job count)) job left new
+labelled i leads shows ends acyclic few count labels counts left shown after new place job h long counted e l free waits is f new_is =
+    subst (IsLabelled i leads count (slice_index (set labels job count)) job left) (sym all)
+    (IsLabelled-next i leads shows ends acyclic few count (slice_index labels) (slice_index (set labels job count)) left place job h in_left is here_free here_waits given kept)
   where
     in_left : place < length left
     in_left = omega (arith, l, ap length e)

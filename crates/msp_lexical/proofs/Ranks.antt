@@ -2,7 +2,7 @@
 use Rattle.std.proofs.Common.{◌≡◌, ℕ, ◌+◌, ◌-◌, ◌<◌, ◌≤◌, ◌⊎◌, inl, inr, List, [], ◌∷◌, ◌++◌, length, get_or, slice_index, AllPairs, IsPermutation, sym, ap, ◌∙◌, arith}
 use Rattle.std.specs.List.{range_with_len}
 use Rattle.std.proofs.lemmas.Bool.{cases_lt}
-use Rattle.std.proofs.lemmas.List.{length_push, get_or_append_left, get_or-append_right}
+use Rattle.std.proofs.lemmas.List.{length_push, get_or_append_left, get_or_push}
 use Rattle.msp_lexical.specs.Steps.{AreRanks}
 use Rattle.msp_class.proofs.Sums.{OnceBelow-from_permutation}
 
@@ -17,8 +17,7 @@ AreRanks-next count labels ranks new job rank e is h = record {
     by j (inl less) l = get_or_append_left ranks (rank ∷ []) 0 j (omega (arith, less, h.len)) ∙ h.each j less
     by j (inr more) l =
         let same : j ≡ job = omega (arith, more, l) in
-        let zero_is : j - job ≡ 0 = omega (arith, more, l) in
-        get_or-append_right ranks (rank ∷ []) job j 0 h.len more ∙ ap (λ p. get_or (rank ∷ []) p 0) zero_is ∙ is ∙ ap (λ k. count - 1 - slice_index labels k) (sym same)
+        get_or_push ranks rank 0 j (h.len ∙ sym same) ∙ is ∙ ap (λ k. count - 1 - slice_index labels k) (sym same)
 
 -- rising ranks are falling labels
 pub falling_labels : (count : ℕ) (labels shown ranks order : List ℕ)

@@ -3,15 +3,14 @@ use Rattle.std.proofs.Common.{◌≡◌, ◌≢◌, ℕ, zero, suc, ◌+◌, ◌
 use Rattle.std.proofs.Common.{ap, subst, ◌∙◌, arith}
 use Rattle.std.proofs.lemmas.Bool.{cases_lt}
 use Rattle.std.proofs.lemmas.List.{length-map, get_or-map}
-use Rattle.std.proofs.lemmas.List.Elements.{All-contains, Contains-get_or}
 use Rattle.msp_class.specs.declared.sizes.TheConstants.{MOST_JOBS}
-use Rattle.msp_class.proofs.Sums.{OnceBelow, OnceBelow-from_permutation, OnceBelow-contains, OnceBelow-distinct, length-OnceBelow}
+use Rattle.msp_class.proofs.Sums.{OnceBelow, OnceBelow-from_permutation, OnceBelow-contains, length-OnceBelow}
 use Rattle.msp_instance.specs.declared.Instance.{Instance}
 use Rattle.msp_instance.specs.Conditions.{Inner}
 use Rattle.msp_pieces.specs.declared.Piece.{Piece}
-use Rattle.msp_pieces.proofs.changes.Moves.{Contains-map}
 use Rattle.msp_slots.specs.Pieces.{piece_at}
 use Rattle.msp_slots.proofs.ListSchedules.{begins_soon}
+use Rattle.msp_slots.proofs.PieceJobs.{job_inside, jobs_apart}
 use Rattle.msp_lexical.specs.Lexical.{lexical_class, IsLeastCost}
 use Rattle.msp_lexical.specs.Slots.{AreSlots, AreTops, AreSeats, AreCut, IsSeated, IsSeating, place_of, first_in, second_in}
 use Rattle.msp_lexical.specs.Steps.{HasLabels, IsByLabel}
@@ -30,9 +29,6 @@ module _ (i : Instance) (class : i.class ≡ lexical_class)
 
   jobs : OnceBelow n (map (λ p. p.job) pieces)
   jobs = OnceBelow-from_permutation b.schedule.all
-
-  job_inside : All (λ p. p.job < n) pieces
-  job_inside k d l = All-contains (λ j. j < n) (map (λ p. p.job) pieces) (get_or pieces k d).job jobs.within (Contains-map (λ p. p.job) pieces (get_or pieces k d) (Contains-get_or pieces k d l))
 
   count : length pieces ≡ n
   count = sym (length-map pieces (λ p. p.job)) ∙ length-OnceBelow jobs
@@ -54,7 +50,7 @@ module _ (i : Instance) (class : i.class ≡ lexical_class)
 
   pub seated : All (IsSeated n) pieces
   seated k d l =
-      let inside = job_inside k d l in
+      let inside = job_inside pieces jobs k d l in
       let of = of_piece k d l in
       record {
         machine = omega (arith, of.on, b.schedule.runs.inside (get_or pieces k d).job inside, two_machines i class inner);
@@ -64,13 +60,10 @@ module _ (i : Instance) (class : i.class ≡ lexical_class)
       }
 
   pub places_apart : AllPairs (λ p q. place_of p ≢ place_of q) pieces
-  places_apart k m d less l e = by (get_or pieces k d) (get_or pieces m d) (of_piece k d lk) (of_piece m d l) (seated k d lk) (seated m d l) other e
+  places_apart k m d less l e = by (get_or pieces k d) (get_or pieces m d) (of_piece k d lk) (of_piece m d l) (seated k d lk) (seated m d l) (jobs_apart pieces jobs k m d less l) e
     where
       lk : k < length pieces
       lk = omega (arith, less, l)
-
-      other : (get_or pieces k d).job ≢ (get_or pieces m d).job
-      other same = OnceBelow-distinct jobs k m 0 less (omega (arith, l, length-map pieces (λ p. p.job))) (get_or-map (λ p. p.job) pieces k d 0 lk ∙ same ∙ sym (get_or-map (λ p. p.job) pieces m d 0 l))
 
       by : (p q : Piece) → IsOf p → IsOf q → IsSeated n p → IsSeated n q → p.job ≢ q.job → place_of p ≡ place_of q → ⊥
       by p q f g s t other e = other (b.schedule.runs.apart p.job q.job s.job t.job (omega (arith, e, s.machine, t.machine, f.begins, g.begins)) (omega (arith, e, s.machine, t.machine, f.on, g.on)))
@@ -95,9 +88,15 @@ module _ (i : Instance) (class : i.class ≡ lexical_class)
     slots_are : slots ≡ begin (get_or pieces (length pieces - 1) no_piece).job + 1
     slots_are = omega (arith, slots_is, (of_piece (length pieces - 1) no_piece last_inside).begins)
 
-    pub few_slots : slots ≤ MOST_JOBS
+    few_slots : slots ≤ MOST_JOBS
     few_slots =
-        omega (arith, slots_are, begins_soon i b.order pieces b.schedule (get_or pieces (length pieces - 1) no_piece).job (job_inside (length pieces - 1) no_piece last_inside), inner.conditions.few)
+        omega (
+          arith,
+          slots_are,
+          begins_soon i b.order pieces b.schedule (get_or pieces (length pieces - 1) no_piece).job
+              (job_inside pieces jobs (length pieces - 1) no_piece last_inside),
+          inner.conditions.few,
+        )
 
     at_place : (x m : ℕ) → m < 2 → seat x m ≡ slice_index seats (2 * x + m)
     at_place x zero l = let same : 2 * x ≡ 2 * x + 0 = omega arith in ap (slice_index seats) same
@@ -140,23 +139,32 @@ module _ (i : Instance) (class : i.class ≡ lexical_class)
             ]
 
         reached : (x : ℕ) → x < slots → (j : ℕ) × (j < n) × (x ≤ begin j)
-        reached x l = ((get_or pieces (length pieces - 1) no_piece).job, job_inside (length pieces - 1) no_piece last_inside, omega (arith, l, slots_are))
+        reached x l = ((get_or pieces (length pieces - 1) no_piece).job, job_inside pieces jobs (length pieces - 1) no_piece last_inside, omega (arith, l, slots_are))
 
-    pub slots_made : AreSlots n slots begin (slice_index labels) (first_in seats) (second_in seats) h.leads
+    slots_made : AreSlots n slots begin (slice_index labels) (first_in seats) (second_in seats) h.leads
     slots_made = are_slots i class inner (slice_index labels) h pieces b slots seat seats_are
 
-    pub cost_of_slots : IsLeastCost i slots
-    cost_of_slots = least_cost i class inner (slice_index labels) h pieces b slots seat seats_are
+    -- what the slots have
+    pub record AreMade : Type 0 where
+      pub few : slots ≤ MOST_JOBS
+      pub first : (x : ℕ) → x < slots → first_in seats x < n
+      pub cost : IsLeastCost i slots
+      pub cut : (tops : List ℕ) → AreTops n slots (slice_index labels) (first_in seats) (second_in seats) (slice_index tops) → AreCut i labels seats tops slots
 
-    pub cut_made : (tops : List ℕ) → AreTops n slots (slice_index labels) (first_in seats) (second_in seats) (slice_index tops) → AreCut i labels seats tops slots
-    cut_made tops t = record {
-      slot = begin;
-      leads = h.leads;
-      two = two_machines i class inner;
+    pub made : AreMade
+    made = record {
       few = few_slots;
-      jobs = inner.conditions.few;
-      seats_whole = s.whole;
-      are_slots = slots_made;
-      paths = λ j k c d to. (h.shows j k c d).0 to;
-      are_tops = t;
+      first = λ x l. (slots_made.first_in x l).0;
+      cost = least_cost i class inner (slice_index labels) h pieces b slots seat seats_are;
+      cut = λ tops t. record {
+        slot = begin;
+        leads = h.leads;
+        two = two_machines i class inner;
+        few = few_slots;
+        jobs = inner.conditions.few;
+        seats_whole = s.whole;
+        are_slots = slots_made;
+        paths = λ j k c d to. (h.shows j k c d).0 to;
+        are_tops = t;
+      };
     }

@@ -3,10 +3,8 @@ use Rattle.std.proofs.Common.{◌≡◌, ℕ, ◌<◌, Bool, List, length, pos, 
 use Rattle.msp_instance.specs.declared.Instance.{Instance}
 use Rattle.msp_instance.specs.Conditions.{Inner}
 use Rattle.msp_pieces.specs.declared.Piece.{Piece}
-use Rattle.msp_pieces.specs.declared.Schedule.{Schedule}
 use Rattle.msp_pieces.specs.Cost.{Best}
-use Rattle.msp_pieces.specs.Within.{Within}
-use Rattle.msp_route.specs.Bounds.{IsAnswer}
+use Rattle.msp_route.specs.Bounds.{IsBestAnswer}
 use Rattle.msp_route.proofs.Placed.{schedule_at}
 use Rattle.msp_assign.specs.Prices.{column_of}
 use Rattle.msp_slots.specs.Earliest.{start_in, machine_in}
@@ -15,13 +13,7 @@ use Rattle.msp_total.proofs.LeastSlots.{chosen_soon, chosen_machine, chosen_apar
 use Rattle.msp_lines.specs.LineSteps.{line_class, lines_from, AreLeastLined}
 use Rattle.msp_lines.proofs.LineFacts.{IsLineShop, IsLineShop-from, small_dates}
 use Rattle.msp_lines.proofs.LineBegins.{line_begins}
-use Rattle.msp_lines.proofs.LinePieces.{AreLineBegins, lines_at, lines_feasible, lines_within, lines_answer, lines_end}
-
--- what the schedule of the rule has
-pub record IsLineAnswer (i : Instance) (s : Schedule) : Type 0 where
-  pub best : Best i s
-  pub within : Within i s
-  pub answer : IsAnswer i s
+use Rattle.msp_lines.proofs.LinePieces.{AreLineBegins, lines_at, lines_feasible, lines_answer, lines_end}
 
 module _ (i : Instance) (late : Bool) (h : IsLineShop i late) (laid : List Piece) (l : AreLeastLined i late laid) where
   abbrev n : ℕ
@@ -47,11 +39,11 @@ module _ (i : Instance) (late : Bool) (h : IsLineShop i late) (laid : List Piece
   best = best_in_slots i late 1 i.machines small (omega arith) h.machine h.machines l.slots l.column l.least h.crit
       (lines_from n i.machines begin) (lines_end i late h begin begins) (lines_feasible i late h begin begins) (λ t f. line_begins i late h t f)
 
-  line_answer : IsLineAnswer i (record { unit = pos 1; pieces = laid })
+  line_answer : IsBestAnswer i (record { unit = pos 1; pieces = laid })
   line_answer =
-      subst (λ ps. IsLineAnswer i (record { unit = pos 1; pieces = ps })) (sym (l.laid ∙ ap (λ k. lines_from k i.machines begin) l.least.assigned.all))
-      (record { best = best; within = lines_within i late h begin begins; answer = lines_answer i late h begin begins })
+      subst (λ ps. IsBestAnswer i (record { unit = pos 1; pieces = ps })) (sym (l.laid ∙ ap (λ k. lines_from k i.machines begin) l.least.assigned.all))
+      (record { best = best; answer = lines_answer i late h begin begins })
 
 pub IsLineAnswer-from : (i : Instance) (late : Bool)
-    → i.class ≡ line_class late → Inner i → (pieces : List Piece) → AreLeastLined i late pieces → IsLineAnswer i (record { unit = pos 1; pieces = pieces })
+    → i.class ≡ line_class late → Inner i → (pieces : List Piece) → AreLeastLined i late pieces → IsBestAnswer i (record { unit = pos 1; pieces = pieces })
 IsLineAnswer-from i late class inner pieces l = line_answer i late (IsLineShop-from i late class inner) pieces l

@@ -9,10 +9,9 @@ use Rattle.msp_class.proofs.Quotients.{rest_small}
 use Rattle.msp_instance.specs.declared.Instance.{Instance}
 use Rattle.msp_pieces.specs.Cost.{end_of}
 use Rattle.msp_pieces.specs.Feasible.{Feasible, MayRun}
-use Rattle.msp_pieces.specs.Within.{Within}
 use Rattle.msp_route.proofs.Turns.{turn_inside, later_rest}
 use Rattle.msp_route.specs.Bounds.{IsAnswer, answer_unit}
-use Rattle.msp_route.proofs.Placed.{Places, schedule_at, ArePlaced, placed_is_feasible, placed_is_within, placed_is_answer, placed_ends}
+use Rattle.msp_route.proofs.Placed.{Places, schedule_at, ArePlaced, placed_is_feasible, placed_is_answer, placed_ends}
 use Rattle.msp_slots.proofs.Begins.{head_at}
 use Rattle.msp_lines.proofs.LineFacts.{IsLineShop, own, ones, operations, line_operations}
 
@@ -89,9 +88,6 @@ module _ (i : Instance) (late : Bool) (h : IsLineShop i late) (begin : ℕ → �
 
   pub lines_feasible : Feasible i (schedule_at (lines_at i begin))
   lines_feasible = placed_is_feasible i m (lines_at i begin) (line_operations i late h) placed
-
-  pub lines_within : Within i (schedule_at (lines_at i begin))
-  lines_within = placed_is_within i m (lines_at i begin) (line_operations i late h) placed
 
   pub lines_answer : IsAnswer i (schedule_at (lines_at i begin))
   lines_answer = placed_is_answer i m (lines_at i begin) (line_operations i late h) placed (subst (λ k. pos 1 ≤ℤ answer_unit k) (sym h.kind) (omega (arith, ints)))

@@ -11,7 +11,7 @@ ghost use Rattle.msp_lines.specs.LineSteps.{line_class, line_part, lined, AreLea
 use msp_class::{Class, Crit, Env, List, NoMemory, Order, Times};
 use msp_instance::Instance;
 use msp_pieces::{Piece, Schedule, Solution};
-use msp_route::Solver;
+use msp_route::{Solver, best_solution};
 use msp_slots::Slot;
 use msp_total::{JobSlots, least_slots};
 use std::alloc::Global;
@@ -91,9 +91,7 @@ fn schedule_in_lines(alloc: Global, inst: &Instance, late: bool) -> Result<Solut
     ensures bounds { IfOk result (λ s. IsAnswer inst.now s.schedule) }
 {
     let pieces = least_pieces(alloc, inst, late)?;
-    let schedule = Schedule { unit: 1, pieces };
-    let cost = msp_pieces::cost(inst, &schedule);
-    Ok(Solution { schedule, cost })
+    Ok(best_solution(inst, Schedule { unit: 1, pieces }))
 }
 
 /// Finds a schedule of unit operations with release dates in a flow shop whose weighted tardiness is least: a least assignment of the jobs

@@ -6,7 +6,7 @@ use Rattle.std.proofs.lemmas.List.{map-append, length-map, get_or-map}
 use Rattle.std.proofs.lemmas.List.Elements.{All-head, All-append, All-map}
 use Rattle.std.proofs.lemmas.List.Sorted.{IsPermutation-map, IsPermutation-trans, IsPermutation-append_right, All-permutation, length_permutation}
 use Rattle.msp_class.specs.declared.sizes.TheConstants.{GREATEST}
-use Rattle.msp_class.proofs.Sums.{OnceBelow, OnceBelow-range, OnceBelow-from_permutation, OnceBelow-distinct, length-OnceBelow, AllPairs-tail, sum_by-map, sum_by-same}
+use Rattle.msp_class.proofs.Sums.{OnceBelow, OnceBelow-range, OnceBelow-from_permutation, OnceBelow-distinct, length-OnceBelow, sum_by-map, sum_by-same}
 use Rattle.msp_instance.specs.declared.Instance.{Instance}
 use Rattle.msp_instance.specs.Instance.{no_need, no_job, job_at}
 use Rattle.msp_pieces.proofs.changes.Moves.{AllPairs-map}
@@ -17,14 +17,11 @@ use Rattle.msp_route.specs.Dates.{IsDueBefore}
 use Rattle.msp_single.specs.Moore.{IsLongest, IsChoice, none, kept, overrun, IsMooreOrder}
 use Rattle.msp_pieces.proofs.lists.Parts.{All-front, All-back}
 use Rattle.msp_single.proofs.MooreChoice.{accepted_of, keeps, drops, choice-permutation}
+use Rattle.msp_pieces.proofs.lists.Parts.{AllPairs-back}
 use Rattle.msp_single.proofs.MooreSteps.{IsTaskOf, Chooses}
 
 remove-map : {X Y : Type 0} (f : X → Y) (xs : List X) (k : ℕ) → map f (remove xs k) ≡ remove (map f xs) k
 remove-map f xs k = map-append f (take k xs) (drop (suc k) xs) ∙ ap₂ (λ a b. a ++ b) (sym (take-map f k xs)) (sym (drop-map f (suc k) xs))
-
-AllPairs-back : {X : Type 0} (R : X → X → Type 0) (xs ys : List X) → AllPairs R (xs ++ ys) → AllPairs R ys
-AllPairs-back R [] ys h = h
-AllPairs-back R (x ∷ xs) ys h = AllPairs-back R xs ys (AllPairs-tail R x (xs ++ ys) h)
 
 -- ---- the choice among other names of the same
 module _ {X Y : Type 0} (f : X → Y) (time number : X → ℕ) (due : X → ℤ) (time' number' : Y → ℕ) (due' : Y → ℤ) where
@@ -71,10 +68,7 @@ module _ (i : Instance) (ts : List Task) (numbers : map (λ x. x.job) ts ≡ ran
   n = length i.jobs
 
   pub tasks_count : length sorted ≡ n
-  tasks_count = length_permutation ts sorted moved ∙ sym (length-map ts (λ x. x.job)) ∙ ap length numbers ∙ length_range
-    where
-      length_range : length (range_with_len 0 n) ≡ n
-      length_range = length-OnceBelow (OnceBelow-range n)
+  tasks_count = length_permutation ts sorted moved ∙ sym (length-map ts (λ x. x.job)) ∙ ap length numbers ∙ length-OnceBelow (OnceBelow-range n)
 
   tasks_within : All (λ t. t.job < n) sorted
   tasks_within = All-permutation (λ t. t.job < n) ts sorted moved (All-from_map (λ j. j < n) (λ x. x.job) ts (subst (All (λ j. j < n)) (sym numbers) (OnceBelow-range n).within))

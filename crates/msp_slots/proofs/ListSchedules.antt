@@ -1,12 +1,11 @@
 -- What schedules in the order of a list have: no moment before the last begin is idle, they are feasible, and their pieces are settled.
-use Rattle.std.proofs.Common.{◌≡◌, ℕ, zero, suc, ◌+◌, ◌<◌, ◌≤◌, ◌⊎◌, inl, inr, List, length, get_or, map, pos, ◌<ℤ◌, All, refl, sym, ap, subst, subst₂, ◌∙◌, arith}
+use Rattle.std.proofs.Common.{◌≡◌, ℕ, zero, suc, ◌+◌, ◌<◌, ◌≤◌, ◌⊎◌, inl, inr, List, length, get_or, pos, ◌<ℤ◌, All, refl, sym, ap, subst, subst₂, ◌∙◌, arith}
 use Rattle.std.proofs.lemmas.Bool.{cases_lt}
-use Rattle.std.proofs.lemmas.List.Elements.{All-map, All-contains}
+use Rattle.std.proofs.lemmas.List.Elements.{All-contains}
 use Rattle.std.proofs.lemmas.Nat.Gcd.{dvd_antisymm}
 use Rattle.std.proofs.Math.Nat.{one-dvd}
-use Rattle.msp_class.specs.declared.sizes.TheConstants.{MOST_JOBS}
 use Rattle.msp_class.proofs.IntegerRing.{pos-lt}
-use Rattle.msp_class.proofs.Sums.{OnceBelow-from_permutation, OnceBelow-contains}
+use Rattle.msp_class.proofs.Sums.{OnceBelow-from_permutation}
 use Rattle.msp_instance.specs.declared.Instance.{Instance}
 use Rattle.msp_instance.specs.Instance.{job_at}
 use Rattle.msp_pieces.specs.declared.Piece.{Piece}
@@ -15,7 +14,8 @@ use Rattle.msp_pieces.proofs.bounds.Certified.{ranked}
 use Rattle.msp_slots.specs.Pieces.{piece_at}
 use Rattle.msp_slots.specs.ListSchedule.{RunsInOrder, IsListSchedule}
 use Rattle.msp_slots.proofs.Progress.{IsOrdered}
-use Rattle.msp_slots.proofs.UnitPieces.{AreUnitPieces}
+use Rattle.msp_slots.proofs.PieceJobs.{each_job}
+use Rattle.msp_slots.proofs.UnitPieces.{HasUnitJobs, IsInUnits, in_units}
 
 -- ---- no moment before a job begins is idle: the first machine runs a job then
 module _ (i : Instance) (order : List ℕ) (t : IsOrdered i) (begin machine : ℕ → ℕ) (h : RunsInOrder i order begin machine) where
@@ -49,19 +49,18 @@ module _ (i : Instance) (order : List ℕ) (t : IsOrdered i) (begin machine : �
 -- ---- the pieces
 module _ (i : Instance) (order : List ℕ) (pieces : List Piece) (h : IsListSchedule i order pieces) where
   pub begins_soon : (j : ℕ) → j < length i.jobs → h.begin j < length i.jobs
-  begins_soon j l = All-contains (λ j. h.begin j < length i.jobs) (map (λ p. p.job) pieces)
-      j (All-map (λ j. h.begin j < length i.jobs) (λ p. p.job) pieces h.soon) (OnceBelow-contains (OnceBelow-from_permutation h.all) j l)
+  begins_soon = each_job pieces (OnceBelow-from_permutation h.all) (λ j. h.begin j < length i.jobs) h.soon
 
-  pub unit_pieces : length i.jobs ≤ MOST_JOBS → ((j : ℕ) → j < length i.jobs → (job_at i j).release ≡ 0) → AreUnitPieces i h.begin h.machine pieces
-  unit_pieces few released = record {
+  pub list_in_units : HasUnitJobs i → ((j : ℕ) → j < length i.jobs → (job_at i j).release ≡ 0) → IsInUnits i h.begin pieces
+  list_in_units u released = in_units i u h.begin h.machine pieces (record {
     jobs = OnceBelow-from_permutation h.all;
     each = h.each;
     inside = h.runs.inside;
     apart = h.runs.apart;
     released = λ j l. omega (arith, released j l);
     forward = h.runs.forward;
-    early = λ j l. omega (arith, begins_soon j l, few);
-  }
+    early = λ j l. omega (arith, begins_soon j l, u.few);
+  })
 
   pub list_schedule_is_settled : IsSettled (record { unit = pos 1; pieces = pieces })
   list_schedule_is_settled = record {

@@ -1,13 +1,12 @@
 -- The law of places. A job's whole number is how many common times are over when it begins; its place is how many lesser numbers are in use.
-use Rattle.std.proofs.Common.{◌≡◌, ◌≢◌, ℕ, zero, suc, ◌+◌, ◌*◌, ◌/◌, ◌<◌, ◌≤◌, ◌⊎◌, inl, inr, Bool, true, false, cond, eqb, ltb, List, [], ◌∷◌, length, get_or, map, filter, fold}
-use Rattle.std.proofs.Common.{pos, nat_abs, ◌-ℤ◌, ◌*ℤ◌, ◌≤ℤ◌, ◌<ℤ◌, ℤ, All, AllPairs, Contains, refl, sym, ap, ap₂, subst, subst₂, ◌∙◌, arith}
+use Rattle.std.proofs.Common.{◌≡◌, ◌≢◌, ℕ, zero, suc, ◌+◌, ◌*◌, ◌/◌, ◌<◌, ◌≤◌, ◌⊎◌, inl, inr, Bool, true, false, cond, eqb, ltb, List, [], ◌∷◌, length, get_or, map, fold}
+use Rattle.std.proofs.Common.{pos, nat_abs, ◌-ℤ◌, ◌*ℤ◌, ◌≤ℤ◌, ◌<ℤ◌, ℤ, All, AllPairs, Contains, refl, sym, ap, subst, subst₂, ◌∙◌, arith}
 use Rattle.std.specs.Prelude.{◌==◌, ◌&&◌, MatchBool}
 use Rattle.std.specs.Int.{int_max}
 use Rattle.std.proofs.lemmas.Bool.{cases_lt, eqb-true, eq-eqb}
 use Rattle.std.proofs.lemmas.Bool.Decides.{nat_tests}
 use Rattle.std.proofs.lemmas.Int.{ints}
-use Rattle.std.proofs.lemmas.List.{get_or_default}
-use Rattle.std.proofs.lemmas.List.Elements.{All-contains, Contains-get_or}
+use Rattle.std.proofs.lemmas.List.Elements.{All-contains}
 use Rattle.std.proofs.Math.Nat.{mul-div-le, le-div_iff_mul-le, mul-pos}
 use native.Mathlib.Nat.{mul-le-mul_left}
 use Rattle.msp_class.specs.declared.class.Times.{Times}
@@ -15,10 +14,12 @@ use Rattle.msp_class.specs.declared.environments.EnvKind.{EnvKind}
 use Rattle.msp_class.specs.declared.environments.EnvKind.TheVariants.{Identical, Unrelated}
 use Rattle.msp_class.specs.Env.{kind_of}
 use Rattle.msp_class.specs.Sums.{total_below}
-use Rattle.msp_class.proofs.Sums.{total_below-mono, total_below-same, total_below-none, total_below-term, total_below-bound, total_below-exchange, total_below-constant}
-use Rattle.msp_class.proofs.Sums.{total_below-only, cond-le, eqb_comm, Contains-from_filter}
-use Rattle.msp_class.proofs.IntegerRing.{natural, pos-le, le-pos, pos-same, zero-le-pos, ≤ℤ_trans, int_max-right}
-use Rattle.msp_instance.specs.declared.Job.{Job}
+use Rattle.msp_class.proofs.Sums.{total_below-same, total_below-term, total_below-bound, total_below-exchange, total_below-constant}
+use Rattle.msp_class.proofs.Cases.{same_or_not}
+use Rattle.msp_class.proofs.Sums.{total_below-only, cond-le, AllPairs-contains, Contains-from_filter}
+use Rattle.msp_pieces.proofs.lists.Places.{total_below-within}
+use Rattle.msp_pieces.proofs.lists.Positions.{count_at_most_one}
+use Rattle.msp_class.proofs.IntegerRing.{natural, pos-le, le-pos, zero-le-pos, int_max-right}
 use Rattle.msp_instance.specs.declared.Need.{Need}
 use Rattle.msp_instance.specs.declared.Arc.{Arc}
 use Rattle.msp_instance.specs.declared.Instance.{Instance}
@@ -26,8 +27,8 @@ use Rattle.msp_instance.specs.Instance.{no_need, no_job, job_at, need_at, common
 use Rattle.msp_instance.specs.Conditions.{Limits, MeetsConditions, HasShape, HasTimes, IsJobOf, least_time}
 use Rattle.msp_pieces.specs.declared.Piece.{Piece}
 use Rattle.msp_pieces.specs.declared.Schedule.{Schedule}
-use Rattle.msp_pieces.specs.Piece.{length_of, pieces_of, IsApart, IsBefore}
-use Rattle.msp_pieces.specs.Feasible.{Feasible, HasPlace, HasOperation, MayRun, IsWholeWork, GetsWork}
+use Rattle.msp_pieces.specs.Piece.{no_piece, length_of, pieces_of, IsApart, IsBefore}
+use Rattle.msp_pieces.specs.Feasible.{Feasible, HasPlace, HasOperation, MayRun, IsWholeWork}
 use Rattle.msp_pieces.specs.Cost.{end_of}
 use Rattle.msp_pieces.proofs.feasible.OneMachine.{pieces_of-job, both_true}
 use Rattle.msp_slots.specs.Seating.{one_if, begin_at}
@@ -35,10 +36,6 @@ use Rattle.msp_slots.specs.Places.{ArePlaces, TakeCommonTime, EndAfterPlaces, La
 use Rattle.msp_slots.proofs.Seats.{begin_before, before_next}
 
 -- ---- numbers in use, from 0
-one_most : (b : Bool) → one_if b ≤ 1
-one_most true = omega arith
-one_most false = omega arith
-
 -- whether one of the first n jobs has the number, and how many lesser numbers are in use
 abbrev used : ℕ → (ℕ → ℕ) → ℕ → ℕ
 used n number y = one_if (ltb 0 (begin_at n number y))
@@ -62,22 +59,12 @@ is_used n number j l = one (begin_at n number (number j)) (omega (arith, total_b
     one : (a : ℕ) → 1 ≤ a → one_if (ltb 0 a) ≡ 1
     one a h = grind (arith, nat_tests)
 
-below_grows : (f : ℕ → ℕ) (k n : ℕ) → k ≤ n → total_below k f ≤ total_below n f
-below_grows f k zero h = subst (λ x. total_below x f ≤ total_below 0 f) (none k h) (omega arith)
-  where
-    none : (k : ℕ) → k ≤ 0 → 0 ≡ k
-    none k h = omega (arith, h)
-below_grows f k (suc n) h = elim (cases_lt k (suc n)) [
-  | inl less ↦ omega (arith, below_grows f k n (omega (arith, less)))
-  | inr more ↦ let e : suc n ≡ k = omega (arith, more, h) in subst (λ x. total_below x f ≤ total_below (suc n) f) e (omega arith)
-]
-
 module _ (n : ℕ) (number : ℕ → ℕ) where
   place_rises : (a b : ℕ) → a < n → number a < number b → place_of n number a < place_of n number b
-  place_rises a b l h = omega (arith, below_grows (used n number) (suc (number a)) (number b) (omega (arith, h)), is_used n number a l)
+  place_rises a b l h = omega (arith, total_below-within (used n number) (suc (number a)) (number b) (omega (arith, h)), is_used n number a l)
 
   place_no_later : (j : ℕ) → place_of n number j ≤ number j
-  place_no_later j = omega (arith, total_below-bound (number j) 1 (used n number) (λ y _. one_most (ltb 0 (begin_at n number y))))
+  place_no_later j = omega (arith, total_below-bound (number j) 1 (used n number) (λ y _. cond-le (ltb 0 (begin_at n number y)) 1))
 
   same_number : (a b : ℕ) → a < n → b < n → place_of n number a ≡ place_of n number b → number a ≡ number b
   same_number a b k l e = elim (cases_lt (number a) (number b)) [
@@ -87,12 +74,12 @@ module _ (n : ℕ) (number : ℕ → ℕ) where
 
   -- one job less than all has a lesser number
   not_all : (x : ℕ) (k : ℕ) → begin_before k number x ≤ k
-  not_all x k = omega (arith, total_below-bound k 1 (λ j. one_if (ltb (number j) x)) (λ j _. one_most (ltb (number j) x)))
+  not_all x k = omega (arith, total_below-bound k 1 (λ j. one_if (ltb (number j) x)) (λ j _. cond-le (ltb (number j) x) 1))
 
   less_than_all : (x j k : ℕ) → j < k → x ≤ number j → begin_before k number x < k
   less_than_all x j zero l h = absurd (omega (arith, l))
   less_than_all x j (suc k) l h = elim (cases_lt j k) [
-    | inl less ↦ omega (arith, less_than_all x j k less h, one_most (ltb (number k) x))
+    | inl less ↦ omega (arith, less_than_all x j k less h, cond-le (ltb (number k) x) 1)
     | inr more ↦ let e : k ≡ j = omega (arith, l, more) in omega (arith, not_all x k, none (number k) (omega (arith, ap number e, h)))
   ]
     where
@@ -103,23 +90,6 @@ module _ (n : ℕ) (number : ℕ → ℕ) where
   place_early j l = omega (arith, used_below n number (number j), less_than_all (number j) j n l (omega arith))
 
 -- ---- jobs of one number stand on different machines
-none_passes : (k : ℕ) (test : ℕ → Bool) → ((j : ℕ) → j < k → test j ≡ true → ⊥) → total_below k (λ j. one_if (test j)) ≡ 0
-none_passes k test h = total_below-none k (λ j. one_if (test j)) (λ j l. no (test j) (h j l))
-  where
-    no : (t : Bool) → (t ≡ true → ⊥) → one_if t ≡ 0
-    no false f = refl
-    no true f = absurd (f refl)
-
-one_more : (n : ℕ) (test : ℕ → Bool) → ((a b : ℕ) → a < suc n → b < suc n → test a ≡ true → test b ≡ true → a ≡ b)
-    → total_below n (λ j. one_if (test j)) ≤ 1 → (t : Bool) → test n ≡ t → total_below (suc n) (λ j. one_if (test j)) ≤ 1
-one_more n test h so_far false e = omega (arith, so_far, ap one_if e)
-one_more n test h so_far true e = omega (arith, ap one_if e, none_passes n test (λ j l yes. absurd (omega (arith, h j n (omega (arith, l)) (omega arith) yes e, l))))
-
--- where at most one passes
-pub one_passes : (n : ℕ) (test : ℕ → Bool) → ((a b : ℕ) → a < n → b < n → test a ≡ true → test b ≡ true → a ≡ b) → total_below n (λ j. one_if (test j)) ≤ 1
-one_passes zero test h = omega arith
-one_passes (suc n) test h = one_more n test h (one_passes n test (λ a b k l. h a b (omega (arith, k)) (omega (arith, l)))) (test n) refl
-
 abbrev pub at_value : (ℕ → Bool) → (ℕ → ℕ) → ℕ → ℕ → Bool
 at_value test value j y = cond (test j) (eqb (value j) y) false
 
@@ -146,15 +116,12 @@ injected n m test value inside once =
     )
   where
     column : (y : ℕ) → total_below n (λ j. one_if (at_value test value j y)) ≤ 1
-    column y = one_passes n (λ j. at_value test value j y) (λ a b k l s t.
+    column y = count_at_most_one n (λ j. at_value test value j y) (λ a b k l s t.
         let (p, q) = both_passed (test a) (eqb (value a) y) s in
         let (u, v) = both_passed (test b) (eqb (value b) y) t in
         once a b k l p u (eqb-true (value a) y q ∙ sym (eqb-true (value b) y v)))
 
 -- ---- the pieces of a schedule
-no_piece : Piece
-no_piece = record { job = 0; op = 0; machine = 0; from = pos 0; to = pos 0 }
-
 -- the numbers of pieces that are apart
 floor_apart : (d a b : ℕ) → 1 ≤ d → a + d ≤ b → a / d < b / d
 floor_apart d a b some h = omega (arith, (le-div_iff_mul-le {k = d} {x = a / d + 1} {y = b} some).1 (grow (a / d) (mul-div-le a d)))
@@ -164,13 +131,9 @@ floor_apart d a b some h = omega (arith, (le-div_iff_mul-le {k = d} {x = a / d +
 
 -- two pieces of a list are related one way or the other
 pair_of : (R : Piece → Piece → Type 0) (ps : List Piece) (p q : Piece) → AllPairs R ps → Contains ps p → Contains ps q → p.job ≢ q.job → R p q ⊎ R q p
-pair_of R ps p q h (a, k, e) (b, l, f) ne = elim (cases_lt a b) [
-  | inl less ↦ inl (subst₂ R (get_or_default ps a no_piece p k ∙ e) (get_or_default ps b no_piece q l ∙ f) (h a b no_piece less l))
-  | inr more ↦ elim (cases_lt b a) [
-    | inl less ↦ inr (subst₂ R (get_or_default ps b no_piece q l ∙ f) (get_or_default ps a no_piece p k ∙ e) (h b a no_piece less k))
-    | inr last ↦ let s : a ≡ b = omega (arith, more, last) in
-        absurd (ne (ap (λ x. x.job) (sym (get_or_default ps a no_piece p k ∙ e) ∙ ap (λ x. get_or ps x no_piece) s ∙ get_or_default ps b no_piece q l ∙ f)))
-  ]
+pair_of R ps p q h c d ne = elim (AllPairs-contains R ps p q h c d) [
+  | inl before ↦ inl before
+  | inr other ↦ elim other [ inl same ↦ absurd (ne (ap (λ x. x.job) same)) | inr after ↦ inr after ]
 ]
 
 -- a piece of a job, by its kind of machines
@@ -223,20 +186,11 @@ least_one k i t g needs (inr e) some shape times =
 when_false : (A B : Type 0) (t : Bool) → t ≡ false → MatchBool t A B → B
 when_false A B t e h = subst (λ t. MatchBool t A B) e h
 
-one_product : (a b : ℕ) → 1 ≤ a → 1 ≤ b → 1 ≤ a * b
-one_product a b h k = mul-pos h k
-
 ends_at : (from to unit : ℤ) (a u t : ℕ) → from ≡ pos a → unit ≡ pos u → to -ℤ from ≡ unit *ℤ pos t → to ≡ pos (a + u * t)
 ends_at from to unit a u t e f h = by (u * t) (h ∙ ap (λ x. x *ℤ pos t) f)
   where
     by : (w : ℕ) → to -ℤ from ≡ pos w → to ≡ pos (a + w)
     by w k = omega (arith, ints, e, k)
-
-pub cases_eq : (a b : ℕ) → (a ≡ b) ⊎ (a ≢ b)
-cases_eq a b = elim (cases_lt a b) [
-  | inl less ↦ inr (λ e. absurd (omega (arith, less, e)))
-  | inr more ↦ elim (cases_lt b a) [ inl less ↦ inr (λ e. absurd (omega (arith, less, e))) | inr last ↦ inl (omega (arith, more, last)) ]
-]
 
 -- a job that begins when so many times are over ends when one more is
 late : (p q u t a : ℕ) → p ≤ q → u * t * q ≤ a → u * (t * (p + 1)) ≤ a + u * t
@@ -300,7 +254,7 @@ module _ (l : Limits) (i : Instance) (s : Schedule) (kind : IsEither (kind_of i.
   long = unit * common_time i
 
   long_some : 1 ≤ long
-  long_some = one_product unit (common_time i) some_unit some_time
+  long_some = mul-pos some_unit some_time
 
   from_is : (j : ℕ) → j < n → (mine j).from ≡ pos (begin j)
   from_is j b = natural (mine j).from (All-contains (λ p. (pos 0 ≤ℤ p.from) × (p.from <ℤ p.to)) s.pieces (mine j) f.span (here j b).0).0
@@ -328,7 +282,7 @@ module _ (l : Limits) (i : Instance) (s : Schedule) (kind : IsEither (kind_of i.
   before a b k m h = floor_apart long (begin a) (begin b) long_some (le-pos (subst₂ (λ x y. x ≤ℤ y) (to_is a k) (from_is b m) h))
 
   alone : (a b : ℕ) → a < n → b < n → machine a ≡ machine b → number a ≡ number b → a ≡ b
-  alone a b k m e same = elim (cases_eq a b) [
+  alone a b k m e same = elim (same_or_not a b) [
     | inl is ↦ is
     | inr ne ↦ elim (pair_of (λ p q. p.machine ≡ q.machine → IsApart p q) s.pieces (mine a) (mine b) f.machine (here a k).0 (here b m).0 (λ z. ne (sym (of_job a k) ∙ z ∙ of_job b m))) [
       | inl apart ↦ never (apart e)

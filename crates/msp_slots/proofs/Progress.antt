@@ -1,38 +1,32 @@
 -- One slot more: what the pieces and the jobs that are left keep.
-use Rattle.std.proofs.Common.{◌≡◌, ◌≢◌, ℕ, zero, suc, ◌+◌, ◌<◌, ◌≤◌, ◌⊎◌, inl, inr, Bool, true, false, cond, List, [], ◌∷◌, ◌++◌, length, get_or, map, All, AllPairs, Contains}
+use Rattle.std.proofs.Common.{◌≡◌, ◌≢◌, ℕ, zero, suc, ◌+◌, ◌-◌, ◌<◌, ◌≤◌, ◌⊎◌, inl, inr, Bool, true, false, cond, List, [], ◌∷◌, ◌++◌, length, get_or, map, All, AllPairs, Contains}
 use Rattle.std.proofs.Common.{IsPermutation, refl, sym, ap, ap₂, subst, subst₂, ◌∙◌, arith, append_assoc}
 use Rattle.std.specs.Prelude.{◌==◌, ◌&&◌}
 use Rattle.std.specs.List.{list_any, range_with_len}
 use Rattle.std.proofs.lemmas.Bool.{cases_Bool, cases_lt, eqb-true, eq-eqb, false≢true}
-use Rattle.std.proofs.lemmas.List.{append-nil, length-append, length-map, map-append, get_or-map, get_or_default, get_or_append_left, get_or-append-add}
-use Rattle.std.proofs.lemmas.List.Elements.{All-head, All-tail, All-append, All-map, All-contains, Contains-get_or, Contains-append_left, Contains-append_right, Contains-append_cases}
+use Rattle.std.proofs.lemmas.List.{length-append, map-append, get_or_append_left, get_or-append-add}
+use Rattle.std.proofs.lemmas.List.Elements.{All-append, All-map, All-contains, Contains-get_or, Contains-append_left, Contains-append_right, Contains-append_cases}
 use Rattle.std.proofs.lemmas.List.Folds.{Any-from_list_any, list_any_at}
-use Rattle.std.proofs.lemmas.List.Kept.{AllPairs-cons}
-use Rattle.std.proofs.lemmas.List.Sorted.{All-permutation, Contains-permutation, length_permutation, IsPermutation-sym, IsPermutation-trans, IsPermutation-append_right}
-use Rattle.msp_class.specs.declared.sizes.TheConstants.{MOST_JOBS}
-use Rattle.msp_class.proofs.Sums.{AllPairs-head, AllPairs-tail, OnceBelow-from_permutation, OnceBelow-distinct, OnceBelow-contains, length-OnceBelow}
+use Rattle.std.proofs.lemmas.List.Sorted.{Contains-permutation, length_permutation, IsPermutation-sym, IsPermutation-trans, IsPermutation-append_right}
+use Rattle.msp_class.proofs.Sums.{OnceBelow-from_permutation, OnceBelow-distinct, OnceBelow-contains}
 use Rattle.msp_instance.specs.declared.Arc.{Arc}
 use Rattle.msp_instance.specs.declared.Instance.{Instance}
 use Rattle.msp_instance.specs.Conditions.{IsAcyclic, Inner}
 use Rattle.msp_instance.proofs.ListingLemmas.{list_any-from_Contains, Contains-from_list_any}
 use Rattle.msp_pieces.specs.declared.Piece.{Piece}
-use Rattle.msp_pieces.proofs.lists.Parts.{All-back, AllPairs-front, AllPairs-back}
+use Rattle.msp_pieces.proofs.lists.Intervals.{greatest_by, greatest_by-contains, greatest_by-reached}
+use Rattle.msp_pieces.proofs.lists.Parts.{AllPairs-front, AllPairs-back}
+use Rattle.msp_pieces.proofs.feasible.Series.{AllPairs-append}
 use Rattle.msp_pieces.proofs.feasible.OneMachine.{both_true}
 use Rattle.msp_pieces.proofs.bounds.Certified.{place_in, place_in-is, ranked}
 use Rattle.msp_slots.specs.Pieces.{piece_at}
-use Rattle.msp_slots.specs.ListSchedule.{StandsBefore, RunsAhead, WaitsForJob, IsListSchedule}
+use Rattle.msp_slots.specs.ListSchedule.{StandsBefore, RunsAhead, WaitsForJob}
 use Rattle.msp_slots.specs.Steps.{is_blocked, IsSlot, seats, IsUnderWay}
-use Rattle.msp_slots.proofs.SlotSteps.{IsSlot-arcs}
 
 -- ---- what stands before what
 -- in a list whose members are in the order of another, what stands before stands before there
 pub stands-in : (R : ℕ → ℕ → Type 0) (xs : List ℕ) (a b : ℕ) → AllPairs R xs → StandsBefore xs a b → R a b
 stands-in R xs a b h (p, q, less, inside, e, f) = subst₂ R e f (h p q 0 less inside)
-
-AllPairs-append : {X : Type 0} (R : X → X → Type 0) (xs ys : List X) → AllPairs R xs → AllPairs R ys → All (λ x. All (R x) ys) xs → AllPairs R (xs ++ ys)
-AllPairs-append R [] ys h g c = g
-AllPairs-append R (x ∷ xs) ys h g c = AllPairs-cons R x (xs ++ ys) (All-append (R x) xs ys (AllPairs-head R x xs h) (All-head (λ x. All (R x) ys) x xs c))
-    (AllPairs-append R xs ys (AllPairs-tail R x xs h) g (All-tail (λ x. All (R x) ys) x xs c))
 
 -- ---- the pieces of a slot, by places
 length-seats : (moment machine : ℕ) (js : List ℕ) → length (seats moment machine js) ≡ length js
@@ -53,6 +47,9 @@ pub record IsOrdered (i : Instance) : Type 0 where
   pub ends : All (λ a. (a.before < length i.jobs) × (a.after < length i.jobs)) i.arcs
   pub acyclic : IsAcyclic i
   pub some : 1 ≤ i.machines
+
+pub IsOrdered-from : (i : Instance) → Inner i → IsOrdered i
+IsOrdered-from i h = record { ends = h.conditions.ends; acyclic = h.acyclic; some = h.conditions.machines.0 }
 
 -- why a job is blocked
 blocker : (arcs : List Arc) (left : List ℕ) (j : ℕ) → is_blocked arcs left j ≡ true → (a : Arc) × Contains arcs a × (a.after ≡ j) × Contains left a.before
@@ -120,25 +117,10 @@ module _ (i : Instance) (order : List ℕ) (t : IsOrdered i) (moment : ℕ) (pie
       ]
     where
       first_by : (f : ℕ → ℕ) (xs : List ℕ) → 0 < length xs → (x : ℕ) × Contains xs x × ((y : ℕ) → Contains xs y → f x ≤ f y)
-      first_by f [] l = absurd (omega (arith, l))
-      first_by f (x ∷ []) l = (x, (0, omega arith, refl), λ y c. only y c)
-        where
-          only : (y : ℕ) → Contains (x ∷ []) y → f x ≤ f y
-          only y (zero, b, e) = omega (arith, ap f e)
-          only y (suc k, b, e) = absurd (omega (arith, b))
-      first_by f (x ∷ z ∷ xs) l =
-          let (y, c, least) = first_by f (z ∷ xs) (omega arith) in
-          elim (cases_lt (f x) (f y)) [
-            | inl less ↦ (x, (0, omega arith, refl), λ w d. both w d (λ c. omega (arith, less, least w c)) (λ e. omega (arith, ap f e)))
-            | inr more ↦ (y, further y c, λ w d. both w d (least w) (λ e. omega (arith, more, ap f e)))
-          ]
-        where
-          further : (y : ℕ) → Contains (z ∷ xs) y → Contains (x ∷ z ∷ xs) y
-          further y (k, b, e) = (suc k, omega (arith, b), e)
-
-          both : {Q : Type 0} (w : ℕ) → Contains (x ∷ z ∷ xs) w → (Contains (z ∷ xs) w → Q) → (x ≡ w → Q) → Q
-          both w (zero, b, e) g h = h e
-          both w (suc k, b, e) g h = g (k, omega (arith, b), e)
+      first_by f xs l =
+          let g : ℕ → ℕ = λ x. greatest_by f xs - f x in
+          let (x, c, e) = greatest_by-reached g xs l in
+          (x, c, λ y d. omega (arith, e, greatest_by-contains g xs y d, greatest_by-contains f xs y d, greatest_by-contains f xs x c))
 
   pub fewer : 0 < length left → length rest < length left
   fewer some = omega (arith, size, some_taken some)
@@ -355,108 +337,3 @@ module _ (i : Instance) (order : List ℕ) (t : IsOrdered i) (moment : ℕ) (pie
     machines = machines;
     soon = omega (arith, u.soon, size, some_taken some);
   }
-
--- ---- the start and the end
-pub IsUnderWay-start : (i : Instance) (order : List ℕ) → IsOrdered i → IsPermutation (range_with_len 0 (length i.jobs)) order → IsUnderWay i order 0 [] order
-IsUnderWay-start i order t all = record {
-  begin = λ _. 0;
-  machine = λ _. 0;
-  all = all;
-  ordered = λ a b d l k. (a, b, l, k, get_or_default order a 0 d (omega (arith, l, k)), get_or_default order b 0 d k);
-  each = λ k d l. absurd (omega (arith, l));
-  early = λ k d l. absurd (omega (arith, l));
-  now = λ k d l. refl;
-  inside = λ k d l. absurd (omega (arith, l));
-  sorted = λ a b d l k. absurd (omega (arith, k));
-  forward = λ x d l. inl (OnceBelow-contains (OnceBelow-from_permutation all) (get_or i.arcs x d).after (t.ends x d l).1);
-  closed = λ x d l c. OnceBelow-contains (OnceBelow-from_permutation all) (get_or i.arcs x d).after (t.ends x d l).1;
-  waits = λ j x l less. absurd (omega (arith, less));
-  machines = λ k d l. absurd (omega (arith, l));
-  soon = omega (arith, length-OnceBelow (OnceBelow-from_permutation all));
-}
-
-pub left_inside : (i : Instance) (order : List ℕ) (moment : ℕ) (pieces : List Piece) (left : List ℕ) → IsUnderWay i order moment pieces left → All (λ j. j < length i.jobs) left
-left_inside i order moment pieces left u = All-back (λ j. j < length i.jobs) (map (λ p. p.job) pieces) left (OnceBelow-from_permutation u.all).within
-
-module _ (i : Instance) (order : List ℕ) (moment : ℕ) (pieces : List Piece) (u : IsUnderWay i order moment pieces []) where
-  jobs : IsPermutation (range_with_len 0 (length i.jobs)) (map (λ p. p.job) pieces)
-  jobs = subst (IsPermutation (range_with_len 0 (length i.jobs))) (append-nil (map (λ p. p.job) pieces)) u.all
-
-  by_job : (P : ℕ → Type 0) → All (λ p. P p.job) pieces → (j : ℕ) → j < length i.jobs → P j
-  by_job P h j l = All-contains P (map (λ p. p.job) pieces) j (All-map P (λ p. p.job) pieces h) (OnceBelow-contains (OnceBelow-from_permutation jobs) j l)
-
-  abbrev Sorted : ℕ → ℕ → Type 0
-  Sorted j k = (u.begin j < u.begin k) ⊎ ((u.begin j ≡ u.begin k) × (u.machine j < u.machine k))
-
-  jobs_sorted : AllPairs Sorted (map (λ p. p.job) pieces)
-  jobs_sorted a b d l k =
-      let p = piece_at 0 0 0 in
-      let kb : b < length pieces = omega (arith, k, length-map pieces (λ p. p.job)) in
-      subst₂ Sorted (sym (get_or-map (λ p. p.job) pieces a p d (omega (arith, l, kb)))) (sym (get_or-map (λ p. p.job) pieces b p d kb)) (u.sorted a b p l kb)
-
-  never : (j k : ℕ) → Sorted j k → u.begin j ≡ u.begin k → u.machine j ≡ u.machine k → ⊥
-  never j k (inl less) e f = absurd (omega (arith, less, e))
-  never j k (inr same) e f = absurd (omega (arith, same.1, f))
-
-  apart : (j k : ℕ) → j < length i.jobs → k < length i.jobs → u.begin j ≡ u.begin k → u.machine j ≡ u.machine k → j ≡ k
-  apart j k l m e f =
-      let (a, la, ea) = OnceBelow-contains (OnceBelow-from_permutation jobs) j l in
-      let (b, lb, eb) = OnceBelow-contains (OnceBelow-from_permutation jobs) k m in
-      let at_a = get_or_default (map (λ p. p.job) pieces) a 0 j la ∙ ea in
-      let at_b = get_or_default (map (λ p. p.job) pieces) b 0 k lb ∙ eb in
-      elim (cases_lt a b) [
-        | inl less ↦ absurd (never j k (subst₂ Sorted at_a at_b (jobs_sorted a b 0 less lb)) e f)
-        | inr more ↦ elim (cases_lt b a) [
-          | inl less ↦ absurd (never k j (subst₂ Sorted at_b at_a (jobs_sorted b a 0 less la)) (sym e) (sym f))
-          | inr last ↦ let same : a ≡ b = omega (arith, more, last) in sym at_a ∙ ap (λ x. get_or (map (λ p. p.job) pieces) x 0) same ∙ at_b
-        ]
-      ]
-
-  pub IsListSchedule-from : IsListSchedule i order pieces
-  IsListSchedule-from = record {
-    begin = u.begin;
-    machine = u.machine;
-    runs = record {
-      forward = λ x d l. elim (u.forward x d l) [ inl c ↦ absurd (omega (arith, c.1)) | inr less ↦ less ];
-      inside = by_job (λ j. u.machine j < i.machines) u.inside;
-      apart = apart;
-      waits = u.waits;
-      machines = λ j m l. by_job (λ j. (m : ℕ) → m < u.machine j → RunsAhead i order u.begin u.machine (u.begin j) m j) u.machines j l m;
-    };
-    all = jobs;
-    each = u.each;
-    sorted = u.sorted;
-    soon = λ k d l. omega (arith, u.early k d l, u.soon);
-  }
-
--- ---- at the numbers as the code passes them
-pub IsOrdered-from : (i : Instance) → Inner i → IsOrdered i
-IsOrdered-from i h = record { ends = h.conditions.ends; acyclic = h.acyclic; some = h.conditions.machines.0 }
-
-module _ (i : Instance) (order : List ℕ) (t : IsOrdered i) (moment : ℕ) (pieces new : List Piece)
-    (left shown taken passed rest : List ℕ) (sorted : List Arc) (e : IsPermutation i.arcs sorted) (f : shown ≡ left) (g : passed ≡ taken)
-    (s : IsSlot shown (is_blocked sorted shown) i.machines taken rest) (some_left : 0 < length left) (u : IsUnderWay i order moment pieces left) where
-  here : IsSlot left (is_blocked i.arcs left) i.machines taken rest
-  here = IsSlot-arcs i.arcs sorted left i.machines taken rest e (subst (λ l. IsSlot l (is_blocked sorted l) i.machines taken rest) f s)
-
-  pub slot_smaller : length rest < length left
-  slot_smaller = fewer i order t moment pieces left taken rest u here some_left
-
-  pub slot_done : new ≡ pieces ++ seats moment 0 passed → IsUnderWay i order (moment + 1) new rest
-  slot_done n = subst (λ ps. IsUnderWay i order (moment + 1) ps rest)
-      (ap (λ js. pieces ++ seats moment 0 js) (sym g) ∙ sym n) (IsUnderWay-next i order t moment pieces left taken rest u here some_left)
-
-pub inside_shown : (i : Instance) (order : List ℕ) (moment : ℕ) (pieces : List Piece) (left shown : List ℕ)
-    → length i.jobs ≤ MOST_JOBS → shown ≡ left → IsUnderWay i order moment pieces left → All (λ j. j < MOST_JOBS) shown
-inside_shown i order moment pieces left shown few e u = subst (All (λ j. j < MOST_JOBS)) (sym e) (λ k d l. omega (arith, left_inside i order moment pieces left u k d l, few))
-
-pub ends_sorted : (i : Instance) (sorted : List Arc) → Inner i → IsPermutation i.arcs sorted → All (λ a. (a.before < MOST_JOBS) × (a.after < MOST_JOBS)) sorted
-ends_sorted i sorted h e = All-permutation (λ a. (a.before < MOST_JOBS) × (a.after < MOST_JOBS))
-    i.arcs sorted e (λ k d l. (omega (arith, (h.conditions.ends k d l).0, h.conditions.few), omega (arith, (h.conditions.ends k d l).1, h.conditions.few)))
-
-pub start_at : (i : Instance) (order : List ℕ) (pieces : List Piece) → IsOrdered i → pieces ≡ [] → IsPermutation (range_with_len 0 (length i.jobs)) order → IsUnderWay i order 0 pieces order
-start_at i order pieces t e h = subst (λ ps. IsUnderWay i order 0 ps order) (sym e) (IsUnderWay-start i order t h)
-
-pub done_at : (i : Instance) (order : List ℕ) (moment : ℕ) (pieces : List Piece) (left : List ℕ) → length left ≡ 0 → IsUnderWay i order moment pieces left → IsListSchedule i order pieces
-done_at i order moment pieces [] e u = IsListSchedule-from i order moment pieces u
-done_at i order moment pieces (x ∷ left) e u = absurd (omega (arith, e))

@@ -4,9 +4,10 @@ use Rattle.std.proofs.Common.{◌≡◌, ◌≢◌, ℕ, zero, suc, ◌+◌, ◌
 use Rattle.std.proofs.lemmas.Bool.{cases_lt, eqb-true, eqb-false, eq-eqb, ne_eqb}
 use Rattle.std.proofs.lemmas.Bool.Decides.{nat_tests}
 use Rattle.msp_pieces.proofs.lists.Places.{total_below-within}
+use Rattle.msp_pieces.proofs.lists.Positions.{count_at_most_one}
 use Rattle.msp_slots.specs.Seating.{one_if, begin_at, IsSeated, IsTight, Rises}
 use Rattle.msp_class.specs.Sums.{total_below}
-use Rattle.msp_class.proofs.Sums.{total_below-mono, total_below-same, total_below-add, total_below-none, total_below-bound, total_below-constant, total_below-split}
+use Rattle.msp_class.proofs.Sums.{total_below-mono, total_below-same, total_below-add, total_below-none, total_below-bound, total_below-constant, total_below-split, cond-le}
 
 -- ---- numbers below n
 -- the first that serves, or that all serve otherwise
@@ -42,23 +43,8 @@ total_below-changed (suc n) f g j l same = elim (cases_lt j n) [
 ]
 
 -- ---- begins that differ are one at a time
-module _ (n : ℕ) (begin : ℕ → ℕ) (x : ℕ) (apart : (a b : ℕ) → a < suc n → b < suc n → begin a ≡ begin b → a ≡ b) where
-  other : begin n ≡ x → (j : ℕ) → j < n → one_if (eqb (begin j) x) ≡ 0
-  other e j l = ap one_if (ne_eqb (begin j) x (λ f. differ (apart j n (omega (arith, l)) (omega arith) (f ∙ sym e))))
-    where
-      differ : j ≡ n → ⊥
-      differ e = omega (arith, l, e)
-
-  one_more : begin_at n begin x ≤ 1 → begin_at (suc n) begin x ≤ 1
-  one_more rest = by (eqb (begin n) x) refl
-    where
-      by : (b : Bool) → eqb (begin n) x ≡ b → begin_at (suc n) begin x ≤ 1
-      by true e = omega (arith, ap one_if e, total_below-none n (λ j. one_if (eqb (begin j) x)) (other (eqb-true (begin n) x e)))
-      by false e = omega (arith, ap one_if e, rest)
-
 pub one_at_most : (n : ℕ) (begin : ℕ → ℕ) (x : ℕ) → ((a b : ℕ) → a < n → b < n → begin a ≡ begin b → a ≡ b) → begin_at n begin x ≤ 1
-one_at_most zero begin x apart = omega arith
-one_at_most (suc n) begin x apart = one_more n begin x apart (one_at_most n begin x (λ a b l k. apart a b (omega (arith, l)) (omega (arith, k))))
+one_at_most n begin x apart = count_at_most_one n (λ j. eqb (begin j) x) (λ a b k l s t. apart a b k l (eqb-true (begin a) x s ∙ sym (eqb-true (begin b) x t)))
 
 -- ---- how many jobs of the first n begin before the moment, and are released by it
 abbrev pub begin_before : ℕ → (ℕ → ℕ) → ℕ → ℕ
@@ -87,11 +73,7 @@ before_mono n begin x y h = total_below-mono n (λ j. one_if (ltb (begin j) x)) 
     one a = grind (arith, nat_tests)
 
 before_most : (n : ℕ) (begin : ℕ → ℕ) (x : ℕ) → begin_before n begin x ≤ n
-before_most n begin x = omega (arith, total_below-bound n 1 (λ j. one_if (ltb (begin j) x)) (λ j l. one (ltb (begin j) x)))
-  where
-    one : (b : Bool) → one_if b ≤ 1
-    one true = omega arith
-    one false = omega arith
+before_most n begin x = omega (arith, total_below-bound n 1 (λ j. one_if (ltb (begin j) x)) (λ j l. cond-le (ltb (begin j) x) 1))
 
 -- ---- tight: how many begin before a moment is determined by the release dates
 before_step : (n m : ℕ) (release begin : ℕ → ℕ) → IsSeated n m release begin → IsTight n m release begin → (x : ℕ)
@@ -133,10 +115,7 @@ before_same n m release begin heads start a b c d same (suc x) =
     next x = omega arith
 
     both : (k l k' l' r r' : ℕ) → k ≡ l → r ≡ r' → k' ≤ r → k' ≤ k + m → (k' ≡ r) ⊎ (k' ≡ k + m) → l' ≤ r' → l' ≤ l + m → (l' ≡ r') ⊎ (l' ≡ l + m) → k' ≡ l'
-    both k l k' l' r r' e f g h (inl s) i j (inl t) = omega (arith, e, f, g, h, s, i, j, t)
-    both k l k' l' r r' e f g h (inr s) i j (inl t) = omega (arith, e, f, g, h, s, i, j, t)
-    both k l k' l' r r' e f g h (inl s) i j (inr t) = omega (arith, e, f, g, h, s, i, j, t)
-    both k l k' l' r r' e f g h (inr s) i j (inr t) = omega (arith, e, f, g, h, s, i, j, t)
+    both k l k' l' r r' e f g h s i j t = grind arith
 
 -- ---- tighten: jobs that can, begin earlier
 abbrev moved : (ℕ → ℕ) → ℕ → ℕ → ℕ → ℕ

@@ -27,7 +27,7 @@ use Rattle.msp_route.proofs.OneEach.{one_each_is_answer}
 use Rattle.msp_threshold.specs.Squeezed.{greatest_bound, AreKept, HasTime, squeezed_by, CanMeet, CanBeFree}
 use Rattle.msp_threshold.specs.Search.{IsLowest, number_of, pieces_back}
 use Rattle.msp_route.specs.Halving.{IsLeastBound, IsRange}
-use Rattle.msp_threshold.proofs.Facts.{IsLatenessShop}
+use Rattle.msp_threshold.proofs.Facts.{IsLatenessShop, fits, fits_wide}
 use Rattle.msp_threshold.proofs.Meeting.{own_cost, meets_moments, moments_below}
 use Rattle.msp_threshold.proofs.Law.{free_if_met}
 use Rattle.msp_threshold.proofs.BackMeets.{back_each, back_feasible, back_meets, back_inside, time_if_met}
@@ -56,9 +56,6 @@ pub record IsLowestSoFar (jobs : List Job) (k : ℕ) (lowest : ℤ) : Type 0 whe
 lateness_small : (x d : ℤ) (r : ℕ) → x ≡ pos (r + 1) -ℤ d → r ≤ 2 * GREATEST → LiesWithin (2 * GREATEST) d → LiesWithin (4 * GREATEST + 1) x
 lateness_small x d r e h w = (omega (arith, ints, e, h, w.1), omega (arith, ints, e, h, w.0))
 
-small_fits : (x : ℤ) → LiesWithin (4 * GREATEST + 1) x → FitsSigned w64 x
-small_fits x h = omega (arith, ints, h.0, h.1)
-
 module _ (jobs : List Job) (released : All (λ j. j.release ≤ 2 * GREATEST) jobs) (dues : All (λ j. LiesWithin (2 * GREATEST) j.due) jobs)
     (k : ℕ) (j : Job) (x : ℤ) (inside : k < length jobs) (at : j ≡ get_or jobs k j) (e : x ≡ pos (j.release + 1) -ℤ j.due) where
   here : (P : Job → Type 0) → All P jobs → P j
@@ -68,7 +65,7 @@ module _ (jobs : List Job) (released : All (λ j. j.release ≤ 2 * GREATEST) jo
   small = lateness_small x j.due j.release e (here (λ j. j.release ≤ 2 * GREATEST) released) (here (λ j. LiesWithin (2 * GREATEST) j.due) dues)
 
   is : to_z w64 (of_z w64 x) ≡ x
-  is = to_z-of_z w64 x (small_fits x small)
+  is = to_z-of_z w64 x (fits (4 * GREATEST + 1) x (omega arith) small)
 
   pub lowest-start : IsLowestSoFar jobs 0 (to_z w64 (of_z w64 x))
   lowest-start = subst (IsLowestSoFar jobs 0) (sym is) (record {
@@ -78,7 +75,7 @@ module _ (jobs : List Job) (released : All (λ j. j.release ≤ 2 * GREATEST) jo
   })
 
   pub lowest-next : (old a b new : ℤ) → a ≡ old → b ≡ to_z w64 (of_z w64 x) → new ≡ int_max a b → IsLowestSoFar jobs k old → IsLowestSoFar jobs (k + 1) (to_z w64 (of_z w64 new))
-  lowest-next old a b new f g m h = subst (IsLowestSoFar jobs (k + 1)) (sym (to_z-of_z w64 new (small_fits new size))) (record {
+  lowest-next old a b new f g m h = subst (IsLowestSoFar jobs (k + 1)) (sym (to_z-of_z w64 new (fits (4 * GREATEST + 1) new (omega arith) size))) (record {
     time = subst (All (HasTime new)) (sym (take_more jobs k j inside ∙ ap (λ y. take k jobs ++ y ∷ []) (sym at)))
         (All-push (HasTime new) (take k jobs) j (has_time-more old new (take k jobs) (subst (λ z. old ≤ℤ z) (sym is_max) (≤ℤ-int_max_left old x)) h.time)
         (has_time-here new x j e (subst (λ z. x ≤ℤ z) (sym is_max) (≤ℤ-int_max_right old x))));
@@ -195,31 +192,13 @@ some_value P Q o a e h = subst (λ o. MatchOption o P Q) e h
 
 -- a small bound of 128 bits is one of 64
 pub narrow_is : (x : ℤ) → LiesWithin greatest_bound x → to_z w64 (of_z w64 (to_z w128 (of_z w128 x))) ≡ x
-narrow_is x h = ap (λ y. to_z w64 (of_z w64 y)) (to_z-of_z w128 x (wide x h)) ∙ to_z-of_z w64 x (narrow x h)
-  where
-    wide : (x : ℤ) → LiesWithin greatest_bound x → FitsSigned w128 x
-    wide x h = omega (arith, ints, h.0, h.1)
-
-    narrow : (x : ℤ) → LiesWithin greatest_bound x → FitsSigned w64 x
-    narrow x h = omega (arith, ints, h.0, h.1)
+narrow_is x h = ap (λ y. to_z w64 (of_z w64 y)) (to_z-of_z w128 x (fits_wide greatest_bound x (omega arith) h)) ∙ to_z-of_z w64 x (fits greatest_bound x (omega arith) h)
 
 pub range_at : (i : Instance) → IsLatenessShop i → (jobs : List Job) (low high wide_low wide_high : ℤ) → jobs ≡ i.jobs → wide_low ≡ to_z w64 (of_z w64 low) → wide_high ≡ to_z w64 (of_z w64 high)
     → IsLowest jobs low → LiesWithin (4 * GREATEST + 1) low → CanMeet i high → LiesWithin (5 * GREATEST) high
     → IsRange (CanMeet i) greatest_bound (record { low = to_z w128 (of_z w128 wide_low); high = to_z w128 (of_z w128 wide_high) })
 range_at i t jobs low high wide_low wide_high e f g lowest size met small =
     subst₂ (λ x y. IsRange (CanMeet i) greatest_bound (record { low = x; high = y }))
-    (sym (ap (λ x. to_z w128 (of_z w128 x)) (f ∙ to_z-of_z w64 low (low_fits low size)) ∙ to_z-of_z w128 low (low_wide low size)))
-    (sym (ap (λ x. to_z w128 (of_z w128 x)) (g ∙ to_z-of_z w64 high (met_fits high small)) ∙ to_z-of_z w128 high (met_wide high small)))
+    (sym (ap (λ x. to_z w128 (of_z w128 x)) (f ∙ to_z-of_z w64 low (fits (4 * GREATEST + 1) low (omega arith) size)) ∙ to_z-of_z w128 low (fits_wide (4 * GREATEST + 1) low (omega arith) size)))
+    (sym (ap (λ x. to_z w128 (of_z w128 x)) (g ∙ to_z-of_z w64 high (fits (5 * GREATEST) high (omega arith) small)) ∙ to_z-of_z w128 high (fits_wide (5 * GREATEST) high (omega arith) small)))
     (first_range i t low high (subst (λ js. IsLowest js low) e lowest) size met small)
-  where
-    low_fits : (x : ℤ) → LiesWithin (4 * GREATEST + 1) x → FitsSigned w64 x
-    low_fits x h = omega (arith, ints, h.0, h.1)
-
-    low_wide : (x : ℤ) → LiesWithin (4 * GREATEST + 1) x → FitsSigned w128 x
-    low_wide x h = omega (arith, ints, h.0, h.1)
-
-    met_fits : (x : ℤ) → LiesWithin (5 * GREATEST) x → FitsSigned w64 x
-    met_fits x h = omega (arith, ints, h.0, h.1)
-
-    met_wide : (x : ℤ) → LiesWithin (5 * GREATEST) x → FitsSigned w128 x
-    met_wide x h = omega (arith, ints, h.0, h.1)

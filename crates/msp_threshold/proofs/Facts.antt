@@ -1,7 +1,7 @@
 -- What an instance of unit jobs by lateness has, and the instance squeezed to some moments.
 use Rattle.std.proofs.Common.{◌≡◌, ℕ, ◌+◌, ◌*◌, ◌<◌, ◌≤◌, ltb, List, length, get_or, All, ℤ, pos, ◌+ℤ◌, ◌≤ℤ◌, FitsSigned, to_z, of_z, refl, sym, ap, ap₂, ◌∙◌, arith}
 use Rattle.std.specs.Prelude.{int_le}
-use Rattle.std.specs.Int.{w64}
+use Rattle.std.specs.Int.{w64, w128}
 use Rattle.std.proofs.lemmas.Int.{ints, to_z-of_z}
 use Rattle.msp_class.specs.declared.environments.EnvKind.TheVariants.{Identical}
 use Rattle.std.proofs.lemmas.List.{length-map}
@@ -10,11 +10,11 @@ use Rattle.msp_class.specs.declared.sizes.TheConstants.{MOST_JOBS, GREATEST}
 use Rattle.msp_class.proofs.IntegerRing.{pos-le, zero-le-pos}
 use Rattle.msp_instance.specs.declared.Job.{Job}
 use Rattle.msp_instance.specs.declared.Instance.{Instance}
-use Rattle.msp_instance.specs.Instance.{no_need, no_job, job_at, need_at}
+use Rattle.msp_instance.specs.Instance.{no_need, job_at}
 use Rattle.msp_instance.specs.Conditions.{LiesWithin, IsJobOf, Inner, InClass, text_limits, inner_limits}
 use Rattle.msp_pieces.proofs.feasible.OfClass.{IsOfClass, IsOfClass-from}
 use Rattle.msp_pieces.proofs.feasible.Frames.{job_at-map}
-use Rattle.msp_slots.proofs.UnitPieces.{HasUnitJobs}
+use Rattle.msp_slots.proofs.UnitPieces.{HasUnitJobs, HasUnitJobs-from}
 use Rattle.msp_threshold.specs.Squeezed.{lateness_class, greatest_bound, squeezed_release, squeezed_due, squeezed_job, squeezed_by}
 use Rattle.msp_threshold.proofs.Rising.{count_by-most}
 
@@ -25,11 +25,8 @@ pub IsLatenessShop-from : (i : Instance) → i.class ≡ lateness_class → Inne
 IsLatenessShop-from i e h = IsOfClass-from i lateness_class e h
 
 module _ (i : Instance) (t : IsLatenessShop i) where
-  ones : (j : ℕ) → j < length i.jobs → (need_at i j 0).time ≡ 1
-  ones j b = let job = t.jobs j no_job b in job.times 0 no_need (omega (arith, job.needs.shape.0))
-
   pub unit_jobs : HasUnitJobs i
-  unit_jobs = record { kind = t.kind; cut = t.cut; few = t.few; ones = ones }
+  unit_jobs = HasUnitJobs-from i _ _ _ _ refl t
 
   pub release_small : All (λ j. j.release ≤ 2 * GREATEST) i.jobs
   release_small k d l = (t.jobs k d l).release
@@ -59,7 +56,7 @@ module _ (i : Instance) (t : IsLatenessShop i) where
       kind = refl;
       cut = refl;
       few = omega (arith, many, t.few);
-      ones = λ j b. let l : j < length i.jobs = omega (arith, b, many) in ap (λ a. (get_or a.needs 0 no_need).time) (lower_job j l) ∙ ones j l;
+      ones = λ j b. let l : j < length i.jobs = omega (arith, b, many) in ap (λ a. (get_or a.needs 0 no_need).time) (lower_job j l) ∙ unit_jobs.ones j l;
     }
 
     own : length kept ≤ MOST_JOBS → (a : Job) → IsJobOf (inner_limits Identical) (record i { class = lateness_class }) a → IsJobOf text_limits lower (squeezed_job kept bound a)
@@ -101,25 +98,26 @@ module _ (i : Instance) (t : IsLatenessShop i) where
           pos-le (omega (arith, count_by-most (λ x. int_le (pos (x + 1)) (a.due +ℤ bound)) kept, few)),
         ))
 
+-- ---- small numbers fit
+pub fits : (n : ℕ) (x : ℤ) → n ≤ 10 * GREATEST → LiesWithin n x → FitsSigned w64 x
+fits n x l h = omega (arith, ints, l, h.0, h.1)
+
+pub fits_wide : (n : ℕ) (x : ℤ) → n ≤ 10 * GREATEST → LiesWithin n x → FitsSigned w128 x
+fits_wide n x l h = omega (arith, ints, l, h.0, h.1)
+
 -- ---- one job, as the code changes it
 pub squeeze_is : (kept : List ℕ) (bound d : ℤ) (j : Job) (r : ℕ) (x : ℤ) → length kept ≤ MOST_JOBS → LiesWithin (2 * GREATEST) j.due → LiesWithin greatest_bound bound
     → r ≡ squeezed_release kept j.release → d ≡ pos (squeezed_due kept x) → x ≡ to_z w64 (of_z w64 (to_z w64 (of_z w64 j.due) +ℤ to_z w64 (of_z w64 bound)))
     → record j { release = r; due = to_z w64 (of_z w64 d) } ≡ squeezed_job kept bound j
 squeeze_is kept bound d j r x few w b e f g = ap₂ (λ y z. record j { release = y; due = z }) e
-    (to_z-of_z w64 d (fits d (squeezed_due kept x) f (omega (arith, few, count_by-most (λ y. int_le (pos (y + 1)) x) kept))) ∙ f ∙ ap (λ y. pos (squeezed_due kept y)) (g ∙ sum))
+    (to_z-of_z w64 d (counted d (squeezed_due kept x) f (omega (arith, few, count_by-most (λ y. int_le (pos (y + 1)) x) kept))) ∙ f ∙ ap (λ y. pos (squeezed_due kept y)) (g ∙ sum))
   where
-    fits : (d : ℤ) (n : ℕ) → d ≡ pos n → n ≤ MOST_JOBS → FitsSigned w64 d
-    fits d n e l = omega (arith, ints, e, l)
-
-    due_fits : (x : ℤ) → LiesWithin (2 * GREATEST) x → FitsSigned w64 x
-    due_fits x h = omega (arith, ints, h.0, h.1)
-
-    bound_fits : (x : ℤ) → LiesWithin greatest_bound x → FitsSigned w64 x
-    bound_fits x h = omega (arith, ints, h.0, h.1)
+    counted : (d : ℤ) (n : ℕ) → d ≡ pos n → n ≤ MOST_JOBS → FitsSigned w64 d
+    counted d n e l = omega (arith, ints, e, l)
 
     both_fit : (x y : ℤ) → LiesWithin (2 * GREATEST) x → LiesWithin greatest_bound y → FitsSigned w64 (x +ℤ y)
     both_fit x y h k = omega (arith, ints, h.0, h.1, k.0, k.1)
 
     sum : to_z w64 (of_z w64 (to_z w64 (of_z w64 j.due) +ℤ to_z w64 (of_z w64 bound))) ≡ j.due +ℤ bound
-    sum = ap (λ z. to_z w64 (of_z w64 z)) (ap₂ (λ y z. y +ℤ z) (to_z-of_z w64 j.due (due_fits j.due w)) (to_z-of_z w64 bound (bound_fits bound b)))
+    sum = ap (λ z. to_z w64 (of_z w64 z)) (ap₂ (λ y z. y +ℤ z) (to_z-of_z w64 j.due (fits (2 * GREATEST) j.due (omega arith) w)) (to_z-of_z w64 bound (fits greatest_bound bound (omega arith) b)))
         ∙ to_z-of_z w64 (j.due +ℤ bound) (both_fit j.due bound w b)

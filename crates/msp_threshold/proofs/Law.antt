@@ -7,13 +7,12 @@ use Rattle.msp_class.proofs.IntegerRing.{pos-le, one-*ℤ, +ℤ_idr, ≤ℤ_tran
 use Rattle.msp_instance.specs.declared.Instance.{Instance}
 use Rattle.msp_instance.specs.Instance.{job_at}
 use Rattle.msp_pieces.specs.declared.Schedule.{Schedule}
-use Rattle.msp_pieces.specs.Feasible.{Feasible}
 use Rattle.msp_pieces.proofs.costs.InTime.{EndsInTime, free_jobs}
 use Rattle.msp_pieces.proofs.bounds.Certified.{place_in, place_in-is}
 use Rattle.msp_slots.specs.Earliest.{no_slot, start_in, machine_in}
 use Rattle.msp_slots.proofs.Seats.{HasSeats}
 use Rattle.msp_slots.proofs.Begins.{head_at}
-use Rattle.msp_slots.proofs.UnitPieces.{AreUnitPieces, pieces_at, AreUnitPieces-from, unit_pieces_are_feasible, unit_piece_ends}
+use Rattle.msp_slots.proofs.UnitPieces.{AreUnitPieces, pieces_at, AreUnitPieces-from, IsInUnits, in_units}
 use Rattle.msp_slots.proofs.SlotPlaces.{heads_many, slot_inside, same_slot, seats_in}
 use Rattle.msp_threshold.specs.Squeezed.{AreKept, squeezed_by, CanMeet, CanBeFree}
 use Rattle.msp_threshold.proofs.Rising.{no_less, released_here, in_time_here}
@@ -90,20 +89,20 @@ module _ (i : Instance) (t : IsLatenessShop i) (kept : List ℕ) (k : AreKept i 
         soon j l = let s = numbered (seat j) (h.inside j l) in omega (arith, no_less kept k.rising (begin j) s.inside, s.is, k.filled.soon (seat j) (in_slots j l), heads, t.few)
 
     free : CanBeFree lower
-    free = (s, feasible, (free_jobs lower s refl (pos-le (omega arith))).1 (λ j l. ends j (inside j l)))
+    free = (s, units.runs.feasible, (free_jobs lower s refl (pos-le (omega arith))).1 (λ j l. ends j (inside j l)))
       where
         s : Schedule
         s = record { unit = pos 1; pieces = pieces_at begin machine (range_with_len 0 (length lower.jobs)) }
 
-        feasible : Feasible lower s
-        feasible = unit_pieces_are_feasible lower (lower_units i t kept bound) begin machine s.pieces pieces
+        units : IsInUnits lower begin s.pieces
+        units = in_units lower (lower_units i t kept bound) begin machine s.pieces pieces
 
         ends : (j : ℕ) → j < n → EndsInTime lower (pos 0) s j
         ends j l =
             let b = numbered (seat j) (h.inside j l) in
             let date = (job_at i j).due +ℤ bound in
             let late = in_time_here kept k.rising (begin j) b.inside date (≤ℤ_trans (pos-le (later (get_or kept (begin j) 0) (m.begin j) (omega (arith, b.is, h.early j l)))) (m.in_time j l)) in
-            subst₂ (λ x y. x ≤ℤ y) (sym (unit_piece_ends lower (lower_units i t kept bound) begin machine s.pieces pieces j (omega (arith, l, many i t kept bound))))
+            subst₂ (λ x y. x ≤ℤ y) (sym (units.runs.ends j (omega (arith, l, many i t kept bound))))
             (sym (one-*ℤ ((job_at lower j).due +ℤ pos 0) ∙ +ℤ_idr (job_at lower j).due ∙ lower_due i t kept bound j l)) (pos-le (omega (arith, late)))
           where
             later : (a b : ℕ) → a ≤ b → a + 1 ≤ b + 1

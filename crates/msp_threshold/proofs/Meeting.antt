@@ -17,7 +17,7 @@ use Rattle.msp_slots.specs.declared.earliest.Slot.{Slot}
 use Rattle.msp_slots.specs.Seating.{IsSeated}
 use Rattle.msp_slots.specs.Earliest.{start_in, machine_in, AreSlots}
 use Rattle.msp_slots.proofs.Begins.{head_at, HasBegins, begins_of}
-use Rattle.msp_slots.proofs.UnitPieces.{AreUnitPieces, pieces_at, AreUnitPieces-from, unit_pieces_are_feasible, unit_piece_ends}
+use Rattle.msp_slots.proofs.UnitPieces.{AreUnitPieces, pieces_at, AreUnitPieces-from, in_units}
 use Rattle.msp_slots.proofs.SlotPlaces.{heads_many, slot_inside, same_slot, seats_in}
 use Rattle.msp_threshold.specs.Squeezed.{CanMeet}
 use Rattle.msp_threshold.proofs.Facts.{IsLatenessShop, unit_jobs}
@@ -79,9 +79,9 @@ module _ (i : Instance) (t : IsLatenessShop i) where
   pub meets_pieces : (bound : ℤ) (begin machine : ℕ → ℕ) (pieces : List Piece) → AreUnitPieces i begin machine pieces → InTime bound begin → CanMeet i bound
   meets_pieces bound begin machine pieces h ends = (
     record { unit = pos 1; pieces = pieces },
-    unit_pieces_are_feasible i (unit_jobs i t) begin machine pieces h,
+    (in_units i (unit_jobs i t) begin machine pieces h).runs.feasible,
     (meets_jobs i bound (record { unit = pos 1; pieces = pieces }) t.crit t.some).1 (λ j l.
-        subst₂ (λ x y. x ≤ℤ y) (sym (unit_piece_ends i (unit_jobs i t) begin machine pieces h j l)) (sym (one-*ℤ (due j +ℤ bound))) (ends j l)),
+        subst₂ (λ x y. x ≤ℤ y) (sym ((in_units i (unit_jobs i t) begin machine pieces h).runs.ends j l)) (sym (one-*ℤ (due j +ℤ bound))) (ends j l)),
   )
 
   module _ (heads : List ℕ) (slots : List Slot) (filled : AreSlots i.machines heads slots) (many : length heads ≡ n) where

@@ -1,22 +1,18 @@
 -- Jobs in the slots of the earliest schedule: in order of their release dates at first, then as they change places, and the bound that they
 -- meet.
-use Rattle.std.proofs.Common.{◌≡◌, ℕ, ◌+◌, ◌*◌, ◌<◌, ◌≤◌, ◌⊎◌, inl, inr, List, ◌++◌, length, take, drop, get_or, map, All, AllPairs, Contains, IsPermutation, FitsSigned, ℤ, pos, ◌+ℤ◌}
+use Rattle.std.proofs.Common.{◌≡◌, ℕ, ◌+◌, ◌<◌, ◌≤◌, ◌⊎◌, inl, inr, List, ◌++◌, length, take, drop, get_or, map, All, AllPairs, Contains, IsPermutation, ℤ, pos, ◌+ℤ◌}
 use Rattle.std.proofs.Common.{◌≤ℤ◌, sym, ap, subst, ◌∙◌, arith}
 use Rattle.std.specs.List.{range_with_len, SwappedAt}
 use Rattle.std.specs.List.Sorted.{IsNonDecreasing}
 use Rattle.std.proofs.Math.Seq.{take-append_seam}
-use Rattle.std.specs.Int.{w64}
 use Rattle.std.proofs.lemmas.Bool.{cases_lt}
-use Rattle.std.proofs.lemmas.Int.{ints}
 use Rattle.std.proofs.lemmas.List.{length-map, get_or-map, get_or_default, ext_get_or}
 use Rattle.std.proofs.lemmas.List.FromFn.{get_or-map-range_with_len, length-map-range_with_len}
 use Rattle.std.proofs.lemmas.List.Sorted.{IsPermutation-map, IsPermutation-trans}
-use Rattle.msp_class.specs.declared.sizes.TheConstants.{GREATEST}
 use Rattle.msp_class.proofs.Sums.{OnceBelow, OnceBelow-from_permutation, OnceBelow-contains, OnceBelow-distinct, length-OnceBelow}
 use Rattle.msp_instance.specs.declared.Job.{Job}
 use Rattle.msp_instance.specs.declared.Instance.{Instance}
 use Rattle.msp_instance.specs.Instance.{no_job}
-use Rattle.msp_instance.specs.Conditions.{LiesWithin}
 use Rattle.msp_pieces.proofs.bounds.Certified.{place_in, place_in-is}
 use Rattle.msp_slots.specs.declared.earliest.Slot.{Slot}
 use Rattle.msp_slots.specs.Earliest.{start_in, AreSlots}
@@ -28,9 +24,6 @@ use Rattle.msp_threshold.proofs.Meeting.{meets_seats}
 -- what a vector holds after its slice was written
 pub whole_slice : {X : Type 0} (n k : ℕ) (xs ys : List X) → length xs ≡ n → take n (xs ++ drop k ys) ≡ xs
 whole_slice n k xs ys e = subst (λ m. take m (xs ++ drop k ys) ≡ xs) e (take-append_seam xs (drop k ys))
-
-pub met_fits : (x : ℤ) → LiesWithin (5 * GREATEST) x → FitsSigned w64 x
-met_fits x h = omega (arith, ints, h.0, h.1)
 
 -- a list read place by place
 places_read : (xs : List ℕ) → map (λ j. get_or xs j 0) (range_with_len 0 (length xs)) ≡ xs

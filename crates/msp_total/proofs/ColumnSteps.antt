@@ -1,21 +1,22 @@
 -- Steps of the loops over times, and over jobs and their columns.
-use Rattle.std.proofs.Common.{◌≡◌, ℕ, ◌+◌, ◌*◌, ◌-◌, ◌/◌, ◌%◌, ◌<◌, ◌≤◌, Bool, true, false, eqb, leb, List, [], ◌∷◌, ◌++◌, length, get_or, map, All, IsPermutation, refl, sym}
+use Rattle.std.proofs.Common.{◌≡◌, ℕ, ◌+◌, ◌*◌, ◌-◌, ◌/◌, ◌%◌, ◌<◌, ◌≤◌, Bool, true, false, eqb, List, [], ◌∷◌, ◌++◌, length, get_or, map, All, IsPermutation, refl, sym}
 use Rattle.std.proofs.Common.{ap, subst, ◌∙◌, arith}
 use Rattle.std.specs.Prelude.{slice_index_or}
 use Rattle.std.specs.List.{range_with_len}
 use Rattle.std.specs.List.Sorted.{IsNonDecreasingBy}
-use Rattle.std.proofs.lemmas.Bool.{eqb-true, eqb-false, leb-true, leb-false}
+use Rattle.std.proofs.lemmas.Bool.{eqb-true, eqb-false}
 use Rattle.std.proofs.lemmas.Nat.{mul-le}
 use Rattle.std.proofs.lemmas.List.{get_or_default, get_or-append_right, get_or_append_left, length-append, length-map, get_or-map}
 use Rattle.std.proofs.lemmas.List.Elements.{All-push}
 use Rattle.std.proofs.lemmas.List.Sorted.{IsPermutation-map, All-permutation}
-use Rattle.std.proofs.Math.Nat.{mul-le-mul_right, mod-lt, div-mul-le_self}
+use Rattle.std.proofs.Math.Nat.{mul-le-mul_right, mod-lt}
 use Rattle.msp_class.specs.declared.sizes.TheConstants.{MOST_JOBS, GREATEST, GREATEST_MULTIPLE}
 use Rattle.msp_class.proofs.IntegerRing.{pos-le}
 use Rattle.msp_instance.specs.declared.Job.{Job}
 use Rattle.msp_instance.specs.declared.Need.{Need}
 use Rattle.msp_instance.specs.declared.Instance.{Instance}
 use Rattle.msp_instance.specs.Instance.{no_need, no_job, job_at, need_at}
+use Rattle.msp_route.proofs.Turns.{turn_inside}
 use Rattle.msp_assign.specs.Prices.{HasCosts, column_of, greatest_cost}
 use Rattle.msp_total.specs.declared.positions.Positions.{Positions}
 use Rattle.msp_total.specs.declared.unrelated.Chosen.{Chosen}
@@ -67,11 +68,7 @@ needs_count i jobs k j needs e l is h = ap length (is ∙ ap (λ (x : Job). x.ne
 -- ---- columns
 -- the machine of a column
 pub machine_inside : (each machines c : ℕ) → c < each * machines → c / each < machines
-machine_inside each machines c l = by (leb machines (c / each)) refl
-  where
-    by : (b : Bool) → leb machines (c / each) ≡ b → c / each < machines
-    by true e = absurd (omega (arith, mul-le-mul_right each (leb-true machines (c / each) e), div-mul-le_self c each))
-    by false e = leb-false machines (c / each) e
+machine_inside each machines c l = turn_inside machines each c (omega (arith, l))
 
 -- ---- costs of a table
 pub costs_small : (p : Positions) → (1 ≤ p.jobs) × (p.jobs ≤ MOST_JOBS) → HasShortTimes p → HasCosts p.jobs (p.jobs * p.machines) (position_cost p.jobs p.machines p.times)

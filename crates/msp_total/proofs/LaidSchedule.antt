@@ -5,7 +5,6 @@ use Rattle.std.proofs.lemmas.List.{length-map}
 use Rattle.std.proofs.lemmas.List.Elements.{All-nil, All-contains}
 use Rattle.msp_class.specs.declared.sizes.TheConstants.{MOST_JOBS, GREATEST, GREATEST_MULTIPLE}
 use Rattle.msp_class.specs.declared.class.Crit.TheVariants.{SumC}
-use Rattle.msp_class.specs.declared.environments.EnvKind.TheVariants.{Unrelated}
 use Rattle.msp_class.specs.Crit.{is_greatest}
 use Rattle.msp_class.specs.Env.{kind_of}
 use Rattle.msp_class.proofs.IntegerRing.{≤ℤ_trans, ≤ℤ_of_same, pos-le}
@@ -19,15 +18,13 @@ use Rattle.msp_pieces.specs.declared.Schedule.{Schedule}
 use Rattle.msp_pieces.specs.Piece.{IsBefore, job_of, finish, IsTimed}
 use Rattle.msp_pieces.specs.Feasible.{Feasible, IsWholeWork}
 use Rattle.msp_pieces.specs.Cost.{cost_of, end_of, job_cost}
-use Rattle.msp_pieces.specs.Within.{Within}
 use Rattle.msp_pieces.proofs.feasible.OneMachine.{apart_in_int, last_end-is}
 use Rattle.msp_pieces.proofs.lists.Intervals.{last_of}
 use Rattle.msp_pieces.proofs.changes.Moves.{Contains-map}
 use Rattle.msp_pieces.proofs.costs.Charges.{cost_of-sum, charge_of}
-use Rattle.msp_pieces.specs.declared.limits.TheConstants.{GREATEST_CARRIED_UNIT}
 use Rattle.msp_route.specs.declared.bounds.TheConstants.{GREATEST_ANSWER_MOMENT}
 use Rattle.msp_route.specs.Bounds.{IsAnswer, answer_unit}
-use Rattle.msp_route.proofs.OneEach.{IsUncut, AreOneEach, one_each_is_feasible, one_each_is_within, one_each_is_answer}
+use Rattle.msp_route.proofs.OneEach.{IsUncut, AreOneEach, one_each_is_feasible, one_each_is_answer}
 use Rattle.msp_total.specs.declared.lay.Place.{Place}
 use Rattle.msp_total.specs.Places.{laid}
 use Rattle.msp_total.specs.Turns.{machine_at}
@@ -46,7 +43,6 @@ pub record AreFitting (i : Instance) (unit : ℕ) (places : List Place) : Type 0
   pub some : 1 ≤ unit
   pub few : unit ≤ GREATEST_MULTIPLE
   pub bounded : pos unit ≤ℤ answer_unit (kind_of i.class.env)
-  pub scaled : kind_of i.class.env ≡ Unrelated → pos unit ≤ℤ GREATEST_CARRIED_UNIT
   pub jobs : OnceBelow (length i.jobs) (map (λ p. p.job) places)
   pub inside : All (λ p. p.machine < i.machines) places
   pub lasts : All (λ p. 0 < p.length) places
@@ -120,8 +116,5 @@ module _ (i : Instance) (plain : IsPlain i) (unit : ℕ) (places : List Place) (
       (subst (λ x. pos (total_below n (last_of job_of finish (laid places))) ≤ℤ pos x) (sum_of_laid_ends i.machines places fits.inside) (pos-le (ends_of_jobs n places fits.jobs)))
 
   -- ---- bounds
-  pub laid_is_within : Within i s
-  laid_is_within = one_each_is_within i plain.uncut unit (laid places) one_each fits.few fits.scaled
-
   pub laid_is_answer : IsAnswer i s
   laid_is_answer = one_each_is_answer i plain.uncut unit (laid places) one_each fits.bounded

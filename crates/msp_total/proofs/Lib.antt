@@ -4,6 +4,7 @@ mod LaySteps
 mod UniformFacts
 mod TurnSteps
 mod LaidSchedule
+mod ListedJobs
 mod UniformBest
 mod UniformOrder
 mod UniformAnswer

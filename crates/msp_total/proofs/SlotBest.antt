@@ -1,7 +1,6 @@
 -- A schedule of least cost in the slots of the earliest schedule is feasible and best.
 use Rattle.std.proofs.Common.{◌≡◌, ℕ, ◌<◌, ◌≤◌, Bool, List, length, get_or, map, pos, ◌≤ℤ◌, All, refl, sym, ap, subst, ◌∙◌, arith}
 use Rattle.std.specs.List.{range_with_len}
-use Rattle.std.proofs.lemmas.Int.{ints}
 use Rattle.std.proofs.lemmas.List.{length-map, get_or-map}
 use Rattle.std.proofs.lemmas.List.FromFn.{length-range_with_len, get_or-range_with_len}
 use Rattle.std.proofs.lemmas.Grind.{same_number_lists}
@@ -10,20 +9,18 @@ use Rattle.msp_class.proofs.IntegerRing.{≤ℤ_of_same}
 use Rattle.msp_class.proofs.Sums.{OnceBelow, OnceBelow-range}
 use Rattle.msp_instance.specs.declared.Arc.{Arc}
 use Rattle.msp_instance.specs.declared.Instance.{Instance}
-use Rattle.msp_instance.specs.Instance.{no_need, no_job, need_at}
 use Rattle.msp_instance.specs.Conditions.{Inner}
 use Rattle.msp_pieces.specs.declared.Piece.{Piece}
-use Rattle.msp_pieces.specs.declared.Schedule.{Schedule}
-use Rattle.msp_pieces.specs.Feasible.{Feasible}
+use Rattle.msp_class.specs.Env.{kind_of}
 use Rattle.msp_pieces.specs.Cost.{Best}
-use Rattle.msp_pieces.specs.Within.{Within}
 use Rattle.msp_pieces.proofs.feasible.OfClass.{IsOfClass, IsOfClass-from}
-use Rattle.msp_route.specs.Bounds.{IsAnswer, answer_unit}
+use Rattle.msp_route.specs.Bounds.{IsBestAnswer}
+use Rattle.msp_route.proofs.Owed.{unit_one}
 use Rattle.msp_route.proofs.OneEach.{one_each_is_answer}
 use Rattle.msp_assign.specs.Prices.{column_of}
 use Rattle.msp_slots.specs.Earliest.{start_in, machine_in, piece_in}
 use Rattle.msp_slots.proofs.Begins.{begins_of}
-use Rattle.msp_slots.proofs.UnitPieces.{HasUnitJobs, AreUnitPieces, one_each, uncut, unit_pieces_are_feasible, unit_pieces_are_within, unit_piece_ends}
+use Rattle.msp_slots.proofs.UnitPieces.{HasUnitJobs, HasUnitJobs-from, AreUnitPieces, IsInUnits, in_units}
 use Rattle.msp_total.specs.LeastSlots.{HasSmallDates}
 use Rattle.msp_total.specs.SlotSteps.{slot_class, AreLeastLaid}
 use Rattle.msp_total.proofs.SlotFacts.{HasSmallDates-from}
@@ -38,9 +35,6 @@ IsUnitShop-from i late e h = IsOfClass-from i (slot_class late) e h
 pub small_dates : (i : Instance) (late : Bool) → IsUnitShop i late → HasSmallDates i
 small_dates i late h = HasSmallDates-from i (slot_class late) late h refl refl refl
 
-abbrev schedule_of : List Piece → Schedule
-schedule_of pieces = record { unit = pos 1; pieces = pieces }
-
 module _ (i : Instance) (late : Bool) (h : IsUnitShop i late) (pieces : List Piece) (l : AreLeastLaid i late pieces) where
   abbrev n : ℕ
   n = length i.jobs
@@ -54,8 +48,8 @@ module _ (i : Instance) (late : Bool) (h : IsUnitShop i late) (pieces : List Pie
   small : HasSmallDates i
   small = small_dates i late h
 
-  ones : (j : ℕ) → j < n → (need_at i j 0).time ≡ 1
-  ones j b = let job = h.jobs j no_job b in job.times 0 no_need (omega (arith, job.needs.shape.0))
+  unit_jobs : HasUnitJobs i
+  unit_jobs = HasUnitJobs-from i _ _ _ _ refl h
 
   -- ---- the pieces
   count : length pieces ≡ n
@@ -86,32 +80,16 @@ module _ (i : Instance) (late : Bool) (h : IsUnitShop i late) (pieces : List Pie
     early = λ j b. omega (arith, chosen_soon i late i.machines 1 small h.machine (omega arith) (omega arith) l.slots l.column l.least j b);
   }
 
-  unit_jobs : HasUnitJobs i
-  unit_jobs = record { kind = h.kind; cut = h.cut; few = h.few; ones = ones }
+  units : IsInUnits i (λ j. start (col j)) pieces
+  units = in_units i unit_jobs _ _ pieces unit_pieces
 
-  feasible : Feasible i (schedule_of pieces)
-  feasible = unit_pieces_are_feasible i unit_jobs _ _ pieces unit_pieces
-
-  best : Best i (schedule_of pieces)
+  best : Best i (record { unit = pos 1; pieces = pieces })
   best = best_in_slots i late i.machines 1 small h.machine (omega arith) (omega arith) l.slots l.column l.least h.crit pieces
-      (λ j b. ≤ℤ_of_same (unit_piece_ends i unit_jobs _ _ pieces unit_pieces j b)) feasible (λ t f. begins_of i t h.kind h.cut ones f)
-
-  -- ---- bounds
-  within : Within i (schedule_of pieces)
-  within = unit_pieces_are_within i unit_jobs _ _ pieces unit_pieces
-
-  answer : IsAnswer i (schedule_of pieces)
-  answer = one_each_is_answer i (uncut i unit_jobs _ _ pieces unit_pieces)
-      1 pieces (one_each i unit_jobs _ _ pieces unit_pieces) (subst (λ k. pos 1 ≤ℤ answer_unit k) (sym h.kind) (omega (arith, ints)))
-
--- what a schedule in the slots has
-pub record IsSlotAnswer (i : Instance) (s : Schedule) : Type 0 where
-  pub best : Best i s
-  pub within : Within i s
-  pub answer : IsAnswer i s
+      (λ j b. ≤ℤ_of_same (units.runs.ends j b)) units.runs.feasible (λ t f. begins_of i t h.kind h.cut unit_jobs.ones f)
 
 pub IsSlotAnswer-from : (i : Instance) (late : Bool)
-    → i.class ≡ slot_class late → Inner i → (pieces : List Piece) → AreLeastLaid i late pieces → IsSlotAnswer i (record { unit = pos 1; pieces = pieces })
+    → i.class ≡ slot_class late → Inner i → (pieces : List Piece) → AreLeastLaid i late pieces → IsBestAnswer i (record { unit = pos 1; pieces = pieces })
 IsSlotAnswer-from i late class inner pieces l =
     let h = IsUnitShop-from i late class inner in
-    record { best = best i late h pieces l; within = within i late h pieces l; answer = answer i late h pieces l }
+    let units = units i late h pieces l in
+    record { best = best i late h pieces l; answer = one_each_is_answer i units.runs.uncut 1 pieces units.runs.one_each (unit_one (kind_of i.class.env)) }

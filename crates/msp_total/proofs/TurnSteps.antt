@@ -1,21 +1,22 @@
 -- Steps of the loops over jobs that take their turns.
-use Rattle.std.proofs.Common.{◌≡◌, ℕ, suc, ◌+◌, ◌*◌, ◌-◌, ◌<◌, ◌≤◌, ◌⊎◌, Bool, true, false, cond, eqb, List, [], ◌∷◌, ◌++◌, length, get_or, take, map, set, All, AllPairs}
+use Rattle.std.proofs.Common.{◌≡◌, ℕ, suc, ◌+◌, ◌*◌, ◌-◌, ◌<◌, ◌≤◌, ◌⊎◌, inl, inr, Bool, true, false, cond, eqb, List, [], ◌∷◌, ◌++◌, length, get_or, take, map, set, All, AllPairs}
 use Rattle.std.proofs.Common.{IsPermutation, refl, sym, ap, subst, subst₂, ◌∙◌, arith}
 use Rattle.std.specs.Prelude.{slice_index_or}
 use Rattle.std.specs.List.{range_with_len}
 use Rattle.std.proofs.lemmas.Bool.{eqb-true, eqb-false}
 use Rattle.std.proofs.lemmas.Grind.{get_or-set_at}
-use Rattle.std.proofs.lemmas.List.{get_or-set_other, get_or_default, get_or-append_right, get_or_append_left, length-append, length-take, length-set, get_or-take}
-use Rattle.std.proofs.lemmas.List.Elements.{All-push}
+use Rattle.std.proofs.lemmas.List.{get_or_push, get_or-set_other, get_or_default, get_or_append_left, length-append, length-take, length-set, get_or-take}
 use Rattle.std.proofs.lemmas.List.Sorted.{IsPermutation-map, All-permutation}
 use Rattle.std.proofs.Math.Nat.{mul-le-mul_right}
 use Rattle.msp_class.specs.declared.sizes.TheConstants.{MOST_JOBS, GREATEST_MULTIPLE}
 use Rattle.msp_class.proofs.Sums.{cond-yes, cond-no, cond-le, total_below-same, total_below-bound}
+use Rattle.msp_class.proofs.Cases.{same_or_not}
 use Rattle.msp_instance.specs.declared.Instance.{Instance}
 use Rattle.msp_instance.specs.declared.Job.{Job}
 use Rattle.msp_instance.specs.declared.Need.{Need}
 use Rattle.msp_instance.specs.Instance.{no_need, no_job, need_at}
 use Rattle.msp_route.specs.declared.keyed.Keyed.{Keyed}
+use Rattle.msp_route.proofs.KeyedJobs.{keys-next}
 use Rattle.msp_total.specs.declared.lay.Place.{Place}
 use Rattle.msp_total.specs.Places.{no_place, place_at}
 use Rattle.msp_total.specs.Turns.{no_timed, timed_at, IsByTime, multiplier, number_at, machine_at, IsFirstLeast, IsTurn, AreTurns, AreNext}
@@ -31,7 +32,7 @@ abbrev pub HasTime : Instance → Keyed → Type 0
 HasTime i t = t.key ≡ (need_at i t.job 0).time
 
 pub times-next : (i : Instance) (new old : List Keyed) (x : Keyed) → new ≡ old ++ x ∷ [] → HasTime i x → All (HasTime i) old → All (HasTime i) new
-times-next i new old x e is so_far = subst (All (HasTime i)) (sym e) (All-push (HasTime i) old x so_far is)
+times-next i = keys-next (λ j. (need_at i j 0).time)
 
 pub by_time : (i : Instance) (all sorted : List Keyed) → map (λ t. t.job) all ≡ range_with_len 0 (length i.jobs)
     → All (HasTime i) all → IsPermutation all sorted → AllPairs (λ a b. (b.key < a.key) ⊎ ((b.key ≡ a.key) × (a.job ≤ b.job))) sorted → IsByTime i sorted
@@ -66,10 +67,7 @@ module _ (steps : List ℕ) (jobs : List Keyed) (places : List Place) (p : Place
   before r l = get_or_append_left places (p ∷ []) no_place r l
 
   at_end : place_at more k ≡ p
-  at_end = get_or-append_right places (p ∷ []) k k no_place refl (omega arith) ∙ ap (λ n. get_or (p ∷ []) n no_place) none
-    where
-      none : k - k ≡ 0
-      none = omega arith
+  at_end = get_or_push places p no_place k refl
 
   seats-before : (r m : ℕ) → r ≤ k → seats (machine_at more) r m ≡ seats (machine_at places) r m
   seats-before r m l = total_below-same r _ _ (λ a h. ap (λ (q : Place). cond (eqb q.machine m) 1 0) (before a (omega arith)))
@@ -90,7 +88,13 @@ module _ (steps : List ℕ) (jobs : List Keyed) (places : List Place) (p : Place
       → p.length ≡ t.key * number_at steps p.machine → AreNext steps places next → AreTurns steps (take k jobs) places → AreTurns steps (take (k + 1) jobs) more
   turns-next next t l is least job long (size, values) so_far = record {
     count = omega (arith, count_more, length-take (k + 1) jobs);
-    each = λ r h. by r (omega (arith, count_more)) (eqb r k) refl;
+    each = λ r h. let l : r < k + 1 = omega (arith, h, count_more) in elim (same_or_not r k) [
+      | inl same ↦ subst (λ x. IsTurn steps (machine_at more) x (timed_at (take (k + 1) jobs) x) (place_at more x)) (sym same)
+          (subst₂ (λ x q. IsTurn steps (machine_at more) k x q) (is ∙ sym (read k (omega arith))) (sym at_end) (turn-before k t p (omega arith) new_turn))
+      | inr ne ↦ let less : r < k = omega (arith, l, ne) in
+          subst₂ (λ x q. IsTurn steps (machine_at more) r x q) (get_or-take k jobs r no_timed less ∙ sym (read r l))
+          (sym (before r less)) (turn-before r (timed_at (take k jobs) r) (place_at places r) (omega (arith, less)) (so_far.each r less))
+    ];
   }
     where
       new_turn : IsTurn steps (machine_at places) k t p
@@ -104,19 +108,6 @@ module _ (steps : List ℕ) (jobs : List Keyed) (places : List Place) (p : Place
 
       read : (r : ℕ) → r < k + 1 → timed_at (take (k + 1) jobs) r ≡ get_or jobs r no_timed
       read r h = get_or-take (k + 1) jobs r no_timed h
-
-      by : (r : ℕ) → r < k + 1 → (b : Bool) → eqb r k ≡ b → IsTurn steps (machine_at more) r (timed_at (take (k + 1) jobs) r) (place_at more r)
-      by r h true e =
-          let same : r ≡ k = eqb-true r k e in
-          subst (λ x. IsTurn steps (machine_at more) x (timed_at (take (k + 1) jobs) x) (place_at more x)) (sym same)
-          (subst₂ (λ x q. IsTurn steps (machine_at more) k x q) (is ∙ sym (read k (omega arith))) (sym at_end) (turn-before k t p (omega arith) new_turn))
-      by r h false e =
-          let less : r < k = other r k h (eqb-false r k e) in
-          subst₂ (λ x q. IsTurn steps (machine_at more) r x q) (get_or-take k jobs r no_timed less ∙ sym (read r h))
-          (sym (before r less)) (turn-before r (timed_at (take k jobs) r) (place_at places r) (omega arith) (so_far.each r less))
-        where
-          other : (m n : ℕ) → m < n + 1 → (m ≡ n → ⊥) → m < n
-          other m n l ne = omega arith
 
   pub next-next : (next : List ℕ) → p.machine < length steps → AreNext steps places next → AreNext steps more (set next p.machine (number_at next p.machine + number_at steps p.machine))
   next-next next inside (size, values) = (length-set next p.machine _ ∙ size, λ m l. by m l (eqb p.machine m) refl)

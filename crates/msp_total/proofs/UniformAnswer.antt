@@ -1,5 +1,5 @@
 -- The answer on uniform machines, as the code makes it.
-use Rattle.std.proofs.Common.{◌≡◌, ℕ, ◌/◌, ◌<◌, ◌≤◌, List, length, get_or, map, ℤ, pos, All, refl, sym, ap, subst, subst₂, ◌∙◌, arith}
+use Rattle.std.proofs.Common.{◌≡◌, ℕ, ◌/◌, ◌<◌, ◌≤◌, List, length, get_or, map, ℤ, pos, All, sym, ap, subst, subst₂, ◌∙◌, arith}
 use Rattle.std.proofs.lemmas.List.{length-map, get_or_default}
 use Rattle.std.proofs.lemmas.List.Elements.{All-contains, Contains-get_or}
 use Rattle.msp_class.specs.declared.sizes.TheConstants.{MOST_JOBS, GREATEST, GREATEST_MULTIPLE}
@@ -8,38 +8,21 @@ use Rattle.msp_class.proofs.Sums.{OnceBelow-from_permutation, length-OnceBelow}
 use Rattle.msp_instance.specs.declared.Instance.{Instance}
 use Rattle.msp_pieces.specs.declared.Piece.{Piece}
 use Rattle.msp_pieces.specs.declared.Schedule.{Schedule}
-use Rattle.msp_pieces.specs.Cost.{Best}
-use Rattle.msp_pieces.specs.Within.{Within}
-use Rattle.msp_route.specs.Bounds.{IsAnswer}
+use Rattle.msp_route.specs.Bounds.{IsBestAnswer}
 use Rattle.msp_route.specs.declared.keyed.Keyed.{Keyed}
 use Rattle.msp_total.specs.declared.lay.Place.{Place}
 use Rattle.msp_instance.specs.Multiples.{IsLeastOfAll}
 use Rattle.msp_total.specs.Multipliers.{IsByMultipliers}
 use Rattle.msp_total.specs.Places.{ArePlaces, laid}
 use Rattle.msp_total.specs.Turns.{IsByTime, AreTurns}
-use Rattle.msp_total.proofs.LaidSchedule.{laid_is_within, laid_is_answer}
+use Rattle.msp_total.proofs.LaidSchedule.{laid_is_answer}
 use Rattle.msp_total.proofs.UniformFacts.{IsUniformInstance, times}
 use Rattle.msp_total.proofs.UniformBest.{IsPlain-from_uniform, steps_by, steps-length, step-most, fitting, best}
 use Rattle.msp_total.proofs.UniformOrder.{is_by_multipliers}
 
 pub record IsUniformAnswer (i : Instance) (s : Schedule) : Type 0 where
-  pub best : Best i s
-  pub within : Within i s
-  pub answer : IsAnswer i s
+  pub best : IsBestAnswer i s
   pub order : IsByMultipliers i s
-
-pub IsUniformAnswer-from : (i : Instance) → IsUniformInstance i → (unit : ℕ) (u : ℤ) (steps : List ℕ) (jobs : List Keyed) (places : List Place) (pieces : List Piece)
-    → IsLeastOfAll i.speeds unit → unit ≤ GREATEST_MULTIPLE → u ≡ pos unit → steps ≡ steps_by i unit → IsByTime i jobs → AreTurns steps jobs places → pieces ≡ laid places
-    → IsUniformAnswer i (record { unit = u; pieces = pieces })
-IsUniformAnswer-from i h unit u steps jobs places pieces common few e is sorted turns all =
-    let fits = subst (λ x. AreTurns x jobs places) is turns in
-    let fit = fitting i h unit common few jobs sorted places fits in
-    subst₂ (λ x y. IsUniformAnswer i (record { unit = x; pieces = y })) (sym e) (sym all) (record {
-      best = best i h unit common few jobs sorted places fits;
-      within = laid_is_within i (IsPlain-from_uniform i h) unit places fit;
-      answer = laid_is_answer i (IsPlain-from_uniform i h) unit places fit;
-      order = is_by_multipliers i h unit common few jobs sorted places fits;
-    })
 
 -- the steps of the code, over slices that are the same lists
 module _ (i : Instance) (h : IsUniformInstance i) (speeds : List ℕ) (unit : ℕ) (same_speeds : speeds ≡ i.speeds) (common : IsLeastOfAll speeds unit) (few : unit ≤ GREATEST_MULTIPLE) where
@@ -80,4 +63,10 @@ module _ (i : Instance) (h : IsUniformInstance i) (speeds : List ℕ) (unit : �
           subst ArePlaces (sym same_places) (omega (arith, turns_of.count, ap length same_jobs, jobs_few), λ k d l. (omega (arith, f.inside k d l, h.machines), f.short k d l))
 
       pub answer_read : (u : ℤ) (pieces : List Piece) → u ≡ pos unit → pieces ≡ laid listed → IsUniformAnswer i (record { unit = u; pieces = pieces })
-      answer_read u pieces e all = IsUniformAnswer-from i h unit u (steps_by i unit) jobs places pieces common_of few e refl sorted turns_of (all ∙ ap laid same_places)
+      answer_read u pieces e all = subst₂ (λ x y. IsUniformAnswer i (record { unit = x; pieces = y })) (sym e) (sym (all ∙ ap laid same_places)) (record {
+        best = record {
+          best = best i h unit common_of few jobs sorted places turns_of;
+          answer = laid_is_answer i (IsPlain-from_uniform i h) unit places (fitting i h unit common_of few jobs sorted places turns_of);
+        };
+        order = is_by_multipliers i h unit common_of few jobs sorted places turns_of;
+      })

@@ -1,18 +1,16 @@
 -- The jobs that took their turns, as a schedule on uniform machines: it is feasible and best, and lies within the bounds.
-use Rattle.std.proofs.Common.{◌≡◌, ℕ, ◌+◌, ◌*◌, ◌-◌, ◌/◌, ◌<◌, ◌≤◌, Bool, true, false, eqb, ◌⊎◌, inl, inr, List, length, get_or, map, ℤ, pos, nat_abs, ◌-ℤ◌, ◌*ℤ◌, ◌≤ℤ◌, All}
-use Rattle.std.proofs.Common.{slice_index_or, refl, sym, ap, ap₂, subst, subst₂, ◌∙◌, arith}
-use Rattle.std.proofs.lemmas.Bool.{eqb-true, eqb-false}
+use Rattle.std.proofs.Common.{◌≡◌, ℕ, ◌+◌, ◌*◌, ◌-◌, ◌/◌, ◌<◌, ◌≤◌, inl, inr, List, length, map, ℤ, pos, nat_abs, ◌-ℤ◌, ◌*ℤ◌, ◌≤ℤ◌, All}
+use Rattle.std.proofs.Common.{slice_index_or, refl, sym, ap, ap₂, subst, ◌∙◌, arith}
 use Rattle.std.proofs.lemmas.Int.{ints}
 use Rattle.std.proofs.lemmas.Nat.{mul-le}
 use Rattle.std.proofs.Math.Nat.{div-mul_cancel, mul-le-mul_left}
-use Rattle.std.proofs.lemmas.List.{length-map, get_or-map, get_or_default, same_lists}
+use Rattle.std.proofs.lemmas.List.{length-map, get_or-map, get_or_default}
 use Rattle.std.proofs.lemmas.List.Elements.{All-contains}
 use Rattle.msp_class.specs.declared.sizes.TheConstants.{GREATEST, GREATEST_MULTIPLE}
-use Rattle.msp_class.specs.declared.environments.EnvKind.TheVariants.{Uniform, Unrelated}
 use Rattle.msp_class.specs.Env.{kind_of}
-use Rattle.msp_class.proofs.IntegerRing.{natural, pos-le, pos-same, ≤ℤ_trans, *ℤ_comm, *ℤ-mono_nonneg}
+use Rattle.msp_class.proofs.IntegerRing.{natural, pos-le, pos-same, ≤ℤ_trans, *ℤ-mono_nonneg}
 use Rattle.msp_class.specs.Sums.{total_below}
-use Rattle.msp_class.proofs.Sums.{sum_by-map, sum_by-OnceBelow, total_below-same, total_below-scale, OnceBelow, OnceBelow-from_permutation, OnceBelow-distinct, length-OnceBelow}
+use Rattle.msp_class.proofs.Sums.{total_below-same, total_below-scale, OnceBelow, OnceBelow-from_permutation}
 use Rattle.msp_instance.specs.declared.Instance.{Instance}
 use Rattle.msp_instance.specs.Instance.{no_job, need_at}
 use Rattle.msp_pieces.specs.declared.Schedule.{Schedule}
@@ -23,7 +21,6 @@ use Rattle.msp_pieces.specs.Intervals.{IsApart}
 use Rattle.msp_pieces.proofs.lists.Positions.{position_of, position_of-some, position_of-few, position_of-once, sum_of_ends}
 use Rattle.msp_pieces.proofs.feasible.SolePieces.{only_piece, IsOnly, is_only, only_timed, only_placed, only_apart, sum_of_only_ends}
 use Rattle.msp_route.specs.Bounds.{answer_unit}
-use Rattle.msp_pieces.proofs.lists.Places.{sum_by-places}
 use Rattle.msp_pieces.proofs.feasible.OneEach.{IsUncut-uniform}
 use Rattle.msp_route.specs.declared.keyed.Keyed.{Keyed}
 use Rattle.msp_total.specs.declared.lay.Place.{Place}
@@ -35,6 +32,9 @@ use Rattle.msp_total.proofs.Greedy.{taken, least_in_all}
 use Rattle.msp_total.proofs.LaidJobs.{piece_before, piece_long, length_at}
 use Rattle.msp_total.proofs.LaidSchedule.{IsPlain, AreFitting, schedule_of, laid_is_feasible, laid_costs}
 use Rattle.msp_total.proofs.UniformFacts.{IsUniformInstance, times}
+use Rattle.msp_class.proofs.Cases.{same_or_not}
+use Rattle.msp_slots.proofs.LeastCosts.{best_at}
+use Rattle.msp_total.proofs.ListedJobs.{listed_count, listed_inside, listed_once, listed_total, listed_places}
 
 pub IsPlain-from_uniform : (i : Instance) → IsUniformInstance i → IsPlain i
 IsPlain-from_uniform i h = record {
@@ -96,45 +96,22 @@ module _ (i : Instance) (h : IsUniformInstance i) (unit : ℕ) (common : IsLeast
     once = OnceBelow-from_permutation sorted.all
 
     pub jobs-count : length jobs ≡ n
-    jobs-count = sym (length-map jobs (λ t. t.job)) ∙ length-OnceBelow once
+    jobs-count = listed_count (λ (t : Keyed). t.job) no_timed jobs once
 
     count : length places ≡ n
     count = turns.count ∙ jobs-count
 
     job-inside : (r : ℕ) → r < n → job r < n
-    job-inside r l = subst (λ x. x < n) (get_or-map (λ (t : Keyed). t.job) jobs r no_timed 0 inside) (once.within r 0 (omega (arith, inside, length-map jobs (λ t. t.job))))
-      where
-        inside : r < length jobs
-        inside = omega (arith, l, jobs-count)
-
-    job-once : (a b : ℕ) → a < n → b < n → job a ≡ job b → a ≡ b
-    job-once a b l m e = by (eqb a b) refl
-      where
-        at : (r : ℕ) → r < n → get_or (map (λ t. t.job) jobs) r 0 ≡ job r
-        at r k = get_or-map (λ (t : Keyed). t.job) jobs r no_timed 0 (omega (arith, k, jobs-count))
-
-        apart : (a b : ℕ) → a < b → b < n → job a ≡ job b → ⊥
-        apart a b k m e = OnceBelow-distinct once a b 0 k (omega (arith, m, jobs-count, length-map jobs (λ t. t.job))) (at a (omega arith) ∙ e ∙ sym (at b m))
-
-        order : (a b : ℕ) → (a ≡ b → ⊥) → (a < b) ⊎ (b < a)
-        order a b n = grind arith
-
-        by : (t : Bool) → eqb a b ≡ t → a ≡ b
-        by true f = eqb-true a b f
-        by false f = elim (order a b (eqb-false a b f)) [ inl k ↦ absurd (apart a b k m e) | inr k ↦ absurd (apart b a k l (sym e)) ]
+    job-inside = listed_inside (λ (t : Keyed). t.job) no_timed jobs once
 
     time-is : (r : ℕ) → r < n → time r ≡ time_of (job r)
     time-is r l = sorted.times r no_timed (omega (arith, l, jobs-count))
 
     falls : (a b : ℕ) → a ≤ b → b < n → time b ≤ time a
-    falls a b l m = by (eqb a b) refl
-      where
-        by : (t : Bool) → eqb a b ≡ t → time b ≤ time a
-        by true e = omega (arith, ap time (eqb-true a b e))
-        by false e = elim (sorted.falling a b no_timed (less a b l (eqb-false a b e)) (omega (arith, m, jobs-count))) [ inl k ↦ omega (arith, k) | inr k ↦ omega (arith, k.0) ]
-          where
-            less : (a b : ℕ) → a ≤ b → (a ≡ b → ⊥) → a < b
-            less a b l n = omega arith
+    falls a b l m = elim (same_or_not a b) [
+      | inl e ↦ omega (arith, ap time e)
+      | inr ne ↦ elim (sorted.falling a b no_timed (omega (arith, l, ne)) (omega (arith, m, jobs-count))) [ inl k ↦ omega (arith, k) | inr k ↦ omega (arith, k.0) ]
+    ]
 
     pub machine-inside : (r : ℕ) → r < n → machine r < i.machines
     machine-inside r l = omega (arith, (turns.each r (omega (arith, l, count))).inside, steps-length)
@@ -151,9 +128,7 @@ module _ (i : Instance) (h : IsUniformInstance i) (unit : ℕ) (common : IsLeast
 
     -- ---- feasible
     pub same-jobs : map (λ p. p.job) places ≡ map (λ t. t.job) jobs
-    same-jobs = same_lists _ _ (length-map places (λ p. p.job) ∙ turns.count ∙ sym (length-map jobs (λ t. t.job)))
-        (λ r d l. let inside : r < length places = omega (arith, l, length-map places (λ p. p.job)) in
-        get_or-map (λ (p : Place). p.job) places r no_place d inside ∙ (turns.each r inside).job ∙ sym (get_or-map (λ (t : Keyed). t.job) jobs r no_timed d (omega (arith, inside, turns.count))))
+    same-jobs = listed_places (λ (t : Keyed). t.job) no_timed jobs once places turns.count (λ r l. (turns.each r l).job)
 
     record IsMeant (p : Place) : Type 0 where
       machine_inside : p.machine < i.machines
@@ -193,7 +168,6 @@ module _ (i : Instance) (h : IsUniformInstance i) (unit : ℕ) (common : IsLeast
       some = common.some;
       few = few;
       bounded = subst (λ k. pos unit ≤ℤ answer_unit k) (sym h.kind) (omega (arith, ints, few));
-      scaled = λ u. absurd (not_unrelated (sym h.kind ∙ u));
       jobs = subst (OnceBelow n) (sym same-jobs) once;
       inside = λ k d l. (meant k d l).machine_inside;
       lasts = λ k d l. (meant k d l).lasts;
@@ -201,9 +175,6 @@ module _ (i : Instance) (h : IsUniformInstance i) (unit : ℕ) (common : IsLeast
       work = λ p rest c. subst (λ k. IsWholeWork k i (pos unit) (piece_before p rest))
           (sym h.kind) (ap (λ x. x *ℤ pos (speed p.machine)) (piece_long p rest) ∙ ap pos (All-contains IsMeant places p meant c).work);
     }
-      where
-        not_unrelated : Uniform ≡ Unrelated → ⊥
-        not_unrelated e = cc
 
     abbrev s : Schedule
     s = schedule_of unit places
@@ -298,16 +269,14 @@ module _ (i : Instance) (h : IsUniformInstance i) (unit : ℕ) (common : IsLeast
               moved a b c e = omega arith
 
       reordered : total_below n weighed ≡ total_below n (λ r. time r * multiplier step (on (job r)) (place (job r) - 1))
-      reordered =
-          sym (sum_by-OnceBelow weighed once) ∙ sum_by-map weighed (λ (t : Keyed). t.job) jobs ∙ sum_by-places (λ (t : Keyed). weighed t.job) jobs no_timed
-          ∙ ap (λ k. total_below k (λ r. weighed (job r))) jobs-count ∙ total_below-same n _ _ (λ r l. ap (λ x. x * multiplier step (on (job r)) (place (job r) - 1)) (sym (time-is r l)))
+      reordered = listed_total (λ (t : Keyed). t.job) no_timed jobs once weighed ∙ total_below-same n _ _ (λ r l. ap (λ x. x * multiplier step (on (job r)) (place (job r) - 1)) (sym (time-is r l)))
 
       least : value ≤ total_below n weighed
       least = subst (λ x. value ≤ x) (sym reordered)
           (least_in_all n i.machines step machine machine-inside greedy time (λ r. on (job r)) (λ r. place (job r) - 1) falls
           (λ a l. let j = job-inside a l in (on-inside (job a) j, below (place (job a)) n (position_of-some n on end (job a) j) (position_of-few n on end (job a))))
           (λ a b l m same e. let ja = job-inside a l in let jb = job-inside b m in
-          job-once a b l m (position_of-once n on end begin lasts apart (job a)
+          listed_once (λ (t : Keyed). t.job) no_timed jobs once a b l m (position_of-once n on end begin lasts apart (job a)
           (job b) ja jb same (back (place (job a)) (place (job b)) (position_of-some n on end (job a) ja) (position_of-some n on end (job b) jb) e))))
         where
           below : (c n : ℕ) → 1 ≤ c → c ≤ n → c - 1 < n
@@ -325,11 +294,4 @@ module _ (i : Instance) (h : IsUniformInstance i) (unit : ℕ) (common : IsLeast
           none = omega arith
 
     pub best : Best i s
-    best = record { feasible = laid_is_feasible i (IsPlain-from_uniform i h) unit places fitting; least = least_cost }
-      where
-        least_cost : (t : Schedule) → Feasible i t → (cost_of i s *ℤ t.unit) ≤ℤ (cost_of i t *ℤ pos unit)
-        least_cost t f = subst₂ (λ x y. x ≤ℤ y) (*ℤ_comm t.unit (cost_of i s)) (*ℤ_comm (pos unit) (cost_of i t))
-            (≤ℤ_trans (*ℤ-mono_nonneg t.unit (positive t.unit f.unit) upper) (lower t f))
-          where
-            positive : (u : ℤ) → pos 1 ≤ℤ u → pos 0 ≤ℤ u
-            positive u k = omega (arith, ints)
+    best = best_at i s (pos value) (laid_is_feasible i (IsPlain-from_uniform i h) unit places fitting) upper lower

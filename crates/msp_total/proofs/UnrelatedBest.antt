@@ -1,30 +1,28 @@
 -- Jobs at the positions of a least assignment, as a schedule on unrelated machines: it is feasible and best, and lies within the bounds.
-use Rattle.std.proofs.Common.{◌≡◌, ℕ, zero, suc, ◌+◌, ◌*◌, ◌/◌, ◌%◌, ◌<◌, ◌≤◌, Bool, true, false, cond, eqb, ◌⊎◌, inl, inr, List, length, get_or, map, ℤ, pos, ◌+ℤ◌, ◌*ℤ◌}
-use Rattle.std.proofs.Common.{◌≤ℤ◌, All, refl, sym, ap, ap₂, subst, subst₂, ◌∙◌, arith}
+use Rattle.std.proofs.Common.{◌≡◌, ℕ, zero, suc, ◌+◌, ◌*◌, ◌/◌, ◌%◌, ◌<◌, ◌≤◌, Bool, true, false, cond, eqb, inl, inr, List, length, map, ℤ, pos, ◌+ℤ◌, ◌*ℤ◌}
+use Rattle.std.proofs.Common.{◌≤ℤ◌, All, refl, sym, ap, ap₂, subst, ◌∙◌, arith}
 use Rattle.std.proofs.lemmas.Bool.{eqb-true}
 use Rattle.std.proofs.lemmas.Int.{ints}
 use Rattle.std.proofs.Math.Nat.{mul-le-mul_left, mul-le-mul_right, div-mul-le_self, div-add-mod}
-use Rattle.std.proofs.lemmas.List.{length-map, get_or-map, get_or_default, same_lists}
+use Rattle.std.proofs.lemmas.List.{get_or_default}
 use Rattle.std.proofs.lemmas.List.Elements.{All-contains}
 use Rattle.msp_class.specs.declared.sizes.TheConstants.{GREATEST, GREATEST_MULTIPLE}
 use lib.Arith.{digits_div, digits_mod}
-use Rattle.msp_class.proofs.IntegerRing.{pos-le, ≤ℤ_trans, one-*ℤ, *ℤ_comm, *ℤ-mono_nonneg, *ℤ-one}
+use Rattle.msp_class.proofs.IntegerRing.{pos-le, ≤ℤ_trans, one-*ℤ}
 use Rattle.msp_class.specs.Sums.{total_below, int_total_below}
-use Rattle.msp_class.proofs.Sums.{cond-yes, cond-no, sum_by-map, sum_by-OnceBelow, total_below-mono, int_total_below-same, int_total_below-natural, OnceBelow}
-use Rattle.msp_class.proofs.Sums.{OnceBelow-from_permutation, OnceBelow-distinct, length-OnceBelow}
+use Rattle.msp_class.proofs.Sums.{cond-yes, cond-no, total_below-mono, int_total_below-same, int_total_below-natural, OnceBelow}
+use Rattle.msp_class.proofs.Sums.{OnceBelow-from_permutation}
 use Rattle.msp_instance.specs.declared.Instance.{Instance}
 use Rattle.msp_instance.specs.Instance.{no_job, need_at}
 use Rattle.msp_pieces.specs.declared.Piece.{Piece}
 use Rattle.msp_pieces.specs.declared.Schedule.{Schedule}
-use Rattle.msp_pieces.specs.Feasible.{Feasible, IsWholeWork}
+use Rattle.msp_pieces.specs.Feasible.{IsWholeWork}
 use Rattle.msp_pieces.specs.Cost.{cost_of, Best}
-use Rattle.msp_pieces.specs.Within.{Within}
 use Rattle.msp_pieces.specs.Prices.{ArePrices, all_prices, prices_on_machine}
 use Rattle.msp_pieces.proofs.bounds.PriceBounds.{law_of_prices, total_over_range}
-use Rattle.msp_route.specs.Bounds.{IsAnswer, answer_unit}
+use Rattle.msp_route.specs.Bounds.{IsBestAnswer, answer_unit}
 use Rattle.msp_assign.specs.declared.assignment.Assignment.{Assignment}
 use Rattle.msp_assign.specs.Prices.{column_of, price_at}
-use Rattle.msp_pieces.proofs.lists.Places.{sum_by-places}
 use Rattle.msp_pieces.proofs.feasible.OneEach.{IsUncut-unrelated}
 use Rattle.msp_total.specs.declared.lay.Place.{Place}
 use Rattle.msp_total.specs.declared.positions.Positions.{Positions}
@@ -36,8 +34,11 @@ use Rattle.msp_total.specs.Multipliers.{seats}
 use Rattle.msp_total.specs.Columns.{IsTableOf, HasShortTimes, IsPositioned, no_chosen, chosen_at, IsByColumn, ArePlacesOf}
 use Rattle.msp_total.proofs.ColumnSteps.{machine_inside}
 use Rattle.msp_total.proofs.LaidJobs.{piece_before, piece_long, length_at}
-use Rattle.msp_total.proofs.LaidSchedule.{IsPlain, AreFitting, schedule_of, laid_is_feasible, laid_costs, laid_is_within, laid_is_answer}
+use Rattle.msp_total.proofs.LaidSchedule.{IsPlain, AreFitting, schedule_of, laid_is_feasible, laid_costs, laid_is_answer}
 use Rattle.msp_total.proofs.UnrelatedFacts.{IsUnrelatedInstance, times}
+use Rattle.std.proofs.lemmas.Bool.{cases_lt}
+use Rattle.msp_slots.proofs.LeastCosts.{IsBestAt-from}
+use Rattle.msp_total.proofs.ListedJobs.{listed_count, listed_inside, listed_once, listed_total, listed_places}
 
 -- ---- totals of integers
 int_total_below-split : (a b : ℕ) (f : ℕ → ℤ) → int_total_below (a + b) f ≡ int_total_below a f +ℤ int_total_below b (λ k. f (a + k))
@@ -93,12 +94,6 @@ IsPlain-from_unrelated i h = record {
   arcs = h.arcs;
   release = λ j l. (h.jobs j no_job l).release;
 }
-
--- what is said of the answer's schedule
-pub record IsUnrelatedAnswer (i : Instance) (s : Schedule) : Type 0 where
-  pub best : Best i s
-  pub within : Within i s
-  pub answer : IsAnswer i s
 
 module _ (i : Instance) (h : IsUnrelatedInstance i) (p : Positions) (table : IsTableOf i p) where
   abbrev n : ℕ
@@ -193,19 +188,13 @@ module _ (i : Instance) (h : IsUnrelatedInstance i) (p : Positions) (table : IsT
       once = subst (λ k. OnceBelow k (map (λ c. c.job) chosen)) column-count (OnceBelow-from_permutation sorted.all)
 
       chosen-count : length chosen ≡ n
-      chosen-count = sym (length-map chosen (λ c. c.job)) ∙ length-OnceBelow once
+      chosen-count = listed_count (λ (c : Chosen). c.job) no_chosen chosen once
 
       job-inside : (r : ℕ) → r < n → job r < n
-      job-inside r l = subst (λ x. x < n) (get_or-map (λ (c : Chosen). c.job) chosen r no_chosen 0 inside) (once.within r 0 (omega (arith, inside, length-map chosen (λ c. c.job))))
-        where
-          inside : r < length chosen
-          inside = omega (arith, l, chosen-count)
+      job-inside = listed_inside (λ (c : Chosen). c.job) no_chosen chosen once
 
       job-apart : (r q : ℕ) → r < q → q < n → job r ≡ job q → ⊥
-      job-apart r q l m e = OnceBelow-distinct once r q 0 l (omega (arith, m, chosen-count, length-map chosen (λ c. c.job))) (read_job r (omega arith) ∙ e ∙ sym (read_job q m))
-        where
-          read_job : (r : ℕ) → r < n → get_or (map (λ c. c.job) chosen) r 0 ≡ job r
-          read_job r k = get_or-map (λ (c : Chosen). c.job) chosen r no_chosen 0 (omega (arith, k, chosen-count))
+      job-apart r q l m e = absurd (omega (arith, l, listed_once (λ (c : Chosen). c.job) no_chosen chosen once r q (omega arith) m e))
 
       column-is : (r : ℕ) → r < n → column_at r ≡ at (job r)
       column-is r l = sorted.columns r no_chosen (omega (arith, l, chosen-count)) ∙ ap (λ xs. column_of xs (job r)) same_column
@@ -214,13 +203,10 @@ module _ (i : Instance) (h : IsUnrelatedInstance i) (p : Positions) (table : IsT
       column-inside r l = omega (arith, column-is r l, at-inside (job r) (job-inside r l))
 
       at-once : (j k : ℕ) → j < n → k < n → (j ≡ k → ⊥) → at j ≡ at k → ⊥
-      at-once j k l m ne e = elim (order j k ne) [ inl less ↦ apart j k less m e | inr more ↦ apart k j more l (sym e) ]
+      at-once j k l m ne e = elim (cases_lt j k) [ inl less ↦ apart j k less m e | inr more ↦ apart k j (omega (arith, more, ne)) l (sym e) ]
         where
           apart : (j k : ℕ) → j < k → k < n → at j ≡ at k → ⊥
           apart j k l m e = placing.assigned.apart j k 0 l (omega (arith, m, placing.assigned.all, table.jobs)) e
-
-          order : (j k : ℕ) → (j ≡ k → ⊥) → (j < k) ⊎ (k < j)
-          order j k ne = grind arith
 
       rises : (r q : ℕ) → r < q → q < n → column_at r < column_at q
       rises r q l m = strict (column_at r) (column_at q) (sorted.rising r q no_chosen l (omega (arith, m, chosen-count)))
@@ -271,10 +257,8 @@ module _ (i : Instance) (h : IsUnrelatedInstance i) (p : Positions) (table : IsT
             by s m c d g e = omega (arith, g, e)
 
         same-jobs : map (λ q. q.job) places ≡ map (λ c. c.job) chosen
-        same-jobs = same_lists _ _ (length-map places (λ q. q.job) ∙ turns.count ∙ ap length same_chosen ∙ sym (length-map chosen (λ c. c.job)))
-            (λ r d l. let inside : r < length places = omega (arith, l, length-map places (λ q. q.job)) in
-            get_or-map (λ (q : Place). q.job) places r no_place d inside ∙ (turns.placed r inside).0 ∙ ap (λ xs. (chosen_at xs r).job) same_chosen
-            ∙ sym (get_or-map (λ (c : Chosen). c.job) chosen r no_chosen d (omega (arith, inside, count, chosen-count))))
+        same-jobs = listed_places (λ (c : Chosen). c.job) no_chosen chosen once places (turns.count ∙ ap length same_chosen)
+            (λ r l. (turns.placed r l).0 ∙ ap (λ xs. (chosen_at xs r).job) same_chosen)
 
         record IsMeant (q : Place) : Type 0 where
           machine_is : q.machine < i.machines
@@ -301,7 +285,6 @@ module _ (i : Instance) (h : IsUnrelatedInstance i) (p : Positions) (table : IsT
           some = omega arith;
           few = omega arith;
           bounded = subst (λ k. pos 1 ≤ℤ answer_unit k) (sym h.kind) (omega (arith, ints));
-          scaled = λ u. omega (arith, ints);
           jobs = subst (OnceBelow n) (sym same-jobs) once;
           inside = λ k d l. (meant k d l).machine_is;
           lasts = λ k d l. (meant k d l).lasts;
@@ -319,10 +302,7 @@ module _ (i : Instance) (h : IsUnrelatedInstance i) (p : Positions) (table : IsT
             (subst (λ x. total_below n (λ r. length_at places r * (seats machine r (machine r) + 1)) ≤ x) (sym reordered) (total_below-mono n _ _ term))))
           where
             reordered : value ≡ total_below n (λ r. cost_at (job r) (at (job r)))
-            reordered =
-                sym (sum_by-OnceBelow (λ j. cost_at j (at j)) once) ∙ sum_by-map (λ j. cost_at j (at j)) (λ (c : Chosen). c.job) chosen
-                ∙ sum_by-places (λ (c : Chosen). cost_at c.job (at c.job)) chosen no_chosen
-                ∙ ap (λ k. total_below k (λ r. cost_at (job r) (at (job r)))) chosen-count
+            reordered = listed_total (λ (c : Chosen). c.job) no_chosen chosen once (λ j. cost_at j (at j))
 
             term : (r : ℕ) → r < n → length_at places r * (seats machine r (machine r) + 1) ≤ cost_at (job r) (at (job r))
             term r l = subst (λ c. length_at places r * (seats machine r (machine r) + 1) ≤ cost_at (job r) c) (column-is r l)
@@ -332,23 +312,14 @@ module _ (i : Instance) (h : IsUnrelatedInstance i) (p : Positions) (table : IsT
                 by x t u w e g = omega (arith, ap (λ y. y * u) e, mul-le-mul_left t g)
 
         pub best : Best i s
-        best = record { feasible = laid_is_feasible i (IsPlain-from_unrelated i h) 1 places fitting; least = least }
-          where
-            least : (t : Schedule) → Feasible i t → (cost_of i s *ℤ t.unit) ≤ℤ (cost_of i t *ℤ pos 1)
-            least t f =
-                subst₂ (λ x y. x ≤ℤ y) (*ℤ_comm t.unit (cost_of i s)) (sym (*ℤ-one (cost_of i t)))
-                (≤ℤ_trans (*ℤ-mono_nonneg t.unit (positive t.unit f.unit) upper)
-                (subst (λ x. (t.unit *ℤ x) ≤ℤ cost_of i t) prices_are (law_of_prices i t row position_price h.kind h.cut h.crit f prices_fit)))
-              where
-                positive : (u : ℤ) → pos 1 ≤ℤ u → pos 0 ≤ℤ u
-                positive u k = omega (arith, ints)
+        best = (IsBestAt-from i (laid places) (pos value) (laid_is_feasible i (IsPlain-from_unrelated i h) 1 places fitting) upper
+            (λ t f. subst (λ x. (t.unit *ℤ x) ≤ℤ cost_of i t) prices_are (law_of_prices i t row position_price h.kind h.cut h.crit f prices_fit))).best
 
         pub places_small : (laid_places : List Place) → laid_places ≡ places → ArePlaces laid_places
         places_small laid_places e = subst ArePlaces (sym e) (omega (arith, count, h.few), λ k d l. (omega (arith, fitting.inside k d l, h.machines), fitting.short k d l))
 
-        pub answer_read : (laid_places : List Place) (pieces : List Piece) → laid_places ≡ places → pieces ≡ laid laid_places → IsUnrelatedAnswer i (record { unit = pos 1; pieces = pieces })
-        answer_read laid_places pieces e all = subst (λ x. IsUnrelatedAnswer i (record { unit = pos 1; pieces = x })) (sym (all ∙ ap laid e)) (record {
+        pub answer_read : (laid_places : List Place) (pieces : List Piece) → laid_places ≡ places → pieces ≡ laid laid_places → IsBestAnswer i (record { unit = pos 1; pieces = pieces })
+        answer_read laid_places pieces e all = subst (λ x. IsBestAnswer i (record { unit = pos 1; pieces = x })) (sym (all ∙ ap laid e)) (record {
           best = best;
-          within = laid_is_within i (IsPlain-from_unrelated i h) 1 places fitting;
           answer = laid_is_answer i (IsPlain-from_unrelated i h) 1 places fitting;
         })

@@ -24,7 +24,7 @@ use crate::lay::{Place, lay};
 use msp_class::{Class, Crit, Env, NoMemory, Order, Times};
 use msp_instance::{Instance, first_time, multiple_of_all};
 use msp_pieces::{Schedule, Solution};
-use msp_route::{Keyed, Solver, sort_by_falling_key};
+use msp_route::{Keyed, Solver, best_solution, sort_by_falling_key};
 use std::alloc::Global;
 
 /// The class that the rule solves: `Q||sumC`.
@@ -154,8 +154,7 @@ fn schedule_by_multipliers(alloc: Global, inst: &Instance) -> Result<Solution, N
         unit: i128::from(unit),
         pieces,
     };
-    let cost = msp_pieces::cost(inst, &schedule);
-    Ok(Solution { schedule, cost })
+    Ok(best_solution(inst, schedule))
 }
 
 /// Finds a schedule of least total completion time on uniform machines: the longest jobs take the least multipliers, ties to the lesser

@@ -23,7 +23,7 @@ use crate::job_slots::{JobSlots, least_slots};
 use msp_class::{Class, Crit, Env, List, NoMemory, Order, Times};
 use msp_instance::Instance;
 use msp_pieces::{Piece, Schedule, Solution};
-use msp_route::Solver;
+use msp_route::{Solver, best_solution};
 use msp_slots::Slot;
 use std::alloc::Global;
 
@@ -86,9 +86,7 @@ fn schedule_in_slots(alloc: Global, inst: &Instance, late: bool) -> Result<Solut
     ensures bounds { IfOk result (λ s. IsAnswer inst.now s.schedule) }
 {
     let pieces = least_pieces(alloc, inst, late)?;
-    let schedule = Schedule { unit: 1, pieces };
-    let cost = msp_pieces::cost(inst, &schedule);
-    Ok(Solution { schedule, cost })
+    Ok(best_solution(inst, Schedule { unit: 1, pieces }))
 }
 
 /// Finds a schedule of unit jobs with release dates on identical machines whose weighted tardiness is least: a least assignment of the

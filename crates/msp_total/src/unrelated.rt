@@ -26,7 +26,7 @@ use msp_assign::{Assignment, assign_on_lines};
 use msp_class::{Class, Crit, Env, List, NoMemory, Order, Times};
 use msp_instance::{Instance, Need};
 use msp_pieces::{Schedule, Solution};
-use msp_route::Solver;
+use msp_route::{Solver, best_solution};
 use std::alloc::Global;
 
 /// The class that the assignment solves: `R||sumC`.
@@ -156,8 +156,7 @@ fn solution_at(
     let places = places_of(alloc, table, chosen.as_slice())?;
     let pieces = lay(alloc, places.as_slice())?;
     let schedule = Schedule { unit: 1, pieces };
-    let cost = msp_pieces::cost(inst, &schedule);
-    Ok(Solution { schedule, cost })
+    Ok(best_solution(inst, schedule))
 }
 
 /// A best schedule, and prices of the jobs and positions that show it.

@@ -14,6 +14,13 @@ use Rattle.msp_weighted.specs.Late.{time_of, total_time, EndInTime}
 use Rattle.msp_weighted.specs.Values.{weight_at, first_value, values_of, IsFilled, IsChosen, IsTableOrder}
 use Rattle.msp_weighted.proofs.ValueFacts.{values-least, values_start}
 
+-- a filled table, and the moment of its greatest value
+pub record IsRead (i : Instance) (order : List ℕ) (total moment : ℕ) (values flags : List ℕ) : Type 0 where
+  pub is : total ≡ total_time i
+  pub filled : IsFilled i order (total + 1) (length order) values flags
+  pub inside : moment < total + 1
+  pub best : (t : ℕ) → t < total + 1 → slice_index values t ≤ slice_index values moment
+
 module _ (i : Instance) (order : List ℕ) (all : IsPermutation (range_with_len 0 (length i.jobs)) order) where
   once : OnceBelow (length i.jobs) order
   once = OnceBelow-from_permutation all
@@ -28,13 +35,12 @@ module _ (i : Instance) (order : List ℕ) (all : IsPermutation (range_with_len 
   order_time : sum_by (time_at i) order ≡ total_time i
   order_time = sum_by-OnceBelow (time_at i) once ∙ sym (sum_by-places time_of i.jobs no_job)
 
-  module _ (total moment : ℕ) (values flags : List ℕ) (is : total ≡ total_time i) (filled : IsFilled i order (total + 1) (length order) values flags) (inside : moment < total + 1)
-      (best : (t : ℕ) → t < total + 1 → slice_index values t ≤ slice_index values moment) where
+  module _ {total moment : ℕ} {values flags : List ℕ} (r : IsRead i order total moment values flags) where
     value : (t : ℕ) → t < total + 1 → slice_index values t ≡ values_of i order t
-    value t l = filled.value t l ∙ ap (λ js. values_of i js t) (take_all (length order) order (omega arith))
+    value t l = r.filled.value t l ∙ ap (λ js. values_of i js t) (take_all (length order) order (omega arith))
 
     at_best : (t : ℕ) → t < total + 1 → values_of i order t ≤ values_of i order moment
-    at_best t l = omega (arith, value t l, value moment inside, best t l)
+    at_best t l = omega (arith, value t l, value moment r.inside, r.best t l)
 
     pub some_value : 0 < values_of i order moment
     some_value = omega (arith, values_start i order, at_best 0 (omega arith))
@@ -48,7 +54,7 @@ module _ (i : Instance) (order : List ℕ) (all : IsPermutation (range_with_len 
           sum_by-filter (time_at i) test order,
           sum_by-mono (λ x. cond (test x) (time_at i x) 0) (time_at i) order (λ k d l. cond-le (test (get_or order k d)) (time_at i (get_or order k d))),
         ) in
-        omega (arith, least, at_best (0 + sum_by (time_at i) (filter test order)) (omega (arith, part, order_time, is)))
+        omega (arith, least, at_best (0 + sum_by (time_at i) (filter test order)) (omega (arith, part, order_time, r.is)))
 
     pub table_order : (on_time left late result : List ℕ) → AllPairs (IsDueBefore i) order → IsChosen i order (values_of i order moment) on_time left
         → IsPermutation left late → AllPairs (λ a b. a ≤ b) late → result ≡ on_time ++ late → IsTableOrder i result

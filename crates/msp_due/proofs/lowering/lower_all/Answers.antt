@@ -1,25 +1,16 @@
-use Rattle.std.proofs.Common.{◌≡◌, ◌+◌, ◌-◌, ◌≤◌, All, refl, get_or, length, subst, arith}
+use Rattle.std.proofs.Common.{◌-◌, refl, length, subst, arith}
 use Rattle.msp_instance.specs.Paths.{leads}
-use Rattle.msp_pieces.proofs.lists.ForwardOrders.{at_inside}
 use Rattle.msp_due.specs.Steps.{AreLoweredFrom}
-use Rattle.msp_due.proofs.LoweredSlots.{AreLoweredFrom-next, AreLoweredFrom-end, low_small}
+use Rattle.msp_due.proofs.LoweredSlots.{AreLoweredFrom-next, AreLoweredFrom-end, place_inside, low_small}
 use Rattle.msp_due.proofs.lowering.lower_all.Goals as goal
 
 pub lowered-requires-clause-inside : goal.lowered-requires-clause-inside
-lowered-requires-clause-inside c = omega (
-  arith,
-  at_inside c.args.inst.now c.args.order.now c.requires.sequence (c.loop-place.place - 1) (omega (arith, c.loop-place-test.true, c.loop-place.invariant.inside)),
-  c.loop-place.invariant.whole,
-  c.requires.whole,
-)
+lowered-requires-clause-inside c = place_inside c.args.inst.now c.args.order.now c.args.slots.now c.loop-place.slots c.loop-place.place c.requires.sequence c.loop-place-test.true
+    c.loop-place.invariant.inside c.loop-place.invariant.whole c.requires.whole
 
 pub bounds-slots-job : goal.bounds-slots-job
-bounds-slots-job c = omega (
-  arith,
-  at_inside c.args.inst.now c.args.order.now c.requires.sequence (c.loop-place.place - 1) (omega (arith, c.loop-place-test.true, c.loop-place.invariant.inside)),
-  c.loop-place.invariant.whole,
-  c.requires.whole,
-)
+bounds-slots-job c = place_inside c.args.inst.now c.args.order.now c.args.slots.now c.loop-place.slots c.loop-place.place c.requires.sequence c.loop-place-test.true
+    c.loop-place.invariant.inside c.loop-place.invariant.whole c.requires.whole
 
 pub lowered-requires-clause-small : goal.lowered-requires-clause-small
 lowered-requires-clause-small c k d l =

@@ -1,45 +1,22 @@
-use Rattle.std.proofs.Common.{refl, subst, slice_index, IsPermutation}
-use Rattle.std.specs.List.{range_with_len}
-use Rattle.msp_levels.proofs.ByLevel.{no_greater}
-use Rattle.msp_levels.proofs.HuBest.{IsHuAnswer-from}
+-- The schedule of the rule is an answer.
+use Rattle.std.proofs.Common.{pos, sym, subst}
+use Rattle.msp_levels.specs.Levels.{IsLevelSchedule}
+use Rattle.msp_pieces.specs.Settled.{IsSettled}
+use Rattle.msp_levels.proofs.HuBest.{IsHuAnswer, IsHuAnswer-from}
 use Rattle.msp_levels.proofs.rule.schedule_by_levels.Goals as goal
+use Rattle.msp_levels.proofs.rule.schedule_by_levels.Goals.{In_ok-pieces}
 
-pub pieces_in_order-requires-clause-all : goal.pieces_in_order-requires-clause-all
-pieces_in_order-requires-clause-all c = subst (λ n. IsPermutation (range_with_len 0 n) c.in_ok-order.order.items) c.len.ensures c.in_ok-order.ensures.all
+made : (c : In_ok-pieces) → IsHuAnswer c.args.inst.now (record { unit = pos 1; pieces = c.in_ok-pieces.pieces })
+made c = IsHuAnswer-from c.args.inst.now c.requires.class c.requires.inner c.in_ok-pieces.pieces c.in_ok-pieces.ensures
 
-pub cost-cost-requires-clause-within : goal.cost-cost-requires-clause-within
-cost-cost-requires-clause-within c = (IsHuAnswer-from c.args.inst.now c.requires.class c.requires.inner (slice_index c.in_ok-levels.levels)
-    c.in_ok-levels.ensures.levels c.in_ok-order.order.items (no_greater (slice_index c.in_ok-levels.levels) c.in_ok-order.order.items c.in_ok-order.ensures.falling) c.in_ok-pieces.pieces c.in_ok-pieces.ensures).within
-
-pub cost-cost-requires-clause-feasible : goal.cost-cost-requires-clause-feasible
-cost-cost-requires-clause-feasible c = (IsHuAnswer-from c.args.inst.now c.requires.class c.requires.inner (slice_index c.in_ok-levels.levels)
-    c.in_ok-levels.ensures.levels c.in_ok-order.order.items (no_greater (slice_index c.in_ok-levels.levels) c.in_ok-order.order.items c.in_ok-order.ensures.falling) c.in_ok-pieces.pieces c.in_ok-pieces.ensures).best.feasible
-
-pub returns-clause-best : goal.returns-clause-best
-returns-clause-best c = record {
-  best = (IsHuAnswer-from c.args.inst.now c.requires.class c.requires.inner (slice_index c.in_ok-levels.levels)
-      c.in_ok-levels.ensures.levels c.in_ok-order.order.items (no_greater (slice_index c.in_ok-levels.levels) c.in_ok-order.order.items c.in_ok-order.ensures.falling) c.in_ok-pieces.pieces c.in_ok-pieces.ensures).best;
-  cost = c.cost-cost.ensures.value;
-}
-
-pub returns-clause-bounds : goal.returns-clause-bounds
-returns-clause-bounds c = (IsHuAnswer-from c.args.inst.now c.requires.class c.requires.inner (slice_index c.in_ok-levels.levels)
-    c.in_ok-levels.ensures.levels c.in_ok-order.order.items (no_greater (slice_index c.in_ok-levels.levels) c.in_ok-order.order.items c.in_ok-order.ensures.falling) c.in_ok-pieces.pieces c.in_ok-pieces.ensures).answer
+pub best_solution-requires-clause-best : goal.best_solution-requires-clause-best
+best_solution-requires-clause-best c = (made (goal.at.best_solution-requires-clause-best c).In_ok-pieces).best
 
 pub returns-clause-cost : goal.returns-clause-cost
-returns-clause-cost c = (IsHuAnswer-from c.args.inst.now c.requires.class c.requires.inner (slice_index c.in_ok-levels.levels)
-    c.in_ok-levels.ensures.levels c.in_ok-order.order.items (no_greater (slice_index c.in_ok-levels.levels) c.in_ok-order.order.items c.in_ok-order.ensures.falling) c.in_ok-pieces.pieces c.in_ok-pieces.ensures).cost c.cost-cost.result c.cost-cost.ensures.value
+returns-clause-cost c = (made (goal.at.returns-clause-cost c).In_ok-pieces).cost c.best_solution.result.cost c.best_solution.ensures.cost
 
 pub returns-clause-settled : goal.returns-clause-settled
-returns-clause-settled c = (IsHuAnswer-from c.args.inst.now c.requires.class c.requires.inner (slice_index c.in_ok-levels.levels)
-    c.in_ok-levels.ensures.levels c.in_ok-order.order.items (no_greater (slice_index c.in_ok-levels.levels) c.in_ok-order.order.items c.in_ok-order.ensures.falling) c.in_ok-pieces.pieces c.in_ok-pieces.ensures).settled
+returns-clause-settled c = subst IsSettled (sym c.best_solution.ensures.schedule) (made (goal.at.returns-clause-settled c).In_ok-pieces).settled
 
 pub returns-clause-pieces : goal.returns-clause-pieces
-returns-clause-pieces c = record {
-  level = slice_index c.in_ok-levels.levels;
-  order = c.in_ok-order.order.items;
-  levels = c.in_ok-levels.ensures.levels;
-  by_level = record { all = subst (λ n. IsPermutation (range_with_len 0 n) c.in_ok-order.order.items) c.len.ensures c.in_ok-order.ensures.all; falls = c.in_ok-order.ensures.falling };
-  unit = refl;
-  runs = c.in_ok-pieces.ensures;
-}
+returns-clause-pieces c = subst (IsLevelSchedule c.args.inst.now) (sym c.best_solution.ensures.schedule) c.in_ok-pieces.ensures

@@ -41,7 +41,7 @@ first_free-place-requires-clause-some c =
 
 -- one more job has its label
 made : (c : In_ok-reorder) → IsLabelled c.args.inst.now (leads c.args.paths.now) c.loop-arcs.label
-    (set c.loop-arcs.labels c.remove-job.result c.loop-arcs.label) c.remove-job.result c.loop-arcs.left.items c.reorder.new.left.items
+    (slice_index (set c.loop-arcs.labels c.remove-job.result c.loop-arcs.label)) c.remove-job.result c.loop-arcs.left.items c.reorder.new.left.items
 made c =
     let inner = c.requires.inner in
     labelled c.args.inst.now (leads c.args.paths.now) c.requires.paths inner.conditions.ends inner.acyclic inner.conditions.few c.loop-arcs.label c.loop-arcs.labels

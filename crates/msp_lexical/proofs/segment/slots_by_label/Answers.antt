@@ -1,10 +1,11 @@
-use Rattle.std.proofs.Common.{◌≡◌, ℕ, ◌<◌, List, length, slice_index, All, sym, subst, arith}
+-- The slots of the pieces, cut into segments.
+use Rattle.std.proofs.Common.{◌<◌, List, length, slice_index, All, sym, subst, arith}
 use Rattle.std.proofs.lemmas.List.Elements.{All-weaker}
 use Rattle.msp_class.specs.declared.sizes.TheConstants.{MOST_JOBS}
-use Rattle.msp_pieces.specs.declared.Piece.{Piece}
 use Rattle.msp_lexical.specs.Slots.{AreTops, IsSeated, IsSeating, first_in, second_in}
-use Rattle.msp_lexical.proofs.SlotsMade.{some_piece, seated, places_apart, few_slots, slots_made, cost_of_slots, cut_made}
+use Rattle.msp_lexical.proofs.SlotsMade.{some_piece, seated, places_apart, AreMade, made}
 use Rattle.msp_lexical.proofs.segment.slots_by_label.Goals as goal
+use Rattle.msp_lexical.proofs.segment.slots_by_label.Goals.{After-slots_of-count}
 
 pub seats_of-seats-requires-clause-seated : goal.seats_of-seats-requires-clause-seated
 seats_of-seats-requires-clause-seated c = subst (λ n. All (IsSeated n) c.args.pieces.now)
@@ -23,28 +24,25 @@ slots_of-count-requires-clause-seated c =
     c.args.pieces.now
     (seated c.args.inst.now c.requires.class c.requires.inner c.args.labels.now c.requires.labels c.args.pieces.now c.requires.pieces)
 
-seats_here : (n len : ℕ) (pieces : List Piece) (seats : List ℕ) → len ≡ n → IsSeating len pieces seats → IsSeating n pieces seats
-seats_here n len pieces seats e h = subst (λ k. IsSeating k pieces seats) e h
+here : (c : After-slots_of-count) → IsSeating (length c.args.inst.now.jobs) c.args.pieces.now c.seats_of-seats.result
+here c = subst (λ n. IsSeating n c.args.pieces.now c.seats_of-seats.result) c.len-jobs.ensures c.seats_of-seats.ensures
+
+slots : (c : After-slots_of-count) → AreMade c.args.inst.now c.requires.class c.requires.inner c.args.labels.now c.requires.labels c.args.pieces.now c.requires.pieces
+    c.seats_of-seats.result (here c) c.slots_of-count.result (c.slots_of-count.ensures _)
+slots c = made c.args.inst.now c.requires.class c.requires.inner c.args.labels.now c.requires.labels c.args.pieces.now c.requires.pieces
+    c.seats_of-seats.result (here c) c.slots_of-count.result (c.slots_of-count.ensures _)
 
 pub tops_of-tops-requires-clause-slots : goal.tops_of-tops-requires-clause-slots
-tops_of-tops-requires-clause-slots c =
-    few_slots c.args.inst.now c.requires.class c.requires.inner c.args.labels.now c.requires.labels c.args.pieces.now c.requires.pieces c.seats_of-seats.result
-    (seats_here _ _ _ _ c.len-jobs.ensures c.seats_of-seats.ensures) c.slots_of-count.result (c.slots_of-count.ensures _)
+tops_of-tops-requires-clause-slots c = (slots (goal.at.tops_of-tops-requires-clause-slots c).After-slots_of-count).few
 
 pub tops_of-tops-requires-clause-first : goal.tops_of-tops-requires-clause-first
-tops_of-tops-requires-clause-first c = λ x l.
-    subst (λ n. first_in c.seats_of-seats.result x < n) (sym c.len-jobs.ensures)
-    ((slots_made c.args.inst.now c.requires.class c.requires.inner c.args.labels.now c.requires.labels c.args.pieces.now c.requires.pieces c.seats_of-seats.result
-    (seats_here _ _ _ _ c.len-jobs.ensures c.seats_of-seats.ensures) c.slots_of-count.result (c.slots_of-count.ensures _)).first_in x l).0
+tops_of-tops-requires-clause-first c x l = subst (λ n. first_in c.seats_of-seats.result x < n) (sym c.len-jobs.ensures)
+    ((slots (goal.at.tops_of-tops-requires-clause-first c).After-slots_of-count).first x l)
 
 pub returns-clause-slots : goal.returns-clause-slots
-returns-clause-slots c =
-    cut_made c.args.inst.now c.requires.class c.requires.inner c.args.labels.now c.requires.labels c.args.pieces.now c.requires.pieces c.seats_of-seats.result
-    (seats_here _ _ _ _ c.len-jobs.ensures c.seats_of-seats.ensures) c.slots_of-count.result (c.slots_of-count.ensures _) c.tops_of-tops.result
+returns-clause-slots c = (slots (goal.at.returns-clause-slots c).After-slots_of-count).cut c.tops_of-tops.result
     (subst (λ n. AreTops n c.slots_of-count.result (slice_index c.args.labels.now) (first_in c.seats_of-seats.result) (second_in c.seats_of-seats.result) (slice_index c.tops_of-tops.result))
     c.len-jobs.ensures c.tops_of-tops.ensures)
 
 pub returns-clause-cost : goal.returns-clause-cost
-returns-clause-cost c =
-    cost_of_slots c.args.inst.now c.requires.class c.requires.inner c.args.labels.now c.requires.labels c.args.pieces.now c.requires.pieces c.seats_of-seats.result
-    (seats_here _ _ _ _ c.len-jobs.ensures c.seats_of-seats.ensures) c.slots_of-count.result (c.slots_of-count.ensures _)
+returns-clause-cost c = (slots (goal.at.returns-clause-cost c).After-slots_of-count).cost

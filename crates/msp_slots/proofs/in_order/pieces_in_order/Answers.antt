@@ -1,7 +1,8 @@
 use Rattle.std.proofs.Common.{IsPermutation, sym, subst, subst₂, rules}
 use Rattle.std.specs.List.Sorted.{IsNonDecreasingBy}
 use Rattle.msp_instance.specs.declared.Arc.{Arc}
-use Rattle.msp_slots.proofs.Progress.{IsOrdered-from, inside_shown, ends_sorted, slot_smaller, slot_done, start_at, done_at}
+use Rattle.msp_slots.proofs.Progress.{IsOrdered-from}
+use Rattle.msp_slots.proofs.Listed.{inside_shown, ends_sorted, slot_smaller, slot_done, start_at, done_at}
 use Rattle.msp_slots.proofs.in_order.pieces_in_order.Goals as goal
 
 pub loop-alloc-init : goal.loop-alloc-init

@@ -14,29 +14,8 @@ lay-requires c =
     places_small c.args.inst.now h c.args.table.now c.requires.table c.args.assignment.now c.requires.positions _ c.as_slice.ensures c.in_ok-chosen.chosen.items
     _ c.in_ok-chosen.ensures c.as_slice-2.ensures.value c.in_ok-places.places.items c.in_ok-places.ensures _ c.as_slice-3.ensures.value
 
-pub cost-cost-requires-clause-within : goal.cost-cost-requires-clause-within
-cost-cost-requires-clause-within c =
+pub best_solution-requires-clause-best : goal.best_solution-requires-clause-best
+best_solution-requires-clause-best c =
     let h = IsUnrelatedInstance-from_class c.args.inst.now c.requires.class c.requires.inner in
-    (answer_read c.args.inst.now h c.args.table.now c.requires.table c.args.assignment.now c.requires.positions _ c.as_slice.ensures c.in_ok-chosen.chosen.items
-    _ c.in_ok-chosen.ensures c.as_slice-2.ensures.value c.in_ok-places.places.items c.in_ok-places.ensures _ _ c.as_slice-3.ensures.value c.in_ok-pieces.ensures).within
-
-pub cost-cost-requires-clause-feasible : goal.cost-cost-requires-clause-feasible
-cost-cost-requires-clause-feasible c =
-    let h = IsUnrelatedInstance-from_class c.args.inst.now c.requires.class c.requires.inner in
-    (answer_read c.args.inst.now h c.args.table.now c.requires.table c.args.assignment.now c.requires.positions _ c.as_slice.ensures c.in_ok-chosen.chosen.items
-    _ c.in_ok-chosen.ensures c.as_slice-2.ensures.value c.in_ok-places.places.items c.in_ok-places.ensures _ _ c.as_slice-3.ensures.value c.in_ok-pieces.ensures).best.feasible
-
-pub returns-clause-best : goal.returns-clause-best
-returns-clause-best c =
-    let h = IsUnrelatedInstance-from_class c.args.inst.now c.requires.class c.requires.inner in
-    record {
-      best = (answer_read c.args.inst.now h c.args.table.now c.requires.table c.args.assignment.now c.requires.positions _ c.as_slice.ensures c.in_ok-chosen.chosen.items
-          _ c.in_ok-chosen.ensures c.as_slice-2.ensures.value c.in_ok-places.places.items c.in_ok-places.ensures _ _ c.as_slice-3.ensures.value c.in_ok-pieces.ensures).best;
-      cost = c.cost-cost.ensures.value;
-    }
-
-pub returns-clause-bounds : goal.returns-clause-bounds
-returns-clause-bounds c =
-    let h = IsUnrelatedInstance-from_class c.args.inst.now c.requires.class c.requires.inner in
-    (answer_read c.args.inst.now h c.args.table.now c.requires.table c.args.assignment.now c.requires.positions _ c.as_slice.ensures c.in_ok-chosen.chosen.items
-    _ c.in_ok-chosen.ensures c.as_slice-2.ensures.value c.in_ok-places.places.items c.in_ok-places.ensures _ _ c.as_slice-3.ensures.value c.in_ok-pieces.ensures).answer
+    answer_read c.args.inst.now h c.args.table.now c.requires.table c.args.assignment.now c.requires.positions _ c.as_slice.ensures c.in_ok-chosen.chosen.items
+    _ c.in_ok-chosen.ensures c.as_slice-2.ensures.value c.in_ok-places.places.items c.in_ok-places.ensures _ _ c.as_slice-3.ensures.value c.in_ok-pieces.ensures

@@ -30,7 +30,8 @@ joins c =
 
 pub returns-clause-joined : goal.returns-clause-joined
 returns-clause-joined c =
-    on_ok_weaker c.append.result (λ j. joined_again c.args.inst.now c.requires.class c.requires.inner c.args.blocks.now.items c.requires.joined j) (joins (goal.at.returns-clause-joined c).After-append)
+    on_ok_weaker c.append.result (λ j. joined_again c.args.inst.now c.requires.class c.requires.inner c.args.blocks.now.items c.requires.joined j)
+    (joins (goal.at.returns-clause-joined c).After-append)
 
 pub returns-clause-joins : goal.returns-clause-joins
 returns-clause-joins c = on_ok_weaker c.append.result (λ j. (c.next_place-place.result, c.place_of-behind.result, j)) (joins (goal.at.returns-clause-joins c).After-append)

@@ -9,7 +9,8 @@ first : (c : After-as_slice) → IsBlock c.args.inst.now c.requires.class c.requ
 first c = IsBlock-read c.args.inst.now c.requires.class c.requires.inner c.args.blocks.now c.requires.joined 1 c.index-blocks-1.result _ c.requires.some c.index-blocks-1.is c.as_slice.ensures
 
 next : (c : After-as_slice-in-loop-place) → IsBlock c.args.inst.now c.requires.class c.requires.inner c.args.blocks.now c.requires.joined c.loop-place.place c.as_slice-in-loop-place.result.now
-next c = IsBlock-read c.args.inst.now c.requires.class c.requires.inner c.args.blocks.now c.requires.joined c.loop-place.place c.index-blocks-place.result _ c.loop-place-test.true c.index-blocks-place.is
+next c = IsBlock-read c.args.inst.now c.requires.class c.requires.inner c.args.blocks.now c.requires.joined c.loop-place.place
+    c.index-blocks-place.result _ c.loop-place-test.true c.index-blocks-place.is
     c.as_slice-in-loop-place.ensures
 
 pub load_of-best-requires-clause-some : goal.load_of-best-requires-clause-some

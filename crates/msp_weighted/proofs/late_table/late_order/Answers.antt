@@ -2,8 +2,9 @@ use Rattle.std.proofs.Common.{ℕ, ◌+◌, ◌<◌, List, length, All, sym, ap,
 use Rattle.std.proofs.lemmas.Result.{IfOk-weaker}
 use Rattle.msp_weighted.specs.Late.{time_of}
 use Rattle.msp_weighted.specs.Values.{values_of, IsChosen, IsTableOrder}
-use Rattle.msp_weighted.proofs.TableOrder.{order_count, order_within, some_value, table_order, filled_at, best_at}
+use Rattle.msp_weighted.proofs.TableOrder.{IsRead, order_count, order_within, some_value, table_order, filled_at, best_at}
 use Rattle.msp_weighted.proofs.late_table.late_order.Goals as goal
+use Rattle.msp_weighted.proofs.late_table.late_order.Goals.{After-deref-3}
 
 pub table_of-requires-clause-few : goal.table_of-requires-clause-few
 table_of-requires-clause-few c = omega (arith, c.requires.few, order_count c.args.inst.now c.in_ok-order.order.items c.in_ok-order.ensures.all, ap length c.deref.ensures.value)
@@ -17,32 +18,30 @@ chosen-requires-clause-few c = omega (arith, c.requires.few, order_count c.args.
 pub chosen-requires-clause-jobs : goal.chosen-requires-clause-jobs
 chosen-requires-clause-jobs c = subst (All (λ j. j < length c.args.inst.now.jobs)) (sym c.deref-3.ensures.value) (order_within c.args.inst.now c.in_ok-order.order.items c.in_ok-order.ensures.all)
 
-pub chosen-requires-clause-some : goal.chosen-requires-clause-some
-chosen-requires-clause-some c =
-    let i = c.args.inst.now in
-    let order = c.in_ok-order.order.items in
-    let values = c.in_ok-table.table.values.items in
-    let total = c.total_of-total.result in
-    let best = best_at c.deref-2.result.now values (total + 1)
+read : (c : After-deref-3) → IsRead c.args.inst.now c.in_ok-order.order.items c.total_of-total.result c.best_moment-moment.result c.in_ok-table.table.values.items c.in_ok-table.table.flags.items
+read c =
+    let width = c.total_of-total.result + 1 in
+    let best = best_at c.deref-2.result.now c.in_ok-table.table.values.items width
     c.best_moment-moment.result c.deref-2.ensures.value c.in_ok-table.ensures.width c.best_moment-moment.ensures.inside c.best_moment-moment.ensures.best in
-    let filled = filled_at i (total + 1) c.deref.result.now order values c.in_ok-table.table.flags.items c.deref.ensures.value c.in_ok-table.ensures.filled in
-    subst (λ js. 0 < values_of i js c.best_moment-moment.result) (sym c.deref-3.ensures.value)
-    (some_value i order c.in_ok-order.ensures.all total c.best_moment-moment.result values c.in_ok-table.table.flags.items
-    (c.total_of-total.ensures ∙ ap (sum_by time_of) c.as_slice.ensures) filled best.0 best.1)
+    record {
+      is = c.total_of-total.ensures ∙ ap (sum_by time_of) c.as_slice.ensures;
+      filled = filled_at c.args.inst.now width c.deref.result.now c.in_ok-order.order.items c.in_ok-table.table.values.items
+          c.in_ok-table.table.flags.items c.deref.ensures.value c.in_ok-table.ensures.filled;
+      inside = best.0;
+      best = best.1;
+    }
+
+pub chosen-requires-clause-some : goal.chosen-requires-clause-some
+chosen-requires-clause-some c = subst (λ js. 0 < values_of c.args.inst.now js c.best_moment-moment.result) (sym c.deref-3.ensures.value)
+    (some_value c.args.inst.now c.in_ok-order.order.items c.in_ok-order.ensures.all (read (goal.at.chosen-requires-clause-some c).After-deref-3))
 
 pub returns : goal.returns
 returns c =
     let i = c.args.inst.now in
     let order = c.in_ok-order.order.items in
-    let values = c.in_ok-table.table.values.items in
-    let total = c.total_of-total.result in
-    let best = best_at c.deref-2.result.now values (total + 1)
-    c.best_moment-moment.result c.deref-2.ensures.value c.in_ok-table.ensures.width c.best_moment-moment.ensures.inside c.best_moment-moment.ensures.best in
-    let filled = filled_at i (total + 1) c.deref.result.now order values c.in_ok-table.table.flags.items c.deref.ensures.value c.in_ok-table.ensures.filled in
     let P : List ℕ → Type 0 = λ js. IsChosen i js (values_of i js c.best_moment-moment.result) c.in_ok-choice.choice.on_time.items c.in_ok-choice.choice.left.items in
     let chosen : P order = subst P c.deref-3.ensures.value c.in_ok-choice.ensures in
     IfOk-weaker c.in_order.result _ (λ o. IsTableOrder i o.items)
-    (λ o h. table_order i order c.in_ok-order.ensures.all total c.best_moment-moment.result values c.in_ok-table.table.flags.items
-    (c.total_of-total.ensures ∙ ap (sum_by time_of) c.as_slice.ensures) filled best.0 best.1
+    (λ o h. table_order i order c.in_ok-order.ensures.all (read (goal.at.returns c).After-deref-3)
     c.in_ok-choice.choice.on_time.items c.in_ok-choice.choice.left.items h.0 o.items c.in_ok-order.ensures.sorted chosen h.1 h.2 h.3)
     c.in_order.ensures
