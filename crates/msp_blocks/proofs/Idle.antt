@@ -181,5 +181,6 @@ module _ (q p : ℕ → ℕ) where
       (gap-All (Idle s (j ∷ ys ++ cs)) job t (q j)
       (λ l. omega (arith, busy-none s (j ∷ ys ++ cs) (q j) (All-cons (λ k. q j ≤ q k) j (ys ++ cs) (omega arith) (AllPairs-head (λ j k. q j ≤ q k) j (ys ++ cs) sorted)), h)))
       (All-weaker (Idle (max s (q j) + p j) (ys ++ cs)) (Idle s (j ∷ ys ++ cs))
-      (λ g l. cond_both (ltb (q j) (finish g)) _ _ (λ n. n ≤ start g) (λ _. l) (λ _. le_trans (busy-mono s (max s (q j) + p j) (ys ++ cs) (finish g) (more s (q j) (p j))) l)) (gaps q p job (max t (q j) + p j) ys e)
+      (λ g l. cond_both (ltb (q j) (finish g)) _ _ (λ n. n ≤ start g) (λ _. l)
+      (λ _. le_trans (busy-mono s (max s (q j) + p j) (ys ++ cs) (finish g) (more s (q j) (p j))) l)) (gaps q p job (max t (q j) + p j) ys e)
       (gaps-idle job (max s (q j) + p j) (max t (q j) + p j) e ys cs (omega (arith, h)) (AllPairs-tail (λ j k. q j ≤ q k) j (ys ++ cs) sorted) later))

@@ -102,9 +102,6 @@ module _ (i : Instance) (d : IsByDues i) (inner : Inner i)
     has_costs = subst₂ (λ m p. HasCosts n m (place_cost i unit p)) (sym listed_many) (sym same) costs
 
     module _ (column : List ℕ) (assigned : IsAssigned n (length listed) column) where
-      pub columns_few : length column ≤ MOST_JOBS
-      columns_few = omega (arith, assigned.all, d.is.few)
-
       pub least_assigned : (pieces : List Piece) → IsLeast n (length listed) (place_cost i unit listed) column → pieces ≡ in_columns (length column) listed column → AreLeastAssigned i unit pieces
       least_assigned pieces least all = record {
         places = places;

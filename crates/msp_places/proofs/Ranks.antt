@@ -1,7 +1,7 @@
 -- Different numbers by rank: where each number that is not listed is above all of the list, which rises, the k-th of some different numbers
 -- is no less than the k-th of the list.
 use Rattle.std.proofs.Common.{◌≡◌, ℕ, ◌<◌, ◌≤◌, ◌⊎◌, inl, inr, Bool, true, false, cond, eqb, ltb, leb, refl, sym, ap, ◌∙◌, arith}
-use Rattle.std.proofs.lemmas.Bool.{cases_lt, eqb-true, eq-eqb, ltb-true, lt-ltb, leb-true, le-leb}
+use Rattle.std.proofs.lemmas.Bool.{cases_Bool, cases_lt, eqb-true, eq-eqb, ltb-true, lt-ltb, leb-true, le-leb}
 use Rattle.msp_class.specs.Sums.{total_below}
 use Rattle.msp_class.proofs.Sums.{cond-yes, cond-no, cond-le, total_below-mono, total_below-term, total_below-bound, total_below-constant, total_below-exchange}
 use Rattle.msp_pieces.proofs.lists.Positions.{total_below-strict, count_at_most_one}
@@ -16,11 +16,7 @@ module _ (n : ℕ) (key list : ℕ → ℕ) (once : (a b : ℕ) → a < n → b 
   rank a = total_below n (λ b. cond (ltb (key b) (key a)) 1 0)
 
   not_itself : (a : ℕ) → one_if (ltb (key a) (key a)) ≡ 0
-  not_itself a = by (ltb (key a) (key a)) refl
-    where
-      by : (t : Bool) → ltb (key a) (key a) ≡ t → one_if (ltb (key a) (key a)) ≡ 0
-      by true e = absurd (omega (arith, ltb-true (key a) (key a) e))
-      by false e = cond-no 1 e
+  not_itself a = elim (cases_Bool (ltb (key a) (key a))) [ inl e ↦ absurd (omega (arith, ltb-true (key a) (key a) e)) | inr e ↦ cond-no 1 e ]
 
   pub rank_inside : (a : ℕ) → a < n → rank a < n
   rank_inside a l =
@@ -70,13 +66,12 @@ module _ (n : ℕ) (key list : ℕ → ℕ) (once : (a b : ℕ) → a < n → b 
         more c false e = omega (arith, cond-no 1 e)
 
     each_hits : (c : ℕ) → c < n → up_to c ≤ total_below (rank a) (hits c)
-    each_hits c k = by (leb (key c) (key a)) refl
-      where
-        by : (t : Bool) → leb (key c) (key a) ≡ t → up_to c ≤ total_below (rank a) (hits c)
-        by true e =
-            let (q, f, g) = stands_before c (rank a) k (rank_inside a l) (omega (arith, leb-true (key c) (key a) e, less)) in
-            omega (arith, cond-yes 1 e, total_below-term (rank a) (hits c) q f, cond-yes 1 (eq-eqb (list q) (key c) g))
-        by false e = omega (arith, cond-no 1 e)
+    each_hits c k = elim (cases_Bool (leb (key c) (key a))) [
+      | inl e ↦
+          let (q, f, g) = stands_before c (rank a) k (rank_inside a l) (omega (arith, leb-true (key c) (key a) e, less)) in
+          omega (arith, cond-yes 1 e, total_below-term (rank a) (hits c) q f, cond-yes 1 (eq-eqb (list q) (key c) g))
+      | inr e ↦ omega (arith, cond-no 1 e)
+    ]
 
     hit_once : (q : ℕ) → total_below n (λ c. hits c q) ≤ 1
     hit_once q = count_at_most_one n (λ c. eqb (list q) (key c)) (λ b c k m e f. once b c k m (sym (eqb-true (list q) (key b) e) ∙ eqb-true (list q) (key c) f))

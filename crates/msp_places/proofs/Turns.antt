@@ -1,7 +1,7 @@
 -- Places that are taken in turn are the earliest.
 use Rattle.std.proofs.Common.{◌≡◌, ◌≢◌, ℕ, ◌+◌, ◌*◌, ◌-◌, ◌<◌, ◌≤◌, inl, inr, Bool, true, false, eqb, List, [], ◌∷◌, ◌++◌, length, get_or, set, All, Contains, refl, sym, ap}
 use Rattle.std.proofs.Common.{ap₂, subst, subst₂, ◌∙◌, arith}
-use Rattle.std.proofs.lemmas.Bool.{cases_lt, eqb-true, eqb-false}
+use Rattle.std.proofs.lemmas.Bool.{cases_Bool, cases_lt, eqb-true, eqb-false}
 use Rattle.std.proofs.lemmas.Nat.{mul-le}
 use Rattle.std.proofs.lemmas.Grind.{get_or-set_at}
 use Rattle.std.proofs.lemmas.List.{get_or-set_other, get_or_default, get_or-append_right, get_or_append_left, length-append, length-set}
@@ -63,15 +63,6 @@ first_all lengths k first e h = record { count = h.many ∙ e; each = λ m l. h.
 -- ---- the order of places
 abbrev pub AreShort : List ℕ → Type 0
 AreShort lengths = All (λ l. (1 ≤ l) × (l ≤ greatest_length)) lengths
-
-later_rank : (lengths : List ℕ) (m a b : ℕ) → 1 ≤ get_or lengths m 0 → a < b → (place_on lengths m a).end < (place_on lengths m b).end
-later_rank lengths m a b some h = by (get_or lengths m 0) some
-  where
-    more : (a b : ℕ) → a < b → a + 1 ≤ b
-    more a b h = omega (arith, h)
-
-    by : (l : ℕ) → 1 ≤ l → a * l < b * l
-    by l k = omega (arith, mul-le-mul_right l (more a b h), k)
 
 ComesFirst-trans : (p q : Place) (r : Place) → ComesFirst p q → q.end < r.end → ComesFirst p r
 ComesFirst-trans p q r h k = inl (elim h [ inl l ↦ omega (arith, l, k) | inr e ↦ omega (arith, e.0, k) ])
@@ -158,11 +149,10 @@ module _ (lengths : List ℕ) (long : (m : ℕ) → m < length lengths → 1 ≤
 
   -- what holds of the new place of the machine k, and of the places of the others
   by_machine : (P : ℕ → Place → Type 0) → P k q → ((m : ℕ) → m < length lengths → m ≢ k → P m (place_at next m)) → (m : ℕ) → m < length lengths → P m (place_at after m)
-  by_machine P here there m l = by (eqb m k) refl
-    where
-      by : (t : Bool) → eqb m k ≡ t → P m (place_at after m)
-      by true e = let same = eqb-true m k e in subst (P m) (sym (at_k m same)) (subst (λ x. P x q) (sym same) here)
-      by false e = let other = eqb-false m k e in subst (P m) (sym (at_other m other)) (there m l other)
+  by_machine P here there m l = elim (cases_Bool (eqb m k)) [
+    | inl e ↦ let same = eqb-true m k e in subst (P m) (sym (at_k m same)) (subst (λ x. P x q) (sym same) here)
+    | inr e ↦ let other = eqb-false m k e in subst (P m) (sym (at_other m other)) (there m l other)
+  ]
 
   -- the place that is taken comes before the next places of the other machines
   p-before : (m : ℕ) → m < length lengths → m ≢ k → ComesFirst p (place_at next m)

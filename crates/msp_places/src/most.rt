@@ -176,23 +176,6 @@ fn pieces_by_cost(alloc: Global, inst: &Instance, unit: u64) -> Result<List<Piec
     in_turn(alloc, listed, order.as_slice())
 }
 
-/// A schedule of least greatest cost, with its cost.
-fn schedule_by_cost(alloc: Global, inst: &Instance) -> Result<Solution, NoMemory>
-    requires inner { Inner inst.now }
-    requires class { inst.now.class ≡ places_most_class }
-    ensures best { IfOk result (λ s. IsBest inst.now s) }
-    ensures bounds { IfOk result (λ s. IsAnswer inst.now s.schedule) }
-    ensures order { IfOk result (λ s. IsByCost inst.now s.schedule) }
-{
-    let unit = multiple_of_all(inst.speeds.as_slice());
-    let pieces = pieces_by_cost(alloc, inst, unit)?;
-    let schedule = Schedule {
-        unit: i128::from(unit),
-        pieces,
-    };
-    Ok(best_solution(inst, schedule))
-}
-
 /// Finds a schedule of jobs of one time on uniform machines whose greatest cost is least: from the last of the earliest places to the
 /// first, of the jobs left the one that costs least there takes the place, ties to the lesser number (Graham, Lawler, Lenstra and Rinnooy
 /// Kan 1979).
@@ -221,6 +204,12 @@ impl Solver for PlacesMost {
         // The form of the answer.
         ensures order { IfOk result (λ s. IsByCost inst.now s.schedule) }
     {
-        schedule_by_cost(alloc, inst)
+        let unit = multiple_of_all(inst.speeds.as_slice());
+        let pieces = pieces_by_cost(alloc, inst, unit)?;
+        let schedule = Schedule {
+            unit: i128::from(unit),
+            pieces,
+        };
+        Ok(best_solution(inst, schedule))
     }
 }

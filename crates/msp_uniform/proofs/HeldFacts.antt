@@ -30,7 +30,8 @@ DoHold-start speeds holds h late w = record { many = omega (arith, w.many); each
 -- ---- the last place does the next job
 pub record CanStay (t : Task) (sp holds : List ℕ) (j unit h work rest : ℕ) (early late : List Segment) : Type 0 where
   pub can : CanBeLaid sp h work late
-  pub next : (h' rest' : ℕ) (early' late' : List Segment) → IsLaidHere (at sp) j h work early late early' late' × (h' ≡ h) × (rest' + work ≡ rest) → IsNextTape t holds j unit h early late h' rest' early' late'
+  pub next : (h' rest' : ℕ) (early' late' : List Segment) → IsLaidHere (at sp) j h work early late early' late' × (h' ≡ h) × (rest' + work ≡ rest)
+      → IsNextTape t holds j unit h early late h' rest' early' late'
 
 -- ---- the last place does the rest of what it can, and the place before it more
 pub record CanTurn (t : Task) (sp holds : List ℕ) (j unit h rest more : ℕ) (early late : List Segment) : Type 0 where
@@ -52,14 +53,14 @@ module _ (t : Task) (k : IsTask t) (holds : List ℕ) (j : ℕ) (left : List ℕ
     stays l = record {
       can = can_here t k j left unit h early late r l;
       next = λ h' rest' early' late' (w, q, e). subst (λ a. IsNextTape t holds j unit h early late a rest' early' late') (sym q) (
-        let s = laid_late t k j left unit h early late r need w.firsts late' w.laid in
-        record {
-          held = subst (λ e. DoHold t.speeds.items holds h e late') (sym w.early_is)
-              (record { many = d.many; each = λ i b. omega (arith, d.each i b, s.places i b, sum_by-append (λ y. y.length * rate_at (at t.speeds.items) i y) early w.firsts) });
-          left = omega (arith, s.rest, e);
-          taped = λ jobs p. IsTaped-here t k j jobs unit h early late p early' late' w;
-        }
-      );
+          let s = laid_late t k j left unit h early late r need w.firsts late' w.laid in
+          record {
+            held = subst (λ e. DoHold t.speeds.items holds h e late') (sym w.early_is)
+                (record { many = d.many; each = λ i b. omega (arith, d.each i b, s.places i b, sum_by-append (λ y. y.length * rate_at (at t.speeds.items) i y) early w.firsts) });
+            left = omega (arith, s.rest, e);
+            taped = λ jobs p. IsTaped-here t k j jobs unit h early late p early' late' w;
+          }
+          );
     }
 
     pub can_stay : (sp : List ℕ) (work rest : ℕ) → sp ≡ t.speeds.items → work ≡ need → rest ≡ done h late → work ≤ rest → CanStay t sp holds j unit h work rest early late
@@ -75,15 +76,19 @@ module _ (t : Task) (k : IsTask t) (holds : List ℕ) (j : ℕ) (left : List ℕ
     can_late = over_late t k j left unit g early late r l;
     can_early = subst (λ a. CanBeLaid t.speeds.items a (need - done (suc g) late) early) (less g) (over_early t k j left unit g early late r l);
     next = λ h' early' late' w.
-      let same : h' ≡ g = omega (arith, w.place_is) in
-      let also = subst (λ a. AreLaid false (at t.speeds.items) j a (need - done (suc g) late) 0 early early' w.seconds) same w.also in
-      let held = over_held t k j left unit g early late r l w.firsts w.none w.seconds early' w.laid also holds d in
-      subst₂ (λ a ls. (a < length holds) × (need - done (suc g) late ≤ at holds a) × IsNextTape t holds j unit (suc g) early late a (at holds a - (need - done (suc g) late)) early' ls)
-          (sym same) (sym w.late_is) (held.1, omega (arith, held.2), record {
-        held = held.0;
-        left = omega (arith, held.2);
-        taped = λ jobs p. over_taped t k j jobs unit g early late p l w.firsts w.none w.seconds early' w.laid also;
-      });
+        let same : h' ≡ g = omega (arith, w.place_is) in
+        let also = subst (λ a. AreLaid false (at t.speeds.items) j a (need - done (suc g) late) 0 early early' w.seconds) same w.also in
+        let held = over_held t k j left unit g early late r l w.firsts w.none w.seconds early' w.laid also holds d in
+        subst₂ (λ a ls. (a < length holds) × (need - done (suc g) late ≤ at holds a) × IsNextTape t holds j unit (suc g) early late a (at holds a - (need - done (suc g) late)) early' ls)
+        (sym same) (sym w.late_is) (
+          held.1,
+          omega (arith, held.2),
+          record {
+            held = held.0;
+            left = omega (arith, held.2);
+            taped = λ jobs p. over_taped t k j jobs unit g early late p l w.firsts w.none w.seconds early' w.laid also;
+          },
+        );
   }
     where
       less : (g : ℕ) → g ≡ suc g - 1

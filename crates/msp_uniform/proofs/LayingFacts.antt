@@ -235,7 +235,8 @@ module _ (speed : ℕ → ℕ) (job r : ℕ) where
           seconds = f.seconds;
           all = h.all ∙ ap (λ l. h.done ++ l) others_are ∙ sym (append_assoc h.done (x ∷ []) late);
           laid = AreLaid-next false speed job r whole left after h.done x h.firsts [] (h.firsts ++ f.laid.firsts_new) f.seconds
-              (subst (AreLaid false speed job r whole left h.done h.firsts) none_late h.laid) (IsOneLaid-among false speed job r left after x early early' f.seconds f.laid h.firsts _ [] f.seconds refl refl);
+              (subst (AreLaid false speed job r whole left h.done h.firsts) none_late h.laid)
+              (IsOneLaid-among false speed job r left after x early early' f.seconds f.laid h.firsts _ [] f.seconds refl refl);
           early_is = f.laid.firsts_are ∙ ap (λ l. l ++ f.laid.firsts_new) h.early_is ∙ append_assoc early0 h.firsts f.laid.firsts_new;
           late_is = f.late_is;
           few = f.few;

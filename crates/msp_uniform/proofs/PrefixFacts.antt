@@ -1,5 +1,5 @@
 -- Works fit into places, turn after turn.
-use Rattle.std.proofs.Common.{◌≡◌, ℕ, zero, suc, ◌+◌, ◌*◌, ◌<◌, ◌≤◌, ◌⊎◌, inl, inr, sym, subst, arith}
+use Rattle.std.proofs.Common.{◌≡◌, ℕ, zero, suc, ◌+◌, ◌<◌, ◌≤◌, ◌⊎◌, inl, inr, sym, subst, arith}
 use Rattle.msp_class.specs.Sums.{total_below}
 use Rattle.msp_class.proofs.Cases.{less_or_not}
 use Rattle.msp_class.proofs.Sums.{total_below-mono, total_below-same}

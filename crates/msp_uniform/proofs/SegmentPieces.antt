@@ -1,5 +1,5 @@
 -- The pieces of segments one after another: they do not overlap, and what they do adds up.
-use Rattle.std.proofs.Common.{◌≡◌, ◌≢◌, ℕ, zero, suc, ◌+◌, ◌*◌, ◌-◌, ◌<◌, ◌≤◌, ◌⊎◌, inl, inr, Bool, true, false, cond, eqb, ltb, List, [], ◌∷◌, ◌++◌, length, get_or, All, AllPairs}
+use Rattle.std.proofs.Common.{◌≡◌, ◌≢◌, ℕ, zero, suc, ◌+◌, ◌*◌, ◌-◌, ◌<◌, ◌≤◌, ◌⊎◌, inl, inr, true, false, cond, eqb, ltb, List, [], ◌∷◌, ◌++◌, length, get_or, All, AllPairs}
 use Rattle.std.proofs.Common.{sum_by, refl, sym, ap, ◌∙◌, arith}
 use Rattle.std.proofs.lemmas.Bool.{cond_both, eqb-true, eqb-false, ltb-true, ltb-false}
 use Rattle.std.proofs.lemmas.List.{length-append}
@@ -42,9 +42,9 @@ module _ (m n : ℕ) where
   job_at-once i k t moment [] l b h = λ e. refl
   job_at-once i k t moment (x ∷ xs) l b h = elim (ltb moment (t + long x)) as (λ v. cond v (job_on x i) (job_at n i (t + long x) xs moment)
       ≡ cond v (job_on x k) (job_at n k (t + long x) xs moment) → cond v (job_on x i) (job_at n i (t + long x) xs moment) ≡ n) [
-    | true ↦ (All-head Slice x xs h).once i k l b
-    | false ↦ job_at-once i k (t + long x) moment xs l b (All-tail Slice x xs h)
-  ]
+        | true ↦ (All-head Slice x xs h).once i k l b
+        | false ↦ job_at-once i k (t + long x) moment xs l b (All-tail Slice x xs h)
+      ]
 
   -- ---- one machine
   -- a piece of a machine that begins at a or later and ends by the end
@@ -147,7 +147,13 @@ module _ (m n : ℕ) where
       runs_work : (j a t : ℕ) (xs : List Segment) → a ≤ t → sum_by counted (runs_from n i j a t xs) ≡ (t - a) * value j + sum_by (λ x. long x * value (job_on x i)) xs
       runs_work j a t [] l = omega (arith, part_work j a t)
       runs_work j a t (x ∷ xs) l = cond_both (eqb (job_on x i) j) _ _ (λ ps. sum_by counted ps ≡ (t - a) * value j + sum_by (λ y. long y * value (job_on y i)) (x ∷ xs))
-          (λ e. omega (arith, runs_work j a (t + long x) xs (omega (arith, l)), both (value j) (long x), ap (λ k. long x * value k) (eqb-true (job_on x i) j e), sum_by-cons (λ y. long y * value (job_on y i)) x xs))
+          (λ e. omega (
+            arith,
+            runs_work j a (t + long x) xs (omega (arith, l)),
+            both (value j) (long x),
+            ap (λ k. long x * value k) (eqb-true (job_on x i) j e),
+            sum_by-cons (λ y. long y * value (job_on y i)) x xs,
+          ))
           (λ e. omega (
             arith,
             sum_by-append counted (part_on n i j a t) (runs_from n i (job_on x i) t (t + long x) xs),

@@ -1,6 +1,6 @@
 -- The jobs that no place is too short for, laid one after another from the last place to the first.
 use Rattle.std.proofs.Common.{◌≡◌, ◌≢◌, ℕ, zero, suc, ◌+◌, ◌*◌, ◌-◌, ◌<◌, ◌≤◌, inl, inr, Bool, true, false, leb, List, [], ◌∷◌, ◌++◌, length, get_or, All, AllPairs, cond, sum_by}
-use Rattle.std.proofs.Common.{ap, refl, sym, ◌∙◌, subst, add-one, arith}
+use Rattle.std.proofs.Common.{ap, refl, sym, subst, add-one, arith}
 use Rattle.std.specs.Int.{◌∣◌}
 use Rattle.std.proofs.lemmas.Bool.{leb-true, leb-false, ne_eqb}
 use Rattle.std.proofs.Math.Nat.{dvd-add_iff_right}
@@ -74,13 +74,14 @@ module _ (speeds : List ℕ) (n : ℕ) (time : ℕ → ℕ) (j : ℕ) (left : Li
         | inr w ↦ inr (omega (arith, w, joined (job_rate m (at speeds) k), s.others k l d))
       ]
     ];
-    room = subst (λ k. sum_by (λ i. unit * time i) left ≤ total_below h (λ k. amount (rate_at (at speeds) k) (early ++ fs)) + total_below k (λ k. amount (rate_at (at speeds) k) ss)) (sym (add-one h)) (omega (
-      arith,
-      subst (λ k. sum_by (λ i. unit * time i) (j ∷ left) ≤ total_below h (λ k. amount (rate_at (at speeds) k) early) + total_below k (λ k. amount (rate_at (at speeds) k) late)) (add-one h) p.room,
-      sum_by-cons (λ i. unit * time i) j left,
-      places h (omega arith),
-      s.rest,
-    ));
+    room = subst (λ k. sum_by (λ i. unit * time i) left
+        ≤ total_below h (λ k. amount (rate_at (at speeds) k) (early ++ fs)) + total_below k (λ k. amount (rate_at (at speeds) k) ss)) (sym (add-one h)) (omega (
+          arith,
+          subst (λ k. sum_by (λ i. unit * time i) (j ∷ left) ≤ total_below h (λ k. amount (rate_at (at speeds) k) early) + total_below k (λ k. amount (rate_at (at speeds) k) late)) (add-one h) p.room,
+          sum_by-cons (λ i. unit * time i) j left,
+          places h (omega arith),
+          s.rest,
+        ));
     -- the last free machines can do no less for the others than before
     short = λ g is k d l. omega (
       arith,

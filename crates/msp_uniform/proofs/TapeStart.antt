@@ -1,5 +1,5 @@
 -- The tape begins: the jobs that are left need no more than the last place each.
-use Rattle.std.proofs.Common.{◌≡◌, ℕ, zero, suc, ◌+◌, ◌*◌, ◌<◌, ◌≤◌, inl, inr, List, [], ◌∷◌, length, get_or, All, sum_by, refl, sym, ap, subst, ◌∙◌, zero-add, add-one, arith}
+use Rattle.std.proofs.Common.{◌≡◌, ℕ, zero, suc, ◌*◌, ◌<◌, ◌≤◌, inl, inr, List, [], ◌∷◌, length, get_or, All, sum_by, refl, sym, ap, subst, ◌∙◌, zero-add, add-one, arith}
 use Rattle.std.specs.Int.{◌∣◌}
 use Rattle.std.proofs.Math.Nat.{mul-le-mul_left, dvd-mul_left, dvd-mul_right}
 use Rattle.std.proofs.lemmas.Nat.Gcd.{dvd-zero}

@@ -48,18 +48,19 @@ module _ (speeds : List ℕ) (n : ℕ) (time : ℕ → ℕ) (j : ℕ) (left : Li
         | inr w ↦ inr (omega (arith, w, joined (job_rate m (at speeds) k), a.others k l d, s.others k l d))
       ]
     ];
-    room = subst (λ k. sum_by (λ i. unit * time i) left ≤ total_below g (λ k. amount (rate_at (at speeds) k) cs) + total_below k (λ k. amount (rate_at (at speeds) k) (bs ++ fs))) (sym (add-one g)) (omega (
-      arith,
-      subst (λ k. sum_by (λ i. unit * time i) (j ∷ left) ≤ total_below (suc g) (λ k. amount (rate_at (at speeds) k) early) + total_below k (λ k. amount (rate_at (at speeds) k) late))
-          (add-one (suc g)) p.room,
-      sum_by-cons (λ i. unit * time i) j left,
-      places g (omega arith),
-      joined (rate_at (at speeds) g),
-      s.places g (omega arith),
-      a.rest,
-      s.rest,
-      work,
-    ));
+    room = subst (λ k. sum_by (λ i. unit * time i) left
+        ≤ total_below g (λ k. amount (rate_at (at speeds) k) cs) + total_below k (λ k. amount (rate_at (at speeds) k) (bs ++ fs))) (sym (add-one g)) (omega (
+          arith,
+          subst (λ k. sum_by (λ i. unit * time i) (j ∷ left) ≤ total_below (suc g) (λ k. amount (rate_at (at speeds) k) early) + total_below k (λ k. amount (rate_at (at speeds) k) late))
+              (add-one (suc g)) p.room,
+          sum_by-cons (λ i. unit * time i) j left,
+          places g (omega arith),
+          joined (rate_at (at speeds) g),
+          s.places g (omega arith),
+          a.rest,
+          s.rest,
+          work,
+        ));
     short = λ f is k d l. omega (
       arith,
       All-tail (λ i. unit * time i ≤ amount (rate_at (at speeds) g) early + amount (rate_at (at speeds) (suc g)) late) j left (p.short g (sym (add-one g))) k d l,

@@ -5,14 +5,13 @@ use Rattle.std.specs.Int.{◌∣◌}
 use Rattle.std.proofs.Math.Nat.{le_trans, one-le-mul, mul-le-mul_left, dvd-mul_left, dvd-mul_right_of_dvd}
 use Rattle.std.proofs.lemmas.List.{length-append, drop_all}
 use Rattle.std.proofs.lemmas.List.Elements.{All-append, All-head, All-weaker, length_all_zip}
-use Rattle.msp_class.specs.Sums.{total_below}
 use Rattle.msp_class.proofs.Sums.{sum_by-append, sum_by-cons}
 use Rattle.msp_uniform.specs.declared.unit.TheConstants.{GREATEST_PRODUCT}
 use Rattle.msp_uniform.specs.declared.segments.Segment.{Segment}
 use Rattle.msp_uniform.specs.declared.task.Task.{Task}
 use Rattle.msp_uniform.specs.Runs.{IsSliceOf}
-use Rattle.msp_uniform.specs.Segments.{at, IsSegment, IsPartOf, IsAbsent, rate_at, amount, AreFew, AreScaled, AreLaid, CanGain, HasPlaces, greatest_length}
-use Rattle.msp_uniform.specs.Plans.{IsTask, IsReached, IsNextPlan, IsTaped, IsFilled, AreShort, CanBeLaid, IsLaidHere, IsLaidOver, greatest_work}
+use Rattle.msp_uniform.specs.Segments.{at, IsSegment, IsPartOf, IsAbsent, rate_at, amount, AreScaled, AreLaid, CanGain, HasPlaces, greatest_length}
+use Rattle.msp_uniform.specs.Plans.{IsTask, IsReached, IsNextPlan, IsTaped, IsFilled, AreShort, CanBeLaid, IsLaidHere, greatest_work}
 use Rattle.msp_uniform.proofs.Affordable.{finest_small, end_small}
 use Rattle.msp_uniform.proofs.ScaledFacts.{length-short}
 use Rattle.msp_uniform.proofs.LaidFacts.{few_parts}

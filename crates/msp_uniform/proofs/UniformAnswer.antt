@@ -1,5 +1,5 @@
 -- The schedule of filled segments is best, within the bounds, and costs the greatest quotient.
-use Rattle.std.proofs.Common.{◌+◌, ◌≡◌, ℕ, zero, suc, ◌*◌, ◌<◌, ◌≤◌, ◌⊎◌, inl, inr, List, length, take, get_or, ℤ, pos, ◌*ℤ◌, ◌≤ℤ◌, All, sum_by, IsPermutation, refl, sym, ap}
+use Rattle.std.proofs.Common.{◌+◌, ◌≡◌, ℕ, suc, ◌*◌, ◌<◌, ◌≤◌, inl, inr, List, length, take, get_or, ℤ, pos, ◌*ℤ◌, ◌≤ℤ◌, All, sum_by, IsPermutation, refl, sym, ap}
 use Rattle.std.proofs.Common.{subst, subst₂, ◌∙◌, arith}
 use Rattle.std.proofs.lemmas.Int.{ints}
 use Rattle.std.proofs.Math.Nat.{one-le-mul, mul-le-mul_left, eq_of_mul-eq-mul_right}

@@ -1,7 +1,7 @@
 -- One job more: its pieces are laid at the place with room.
 use Rattle.std.proofs.Common.{◌≡◌, ℕ, suc, ◌+◌, ◌*◌, ◌-◌, ◌<◌, ◌≤◌, ◌⊎◌, inl, inr, Bool, true, false, cond, eqb, leb, List, [], ◌∷◌, ◌++◌, length, get_or, filter, All, AllPairs}
 use Rattle.std.proofs.Common.{sum_by, refl, sym, ap, ◌∙◌, subst, arith, length-append}
-use Rattle.std.proofs.lemmas.Bool.{eqb-true, eqb-false, leb-true, leb-false}
+use Rattle.std.proofs.lemmas.Bool.{cases_Bool, eqb-true, eqb-false, leb-true, leb-false}
 use Rattle.std.proofs.lemmas.List.{get_or_default}
 use Rattle.std.proofs.lemmas.List.Sums.{sum_by-append, sum_by-cons}
 use Rattle.std.proofs.lemmas.List.Elements.{All-nil, All-cons, All-push, filter-append}
@@ -101,19 +101,17 @@ opened-after end q o r a (inr h) = inl (omega (arith, h.1))
 
 -- the machines are not used up
 within : (q e m b t : ℕ) → q * e + b ≡ m * t → t ≤ e → 0 < b → q < m
-within q e m b t h l some = by (leb m q) refl
-  where
-    by : (c : Bool) → leb m q ≡ c → q < m
-    by true f = absurd (omega (arith, mul-le-mul_right e (leb-true m q f), mul-le-mul_left m l, h))
-    by false f = leb-false m q f
+within q e m b t h l some = elim (cases_Bool (leb m q)) [
+  | inl f ↦ absurd (omega (arith, mul-le-mul_right e (leb-true m q f), mul-le-mul_left m l, h))
+  | inr f ↦ leb-false m q f
+]
 
 -- where the machine is at most one after the last
 pub within_next : (q e m o t : ℕ) → q * e + o ≡ m * t → t ≤ e → 0 < e → q ≤ m
-within_next q e m o t h l some = by (leb q m) refl
-  where
-    by : (c : Bool) → leb q m ≡ c → q ≤ m
-    by true f = leb-true q m f
-    by false f = let less : m + 1 ≤ q = omega (arith, leb-false q m f) in absurd (omega (arith, mul-le-mul_right e less, mul-le-mul_left m l, h))
+within_next q e m o t h l some = elim (cases_Bool (leb q m)) [
+  | inl f ↦ leb-true q m f
+  | inr f ↦ let less : m + 1 ≤ q = omega (arith, leb-false q m f) in absurd (omega (arith, mul-le-mul_right e less, mul-le-mul_left m l, h))
+]
 
 -- ---- one job more
 module _ (i : Instance) (h : IsWrapInstance i) (end k q o r a : ℕ)

@@ -150,24 +150,9 @@ fn wrapped_pieces(alloc: Global, inst: &Instance, end: u64) -> Result<List<Piece
     Ok(pieces)
 }
 
-/// A best schedule of the instance: the jobs in order fill machine after machine up to the least end, and a job that does not fit goes
-/// on at moment 0 of the next machine (McNaughton 1959). The unit is the number of machines.
-fn wrapped(alloc: Global, inst: &Instance) -> Result<Solution, NoMemory>
-    requires inner { Inner inst.now }
-    requires class { inst.now.class ≡ wrap_class }
-    ensures best { IfOk result (λ s. IsBest inst.now s) }
-    ensures bounds { IfOk result (λ s. IsAnswer inst.now s.schedule) }
-    ensures cost { IfOk result (λ s. IsWrapCost inst.now s.cost) }
-{
-    let pieces = wrapped_pieces(alloc, inst, common_end(inst))?;
-    let schedule = Schedule {
-        unit: i128::from(inst.machines),
-        pieces,
-    };
-    Ok(best_solution(inst, schedule))
-}
-
-/// Finds a schedule of least length on identical machines, where jobs may be cut, by the wrap around rule (McNaughton 1959).
+/// Finds a schedule of least length on identical machines, where jobs may be cut, by the wrap around rule: the jobs in order fill machine
+/// after machine up to the least end, and a job that does not fit goes on at moment 0 of the next machine (McNaughton 1959). The unit is
+/// the number of machines.
 #[derive(Clone, Copy)]
 pub struct Wrap;
 
@@ -189,6 +174,11 @@ impl Solver for Wrap {
         ensures bounds { IfOk result (λ s. IsAnswer inst.now s.schedule) }
         ensures cost { IfOk result (λ s. IsWrapCost inst.now s.cost) }
     {
-        wrapped(alloc, inst)
+        let pieces = wrapped_pieces(alloc, inst, common_end(inst))?;
+        let schedule = Schedule {
+            unit: i128::from(inst.machines),
+            pieces,
+        };
+        Ok(best_solution(inst, schedule))
     }
 }

@@ -20,8 +20,13 @@ fastest : (c : After-as_slice-machines) → IsByFalling (length c.as_slice-rates
 fastest c = subst (IsByFalling (length c.as_slice-rates.result.now) (at c.as_slice-rates.result.now)) (sym c.as_slice-machines.ensures.value) c.in_ok-fastest.ensures
 
 -- the task
-made : (c : After-multiple_of_all-multiple) → IsTaskOf c.args.inst.now (record { times = c.in_ok-times.times; speeds = c.in_ok-speeds.speeds; work = c.greatest_quotient-least.result.work;
-    speed = c.greatest_quotient-least.result.speed; multiple = c.multiple_of_all-multiple.result }) c.as_slice-jobs.result.now c.as_slice-machines.result.now
+made : (c : After-multiple_of_all-multiple) → IsTaskOf c.args.inst.now (record {
+  times = c.in_ok-times.times;
+  speeds = c.in_ok-speeds.speeds;
+  work = c.greatest_quotient-least.result.work;
+  speed = c.greatest_quotient-least.result.speed;
+  multiple = c.multiple_of_all-multiple.result;
+}) c.as_slice-jobs.result.now c.as_slice-machines.result.now
 made c = IsTaskOf-made c.args.inst.now c.requires.class c.requires.inner _ _
     (c.as_slice-durations.ensures.value ∙ c.in_ok-times.ensures) (c.as_slice-rates.ensures.value ∙ c.in_ok-speeds.ensures.items ∙ c.as_slice.ensures)
     _ _ _ _ _ (subst (IsByFalling (length c.as_slice-durations.result.now) (at c.as_slice-durations.result.now)) (sym c.as_slice-jobs.ensures.value) c.in_ok-longest.ensures)

@@ -7,7 +7,7 @@ use Rattle.msp_instance.specs.Conditions.{HasSmallMultiple}
 use Rattle.msp_places.specs.Most.{IsByCost}
 use Rattle.msp_places.proofs.PlaceFacts.{IsPlacesInstance-from}
 use Rattle.msp_places.proofs.MostSteps.{common_read, IsMostAnswer-from}
-use Rattle.msp_places.proofs.most.schedule_by_cost.Goals as goal
+use Rattle.msp_places.proofs.most.PlacesMostSolver.solve.Goals as goal
 
 pub multiple_of_all-unit-requires-clause-speeds : goal.multiple_of_all-unit-requires-clause-speeds
 multiple_of_all-unit-requires-clause-speeds c =

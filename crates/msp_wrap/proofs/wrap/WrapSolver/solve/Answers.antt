@@ -2,7 +2,7 @@ use Rattle.std.proofs.Common.{◌∙◌, rules}
 use Rattle.std.proofs.lemmas.Int.{to_z-of_z}
 use Rattle.std.specs.Int.{w128}
 use Rattle.msp_wrap.proofs.Best.{IsBestAnswer-wrap, IsWrapCost-read}
-use Rattle.msp_wrap.proofs.wrap.wrapped.Goals as goal
+use Rattle.msp_wrap.proofs.wrap.WrapSolver.solve.Goals as goal
 
 pub best_solution-requires-clause-best : goal.best_solution-requires-clause-best
 best_solution-requires-clause-best c =
