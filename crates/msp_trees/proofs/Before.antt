@@ -1,11 +1,10 @@
 -- What is before each job of an instance with at most one predecessor for each job.
-use Rattle.std.proofs.Common.{◌≡◌, ◌≢◌, ℕ, zero, suc, ◌+◌, ◌<◌, ◌≤◌, ◌⊎◌, inl, inr, Bool, true, false, cond, if◌then◌else◌, List, [], ◌∷◌, length, get_or, All, AllPairs, Some}
-use Rattle.std.proofs.Common.{refl, sym, ap, subst, ◌∙◌, arith}
+use Rattle.std.proofs.Common.{◌≡◌, ◌≢◌, ℕ, zero, suc, ◌+◌, ◌<◌, ◌≤◌, ◌⊎◌, inl, inr, Bool, true, false, cond, if◌then◌else◌, List, [], ◌∷◌, length, get_or, All, AllPairs}
+use Rattle.std.proofs.Common.{refl, sym, ap, subst, arith}
 use Rattle.std.specs.Prelude.{◌==◌}
 use Rattle.std.proofs.lemmas.Bool.{eqb-true, eqb-false, eq-eqb}
 use Rattle.std.proofs.lemmas.List.Sums.{sum_by-cons}
 use Rattle.std.proofs.lemmas.List.Elements.{All-contains}
-use Rattle.std.proofs.lemmas.Option.{slice_get-get_or}
 use Rattle.msp_class.proofs.Sums.{cond-yes, sum_by-contains, OnceBelow}
 use Rattle.msp_instance.specs.declared.Arc.{Arc}
 use Rattle.msp_instance.specs.declared.Instance.{Instance}
@@ -89,19 +88,6 @@ module _ (i : Instance) (ends : All (λ a. (a.before < length i.jobs) × (a.afte
 
   -- ---- where the arcs have no cycle
   module _ (order : List ℕ) (q : IsSequence i order) (forward : All (GoesForward order) i.arcs) where
-    pub may_precede : AllPairs (MayPrecede i.arcs) order
-    may_precede a b d h k arc c e f =
-        let (m, n, less, at, to) = All-contains (GoesForward order) i.arcs arc forward c in
-        let w = All-contains (λ x. (x.before < length i.jobs) × (x.after < length i.jobs)) i.arcs arc ends c in
-        omega (
-          arith,
-          less,
-          same_place i order q arc.before m b w.0 at (slice_get-get_or order b d k ∙ ap Some (sym e)),
-          same_place i order q arc.after n a w.1 to
-              (slice_get-get_or order a d (omega arith) ∙ ap Some (sym f)),
-          h,
-        )
-
     pub no_loop : (j : ℕ) → ¬ HasStep i.arcs j j
     no_loop j c =
         let (m, n, less, at, to) = All-contains (GoesForward order) i.arcs (record { before = j; after = j }) forward c in

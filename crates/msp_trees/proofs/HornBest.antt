@@ -1,9 +1,9 @@
 -- The jobs back to back in a cheapest order are a best schedule.
-use Rattle.std.proofs.Common.{◌≡◌, ℕ, ◌*◌, ◌<◌, ◌≤◌, List, length, ℤ, pos, nat_abs, ◌*ℤ◌, ◌≤ℤ◌, refl, sym, ap, subst, subst₂, ◌∙◌, arith, slice_index_or}
+use Rattle.std.proofs.Common.{◌≡◌, ℕ, ◌*◌, ◌<◌, ◌≤◌, List, length, pos, nat_abs, ◌*ℤ◌, ◌≤ℤ◌, refl, sym, ap, subst, subst₂, ◌∙◌, arith, slice_index_or}
 use Rattle.std.proofs.lemmas.Int.{ints}
 use native.Mathlib.Nat.{mul-le-mul_left}
 use Rattle.std.proofs.lemmas.List.{get_or_past}
-use Rattle.msp_class.proofs.IntegerRing.{natural, ≤ℤ_of_same, ≤ℤ_trans, pos-le, *ℤ-one}
+use Rattle.msp_class.proofs.IntegerRing.{natural, ≤ℤ_of_same, ≤ℤ_trans, *ℤ-one}
 use Rattle.msp_class.proofs.Sums.{OnceBelow}
 use Rattle.msp_class.specs.declared.class.Crit.TheVariants.{SumWC}
 use Rattle.msp_instance.specs.declared.Instance.{Instance}
@@ -17,6 +17,7 @@ use Rattle.msp_pieces.specs.Cost.{cost_of}
 use Rattle.msp_pieces.specs.BackToBack.{weighted_ends, piece, time_at, schedule_in_order}
 use Rattle.msp_pieces.proofs.lists.BackToBack.{last-weighted_ends_below}
 use Rattle.msp_pieces.proofs.costs.Charges.{SameCharges-from_jobs}
+use Rattle.msp_pieces.proofs.feasible.InSeries.{may_precede}
 use Rattle.msp_pieces.proofs.feasible.OneMachine.{weighted_cost}
 use Rattle.msp_pieces.proofs.feasible.BackToBack.{piece_makes}
 use Rattle.msp_pieces.specs.LineUp.{order_of_ends}
@@ -30,7 +31,7 @@ use Rattle.msp_route.proofs.BackToBackAnswer.{IsBestRow, timed, short_jobs}
 use Rattle.msp_route.proofs.Owed.{over_units}
 use Rattle.msp_route.proofs.BackToBackArcs.{forward_is_feasible}
 use Rattle.msp_trees.proofs.Joins.{IsTree}
-use Rattle.msp_trees.proofs.Before.{before_within, before_start, forward_from_arcs, steps_forward, may_precede, no_loop, before_loose}
+use Rattle.msp_trees.proofs.Before.{before_within, before_start, forward_from_arcs, steps_forward, no_loop, before_loose}
 
 -- what an instance of the class has
 pub record IsHornInstance (i : Instance) : Type 0 where
@@ -57,7 +58,7 @@ IsHornInstance-from_class i e h =
         loose = before_loose i ends order q forward;
         start = λ j l s. let at = before_start i ends in absurd (omega (arith, at, s, l));
         time = no_time i;
-        forward = (order, once, forward_from_arcs i ends order once (may_precede i ends order q forward));
+        forward = (order, once, forward_from_arcs i ends order once (may_precede i order q ends forward));
       };
     }
   where
