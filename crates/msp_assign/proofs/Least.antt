@@ -1,6 +1,6 @@
 -- Prices show that an assignment is least.
 use Rattle.std.proofs.Common.{◌≡◌, ℕ, zero, suc, ◌+◌, ◌*◌, ◌/◌, ◌%◌, ◌<◌, ◌≤◌, inl, inr, ℤ, pos, neg_ℤ, ◌+ℤ◌, ◌≤ℤ◌, nat_abs, List, [], ◌∷◌, true, eqb, length, Contains, count_by}
-use Rattle.std.proofs.Common.{sum_by, sym, ap, ap₂, subst, subst₂, ◌∙◌, arith, refl}
+use Rattle.std.proofs.Common.{sum_by, sym, ap, subst, subst₂, ◌∙◌, arith, refl}
 use Rattle.std.proofs.Math.Nat.{div-add-mod, mod-lt}
 use Rattle.std.proofs.lemmas.Int.{ints}
 use Rattle.std.proofs.lemmas.List.{get_or_default}
@@ -228,13 +228,9 @@ pub IsGiven-read : (rows count lines lines2 long long2 : ℕ) (cost : ℕ → �
     → IsRowPrices (sizes (seen cost long columns2)) falls2 used2 a.row_price → AreColumnPrices (lines2 * long2) long2 columns2 falls2 a.column_price → IsGiven rows count cost a
 IsGiven-read rows count lines lines2 long long2 cost columns columns2 falls falls2 used used2 a whole one enough costs rise el eg ec ef eu h n r c =
     let some = (some_places rows lines long count whole one enough).1 in
-    let n2 : AreNumbers long columns used a.column =
-    subst (λ x. AreNumbers x columns used a.column) eg (subst (λ x. AreNumbers long2 x used a.column) ec (subst (λ x. AreNumbers long2 columns2 x a.column) eu n)) in
-    let r2 : IsRowPrices (sizes (seen cost long columns)) falls used a.row_price = subst (λ x. IsRowPrices (sizes (seen cost long x)) falls used a.row_price) ec
-    (subst (λ x. IsRowPrices (sizes (seen cost long columns2)) x used a.row_price) ef (subst (λ x. IsRowPrices (sizes (seen cost long columns2)) falls2 x a.row_price) eu r)) in
-    let c2 : AreColumnPrices count long columns falls a.column_price =
-    subst (λ x. AreColumnPrices x long columns falls a.column_price) (ap₂ (λ x y. x * y) el eg ∙ whole) (subst (λ x. AreColumnPrices (lines2 * long2) x columns falls a.column_price) eg
-    (subst (λ x. AreColumnPrices (lines2 * long2) long2 x falls a.column_price) ec (subst (λ x. AreColumnPrices (lines2 * long2) long2 columns2 x a.column_price) ef c))) in
+    let n2 = rw (eg, ec, eu) at n in
+    let r2 = rw (ec, ef, eu) at r in
+    let c2 = rw (el, eg, ec, ef, whole) at c in
     record {
       assigned = IsAssigned-placement rows count lines long cost columns falls used a whole some costs rise h n2 r2 c2;
       priced = IsPriced-placement rows count lines long cost columns falls used a whole some costs rise h n2 r2 c2;

@@ -1,5 +1,5 @@
 -- What lists of numbers contain, and lists of distinct numbers.
-use Rattle.std.proofs.Common.{◌≡◌, ◌≢◌, ℕ, suc, ◌+◌, ◌<◌, ◌≤◌, ◌⊎◌, inl, inr, refl, List, [], ◌∷◌, eqb, length, swap_remove, Contains, All, AllPairs, IsPermutation, cond, count_by}
+use Rattle.std.proofs.Common.{◌≡◌, ◌≢◌, ℕ, suc, ◌+◌, ◌<◌, ◌≤◌, ◌⊎◌, inl, inr, refl, List, [], ◌∷◌, eqb, length, get_or, swap_remove, Contains, All, AllPairs, IsPermutation, cond, count_by}
 use Rattle.std.proofs.Common.{◌*◌, ◌-◌, sym, subst, ◌∙◌, arith}
 use Rattle.std.proofs.lemmas.Bool.{eq-eqb}
 use Rattle.std.proofs.lemmas.List.{get_or_default}
@@ -60,6 +60,10 @@ IsWithout-swap_remove xs ys k e h l is s = record {
 
     all : AllPairs (λ x y. x ≢ y) (e ∷ ys)
     all = distinct-permutation xs (e ∷ ys) moved h
+
+-- the same, as the item is read
+pub taken_away : (xs ys : List ℕ) (k e : ℕ) → AllPairs (λ x y. x ≢ y) xs → k < length xs → e ≡ get_or xs k e → ys ≡ swap_remove xs k e → (e ≡ at xs k) × IsWithout xs e ys
+taken_away xs ys k e h l is s = let same = is ∙ get_or_default xs k e 0 l in (same, IsWithout-swap_remove xs ys k e h l same s)
 
 -- a property of numbers that holds of all that are contained
 pub All-from_contained : (P : ℕ → Type 0) (xs : List ℕ) → ((c : ℕ) → Contains xs c → P c) → All P xs

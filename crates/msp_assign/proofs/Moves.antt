@@ -141,11 +141,10 @@ IsStepped-row rows cost columns fall column column2 column3 pushed
     let close = IsClosest-at distance left k free near is in
     let inside : free < columns = omega (arith, is, h.inside k 0 inside_left) in
     let is_far : far ≡ at distance free = ex ∙ get_or_default distance free far 0 (omega (arith, h.distances, inside)) in
-    let g = subst (λ x. IsSearch (sizes cost) columns fall x distance from_ left tree) ec h in
+    let g = rw ec at h in
     let u : ¬ Contains column free = subst (λ x. ¬ Contains x free) ec (subst (λ x. ¬ Contains column2 x) (sym is) unused) in
-    let l = subst (λ x. IsLowered (at distance free) distance x tree fall next) ec3 (subst (λ x. IsLowered (at distance free) distance column3 x fall next) et
-    (subst (λ x. IsLowered (at distance free) x column3 tree2 fall next) ed (subst (λ x. IsLowered x distance2 column3 tree2 fall next) is_far moved))) in
-    let q = subst (λ x. IsPassedOn (column ++ free ∷ []) x tree passed) ef (subst (λ x. IsPassedOn (column ++ free ∷ []) from2 x passed) et3 (subst (λ x. IsPassedOn x from2 tree3 passed) ep walk)) in
+    let l = rw (is_far, ed, et, ec3) at moved in
+    let q = rw (ep, et3, ef) at walk in
     let bound : (r : ℕ) → r < length column → sizes cost r free ≤ greatest_charge = λ r lr. sizes-at_most rows columns cost costs r free (omega (arith, lr, more)) inside in
     subst (λ x. IsStepped (sizes cost) columns next column x free) (sym ea) record {
       placed = IsPlaced-moved (sizes cost) columns fall column p distance from_ left tree g free close u bound next l passed q;

@@ -4,16 +4,16 @@ use Rattle.std.proofs.Common.{sym, ap, subst, ◌∙◌, arith}
 use Rattle.std.proofs.Math.Nat.{min-le_left, min-le_right, min-eq_left, min-eq_right}
 use Rattle.std.proofs.lemmas.Int.{ints}
 use Rattle.std.proofs.lemmas.List.{get_or-set_same, get_or-set_other, length-set}
-use Rattle.std.proofs.lemmas.List.Elements.{All-from_get_or}
 use Rattle.msp_class.proofs.Cases.{same_or_not, less_or_not}
 use Rattle.msp_matching.specs.Passing.{at}
 use Rattle.msp_assign.specs.declared.column.Column.{Column}
 use Rattle.msp_assign.specs.Prices.{HasCosts, greatest_cost}
 use Rattle.msp_assign.specs.Search.{greatest_charge, sizes, paid, IsCheapest, IsPlaced}
 use Rattle.msp_assign.specs.Square.{raised, AreNormal, IsLeastTogether}
-use Rattle.msp_assign.specs.View.{no_column, column_at, number_at, seen, AreFirst, IsView, IsPlacement}
+use Rattle.msp_assign.specs.View.{number_at, seen, AreFirst, IsView, IsPlacement}
 use Rattle.msp_assign.proofs.Lists.{at-Contains}
 use Rattle.msp_assign.proofs.Squares.{all_taken}
+use Rattle.msp_assign.proofs.Views.{IsView-first}
 
 -- ---- the least that columns have fallen together with their beginning
 pub IsLeastTogether-start : (fall begun : List ℕ) (x : ℕ) → x ≡ at fall 0 + at begun 0 → IsLeastTogether fall begun 1 x
@@ -120,14 +120,11 @@ module _ (n : ℕ) (cost : ℕ → ℕ → ℤ) (begun fall used : List ℕ) (co
       unused = λ c l m. absurd (m (all_taken n used p.inside p.apart whole c l));
     }
 
-    line_of : (k : ℕ) → k < length columns → ((column_at columns k).line ≡ k) × ((column_at columns k).place ≡ 0)
-    line_of k l = first.each k (omega (arith, l, first.count))
-
     view : IsView n 1 columns used
-    view = record {
-      inside = All-from_get_or (λ c. (c.line < n) × (c.place < 1)) columns no_column (λ k l. (omega (arith, (line_of k l).0, first.count, l), omega (arith, (line_of k l).1)));
-      once = λ j k lj lk e s. sym (line_of j lj).0 ∙ e ∙ (line_of k lk).0;
-      behind = λ j k lj lk e s. absurd (omega (arith, s, (line_of k lk).1));
+    view = let v = IsView-first n 1 columns first (omega arith) in record {
+      inside = v.inside;
+      once = v.once;
+      behind = λ j k lj lk e s. absurd (omega (arith, s, first.each k (omega (arith, lk, first.count))));
       ahead = λ l k a b. let c = first.each l a in (l, omega (arith, a, first.count), c.0, omega (arith, c.1), inl (omega (arith, c.1, b)));
     }
 

@@ -3,7 +3,8 @@ use Rattle.std.proofs.Common.{◌≡◌, ℕ, zero, suc, ◌+◌, ◌*◌, ◌<�
 use Rattle.msp_assign.specs.declared.column.Column.{Column}
 use Rattle.msp_assign.specs.Search.{HasCharges, sizes, HasUnfallen, IsPlaced, IsOneMore}
 use Rattle.msp_assign.specs.View.{seen, AreFirst, IsView, IsWidened, IsPlacement}
-use Rattle.msp_assign.proofs.Views.{IsView-first, IsPlaced-first, IsView-next, IsPlaced-next, HasUnfallen-next, longer-next, HasCharges-read, some_free}
+use Rattle.msp_assign.proofs.Views.{IsView-first, IsView-next, IsPlaced-next, HasUnfallen-next, longer-next, HasCharges-read, some_free}
+use Rattle.msp_assign.proofs.Squares.{IsPlaced-start}
 
 -- that costs rise along lines
 abbrev pub Rises : ℕ → ℕ → (ℕ → ℕ → ℤ) → Type 0
@@ -33,6 +34,10 @@ pub IsPlacing-start : (rows lines lines2 long count : ℕ) (cost : ℕ → ℕ �
     → lines * long ≡ count → lines2 ≡ lines → k ≡ length columns → falls ≡ replicate k 0 → used ≡ [] → 1 ≤ rows → rows ≤ count
     → AreFirst lines2 columns → IsPlacing rows lines long cost columns falls used
 IsPlacing-start rows lines lines2 long count cost columns k falls used whole el ek ef eu some enough first =
+    let places = some_places rows lines long count whole some enough in
+    let first2 = rw el at first in
+    let placed = IsPlaced-start (sizes (seen cost long columns)) (length columns) falls k ek ef in
+    let inside : 0 < length columns = omega (arith, places.0, first2.count) in
     subst (IsPlacing rows lines long cost columns falls) (sym eu) (record {
       placed = placed;
       view = IsView-first lines long columns first2 places.1;
@@ -40,18 +45,6 @@ IsPlacing-start rows lines lines2 long count cost columns k falls used whole el 
       few = omega (arith, first2.count);
       zero = (0, inside, placed.unused 0 inside (λ m. omega (arith, m.1)));
     })
-  where
-    places : (1 ≤ lines) × (1 ≤ long)
-    places = some_places rows lines long count whole some enough
-
-    first2 : AreFirst lines columns
-    first2 = subst (λ x. AreFirst x columns) el first
-
-    placed : IsPlaced (sizes (seen cost long columns)) (length columns) falls []
-    placed = IsPlaced-first lines long columns first2 places.1 (sizes (seen cost long columns)) falls (subst (λ x. falls ≡ replicate x 0) ek ef)
-
-    inside : 0 < length columns
-    inside = omega (arith, places.0, first2.count)
 
 module _ (rows lines long count : ℕ) (cost : ℕ → ℕ → ℤ) (columns : List Column)
     (falls used : List ℕ) (whole : lines * long ≡ count) (costs : HasCharges rows count cost) (h : IsPlacing rows lines long cost columns falls used) where
@@ -71,22 +64,17 @@ module _ (rows lines long count : ℕ) (cost : ℕ → ℕ → ℤ) (columns : L
       → IsPlaced (sizes (seen cost long columns2)) (length columns2) lowered after
       → length after ≡ length used + 1 → IsOneMore (length columns2) used lowered after f → IsWidened long2 columns lowered2 f wide wide_falls
       → IsPlacing rows lines long cost wide wide_falls after
-  IsPlacing-next rise more columns2 lowered lowered2 after f long2 wide wide_falls ec el eg p longer o w = record {
-    placed = IsPlaced-next lines long columns used lowered after f h.view one rows cost costs_all rise placed (omega (arith, longer, more)) wide wide_falls wider;
-    view = IsView-next lines long columns used lowered after f h.view one wide wide_falls placed.inside wider;
-    at_most = omega (arith, longer, more);
-    few = omega (arith, longer, h.few, (longer-next long columns lowered f wide wide_falls wider).1);
-    zero = HasUnfallen-next long columns used lowered after f one placed.size wide wide_falls wider;
-  }
-    where
-      placed : IsPlaced (sizes (seen cost long columns)) (length columns) lowered after
-      placed = subst (λ x. IsPlaced (sizes (seen cost long x)) (length x) lowered after) ec p
-
-      one : IsOneMore (length columns) used lowered after f
-      one = subst (λ x. IsOneMore (length x) used lowered after f) ec o
-
-      wider : IsWidened long columns lowered f wide wide_falls
-      wider = subst (λ x. IsWidened x columns lowered f wide wide_falls) eg (subst (λ x. IsWidened long2 columns x f wide wide_falls) el w)
+  IsPlacing-next rise more columns2 lowered lowered2 after f long2 wide wide_falls ec el eg p longer o w =
+      let placed = rw ec at p in
+      let one = rw ec at o in
+      let wider = rw (eg, el) at w in
+      record {
+        placed = IsPlaced-next lines long columns used lowered after f h.view one rows cost costs_all rise placed (omega (arith, longer, more)) wide wide_falls wider;
+        view = IsView-next lines long columns used lowered after f h.view one wide wide_falls placed.inside wider;
+        at_most = omega (arith, longer, more);
+        few = omega (arith, longer, h.few, (longer-next long columns lowered f wide wide_falls wider).1);
+        zero = HasUnfallen-next long columns used lowered after f one placed.size wide wide_falls wider;
+      }
 
 pub IsPlacement-end : (rows rows2 lines long : ℕ) (cost : ℕ → ℕ → ℤ) (columns : List Column) (falls used : List ℕ)
     → rows2 ≡ rows → (length used < rows2 → ⊥) → IsPlacing rows lines long cost columns falls used → IsPlacement rows lines long cost columns falls used

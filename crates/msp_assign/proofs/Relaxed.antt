@@ -52,7 +52,7 @@ module _ (cost : ℕ → ℕ → ℕ) (fall : List ℕ) (r place depth own : ℕ
     module _ (most : ℕ) (next next_from : List ℕ) (k far : ℕ) (e : k ≡ length left) (h : IsRelaxing most next next_from k far)
         (some : 0 < length left) (a : depth ≤ greatest_payment) (b : paid cost fall r (at left 0) ≤ greatest_payment) (m : 2 * greatest_payment < most) where
       -- a column that is left is nearer than `most`
-      pub attained : (j : ℕ) × (j < length left) × (at next (at left j) ≡ far)
+      attained : (j : ℕ) × (j < length left) × (at next (at left j) ≡ far)
       attained = elim h.attained [
         | inl q ↦ absurd (omega (arith, q, h.least 0 (omega (arith, e, some)), (h.before 0 (omega (arith, e, some))).close, a, b, m))
         | inr q ↦ (q.0, omega (arith, q.1, e), sym q.2)
@@ -70,8 +70,8 @@ module _ (cost : ℕ → ℕ → ℕ) (fall : List ℕ) (r place depth own : ℕ
           let lk : j < k = omega (arith, e, lj) in
           omega (arith, (h.before j lk).fewer, first.same j l, no_nearer j lj, h.least j lk, attained.2, no_nearer attained.0 attained.1)
 
-      pub AreNearest-relaxed : AreNearest next left near far
-      AreNearest-relaxed = record { inside = first.inside; same = as_near; least = λ j l. h.least j (omega (arith, e, l)) }
+      pub IsNear-relaxed : AreNearest next left near far × ((j : ℕ) × (j < length left) × (at next (at left j) ≡ far))
+      IsNear-relaxed = (record { inside = first.inside; same = as_near; least = λ j l. h.least j (omega (arith, e, l)) }, attained)
 
   module _ (apart : AllPairs (λ c d. c ≢ d) left) (most : ℕ) (next next_from last last_from : List ℕ) (k far : ℕ) (h : IsRelaxing most next next_from k far) (inside : k < length left) where
     ahead : (j : ℕ) → j < k → at left j ≢ at left k
@@ -105,9 +105,6 @@ module _ (cost : ℕ → ℕ → ℕ) (fall : List ℕ) (r place depth own : ℕ
       ];
     }
       where
-        here : c ≡ at left k
-        here = e
-
         fresh : (j : ℕ) → j < k → at left j ≢ c
         fresh j l x = ahead j l (x ∙ e)
 

@@ -1,10 +1,10 @@
 -- Columns come into view along their lines.
-use Rattle.std.proofs.Common.{◌≡◌, ◌≢◌, ℕ, ◌+◌, ◌*◌, ◌/◌, ◌%◌, ◌<◌, ◌≤◌, ◌⊎◌, inl, inr, refl, List, [], ◌∷◌, ◌++◌, length, map, replicate, ℤ, pos, ◌≤ℤ◌, nat_abs, All, Contains}
+use Rattle.std.proofs.Common.{◌≡◌, ◌≢◌, ℕ, ◌+◌, ◌*◌, ◌/◌, ◌%◌, ◌<◌, ◌≤◌, ◌⊎◌, inl, inr, refl, List, [], ◌∷◌, ◌++◌, length, map, ℤ, pos, ◌≤ℤ◌, nat_abs, All, Contains}
 use Rattle.std.proofs.Common.{sym, ap, subst, ◌∙◌, arith}
 use Rattle.std.proofs.Math.Seq.{get_or-append_seam}
 use Rattle.std.proofs.Math.Nat.{mul-le-mul_right, div-mul-le_self, div-add-mod, mod-lt}
 use Rattle.std.proofs.lemmas.Int.{ints}
-use Rattle.std.proofs.lemmas.List.{get_or-replicate, length-replicate, get_or_append_left, length-append, length-map, get_or-map}
+use Rattle.std.proofs.lemmas.List.{get_or_append_left, length-append, length-map, get_or-map}
 use Rattle.std.proofs.lemmas.List.Elements.{All-append, All-cons, All-nil, All-from_get_or, All-get_or, Contains-append_left, Contains-push, Contains-push_cases}
 use Rattle.std.proofs.lemmas.List.Sorted.{Contains-permutation, IsPermutation-sym}
 use lib.Arith.{digits_div, digits_mod}
@@ -54,19 +54,6 @@ module _ (lines long : ℕ) (columns : List Column) (h : AreFirst lines columns)
         (l, omega (arith, h.count), c.0, omega (arith, c.1), inr (λ m. let w = at-Contains [] l m in omega (arith, w.1)));
   }
 
-  pub IsPlaced-first : (cost : ℕ → ℕ → ℕ) (falls : List ℕ) → falls ≡ replicate (length columns) 0 → IsPlaced cost (length columns) falls []
-  IsPlaced-first cost falls e = record {
-    size = ap length e ∙ length-replicate (length columns) 0;
-    low = λ c l. omega (arith, fallen c l);
-    inside = All-nil (λ c. c < length columns);
-    apart = λ i j d a b. absurd (omega (arith, b));
-    cheapest = λ r l. absurd (omega (arith, l));
-    unused = λ c l n. fallen c l;
-  }
-    where
-      fallen : (c : ℕ) → c < length columns → at falls c ≡ 0
-      fallen c l = ap (λ x. at x c) e ∙ get_or-replicate (length columns) c 0 0 l
-
 -- ---- the next column of a line
 module _ (lines long : ℕ) (columns : List Column) (used falls after : List ℕ) (f : ℕ) (v : IsView lines long columns used) (o : IsOneMore (length columns) used falls after f) where
   kept : (c : ℕ) → Contains used c → Contains after c
@@ -113,19 +100,17 @@ module _ (lines long : ℕ) (columns : List Column) (used falls after : List ℕ
     longer : length wider ≡ length columns + 1
     longer = length-append columns (column_after columns f ∷ [])
 
-    IsOld : ℕ → Type 0
+    abbrev IsOld : ℕ → Type 0
     IsOld k = (k < length columns) × ((column_at wider k).line ≡ (column_at columns k).line) × ((column_at wider k).place ≡ (column_at columns k).place)
 
-    IsNew : ℕ → Type 0
+    abbrev IsNew : ℕ → Type 0
     IsNew k = (k ≡ length columns) × ((column_at wider k).line ≡ (column_at columns f).line) × ((column_at wider k).place ≡ (column_at columns f).place + 1)
 
     old : (k : ℕ) → k < length columns → IsOld k
-    unfolding IsOld
     old k l = let e : column_at wider k ≡ column_at columns k = get_or_append_left columns (column_after columns f ∷ []) no_column k l in
         (l, ap (λ (c : Column). c.line) e, ap (λ (c : Column). c.place) e)
 
     new : (k : ℕ) → k ≡ length columns → IsNew k
-    unfolding IsNew
     new k e = let q : column_at wider k ≡ column_after columns f = ap (column_at wider) e ∙ get_or-append_seam columns (column_after columns f) [] no_column in
         (e, ap (λ (c : Column). c.line) q, ap (λ (c : Column). c.place) q)
 
@@ -140,7 +125,6 @@ module _ (lines long : ℕ) (columns : List Column) (used falls after : List ℕ
     last k l e p = o.free_before (v.behind f k o.inside l (sym e) p)
 
     once : (j k : ℕ) → IsOld j ⊎ IsNew j → IsOld k ⊎ IsNew k → (column_at wider j).line ≡ (column_at wider k).line → (column_at wider j).place ≡ (column_at wider k).place → j ≡ k
-    unfolding IsOld IsNew
     once j k (inl a) (inl b) e p = v.once j k a.0 b.0 (sym a.1 ∙ e ∙ b.1) (sym a.2 ∙ p ∙ b.2)
     once j k (inl a) (inr b) e p = absurd (last j a.0 (sym a.1 ∙ e ∙ b.1) (omega (arith, a.2, b.2, p)))
     once j k (inr a) (inl b) e p = absurd (last k b.0 (sym b.1 ∙ sym e ∙ a.1) (omega (arith, a.2, b.2, p)))
@@ -154,22 +138,19 @@ module _ (lines long : ℕ) (columns : List Column) (used falls after : List ℕ
     ]
 
     behind : (j k : ℕ) → IsOld j ⊎ IsNew j → IsOld k ⊎ IsNew k → (column_at wider j).line ≡ (column_at wider k).line → (column_at wider j).place < (column_at wider k).place → Contains after j
-    unfolding IsOld IsNew
     behind j k (inl a) (inl b) e p = kept j (v.behind j k a.0 b.0 (sym a.1 ∙ e ∙ b.1) (omega (arith, a.2, b.2, p)))
     behind j k (inl a) (inr b) e p = up_to j a.0 (sym a.1 ∙ e ∙ b.1) (omega (arith, a.2, b.2, p))
     behind j k (inr a) (inl b) e p = absurd (last k b.0 (sym b.1 ∙ sym e ∙ a.1) (omega (arith, a.2, b.2, p)))
     behind j k (inr a) (inr b) e p = absurd (omega (arith, a.2, b.2, p))
 
     -- what is ahead of a place of a line
-    IsAhead : ℕ → ℕ → ℕ → Type 0
+    abbrev IsAhead : ℕ → ℕ → ℕ → Type 0
     IsAhead l k j = (j < length wider) × ((column_at wider j).line ≡ l) × ((column_at wider j).place ≤ k) × (((column_at wider j).place ≡ k) ⊎ ¬ Contains after j)
 
     old_ahead : (l k j : ℕ) → IsOld j → (column_at columns j).line ≡ l → (column_at columns j).place ≤ k → ((column_at columns j).place ≡ k) ⊎ ¬ Contains after j → IsAhead l k j
-    unfolding IsOld IsAhead
     old_ahead l k j a e p c = (omega (arith, a.0, longer), a.1 ∙ e, omega (arith, a.2, p), elim c [ inl x ↦ inl (a.2 ∙ x) | inr x ↦ inr x ])
 
     new_ahead : (l k : ℕ) → IsNew (length columns) → (column_at columns f).line ≡ l → (column_at columns f).place < k → ¬ Contains after (length columns) → IsAhead l k (length columns)
-    unfolding IsNew IsAhead
     new_ahead l k a e p n = (omega (arith, longer), a.1 ∙ e, omega (arith, a.2, p), inr n)
 
     ahead : (inside : All (λ c. c < length columns) after) (l k : ℕ) → l < lines → k < long → (j : ℕ) × IsAhead l k j
@@ -193,7 +174,6 @@ module _ (lines long : ℕ) (columns : List Column) (used falls after : List ℕ
         ]
 
     IsView-wider : All (λ c. c < length columns) after → IsView lines long wider after
-    unfolding IsAhead
     IsView-wider inside = record {
       inside = All-append (λ c. (c.line < lines) × (c.place < long)) columns (column_after columns f ∷ []) v.inside
           (All-cons (λ c. (c.line < lines) × (c.place < long)) (column_after columns f) [] ((place_inside f o.inside).0, more) (All-nil (λ c. (c.line < lines) × (c.place < long))));
@@ -282,11 +262,8 @@ pub IsPlaced-next : (lines long : ℕ) (columns : List Column) (used falls after
     → ((r l j k : ℕ) → l < lines → j ≤ k → k < long → cost r (l * long + j) ≤ℤ cost r (l * long + k)) → IsPlaced (sizes (seen cost long columns)) (length columns) falls after → length after ≤ rows
     → (grown : List Column) (grown_falls : List ℕ) → IsWidened long columns falls f grown grown_falls → IsPlaced (sizes (seen cost long grown)) (length grown) grown_falls after
 IsPlaced-next lines long columns used falls after f v o rows cost costs rise p few grown grown_falls (inl w) =
-    subst (λ x. IsPlaced (sizes (seen cost long x)) (length x) grown_falls after) (sym w.1)
-    (subst (λ x. IsPlaced (sizes (seen cost long (columns ++ column_after columns f ∷ []))) (length (columns ++ column_after columns f ∷ [])) x after) (sym w.2)
-    (IsPlaced-wider lines long columns used falls after f v o rows cost costs rise p few w.0))
-IsPlaced-next lines long columns used falls after f v o rows cost costs rise p few grown grown_falls (inr w) =
-    subst (λ x. IsPlaced (sizes (seen cost long x)) (length x) grown_falls after) (sym w.1) (subst (λ x. IsPlaced (sizes (seen cost long columns)) (length columns) x after) (sym w.2) p)
+    rw (w.1, w.2) (IsPlaced-wider lines long columns used falls after f v o rows cost costs rise p few w.0)
+IsPlaced-next lines long columns used falls after f v o rows cost costs rise p few grown grown_falls (inr w) = rw (w.1, w.2) p
 
 -- the taken column has price 0
 pub HasUnfallen-next : (long : ℕ) (columns : List Column) (used falls after : List ℕ) (f : ℕ) → IsOneMore (length columns) used falls after f → length falls ≡ length columns

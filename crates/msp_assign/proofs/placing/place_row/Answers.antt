@@ -9,26 +9,11 @@ pass_on-requires g c =
     (c.as_mut_slice.ensures.value ∙ c.in_ok-push.ensures.items)
     c.requires.placed c.in_ok-found.ensures.search.search c.in_ok-found.ensures.search.nearest
 
-pub returns-clause-placed : goal.returns-clause-placed
-returns-clause-placed g c =
-    (IsStepped-row _ _ _ _ _ _ _ _ _ _ _ _ _ _ _ _ _ _ _ _ _ _ c.as_slice-2.ensures.value
+pub returns : goal.returns
+returns g c =
+    let s = IsStepped-row _ _ _ _ _ _ _ _ _ _ _ _ _ _ _ _ _ _ _ _ _ _ c.as_slice-2.ensures.value
     c.as_slice-5.ensures.value c.as_slice-4.ensures.value c.as_slice-7.ensures.value c.as_slice-6.ensures.value c.as_slice-8.ensures.value
     c.index-free.ensures c.index-far.ensures (c.as_mut_slice.ensures.value ∙ c.in_ok-push.ensures.items)
     (whole_slice c.push.new.self.len (length c.pass_on.new.columns) c.pass_on.new.columns c.push.new.self.items (c.pass_on.auto.columns ∙ c.as_mut_slice.ensures.len))
-    c.requires.costs c.requires.more c.requires.placed c.in_ok-found.ensures.search.search c.in_ok-found.ensures.search.nearest c.in_ok-found.ensures.free c.lower.ensures c.pass_on.ensures).placed
-
-pub returns-clause-longer : goal.returns-clause-longer
-returns-clause-longer g c =
-    (IsStepped-row _ _ _ _ _ _ _ _ _ _ _ _ _ _ _ _ _ _ _ _ _ _ c.as_slice-2.ensures.value
-    c.as_slice-5.ensures.value c.as_slice-4.ensures.value c.as_slice-7.ensures.value c.as_slice-6.ensures.value c.as_slice-8.ensures.value
-    c.index-free.ensures c.index-far.ensures (c.as_mut_slice.ensures.value ∙ c.in_ok-push.ensures.items)
-    (whole_slice c.push.new.self.len (length c.pass_on.new.columns) c.pass_on.new.columns c.push.new.self.items (c.pass_on.auto.columns ∙ c.as_mut_slice.ensures.len))
-    c.requires.costs c.requires.more c.requires.placed c.in_ok-found.ensures.search.search c.in_ok-found.ensures.search.nearest c.in_ok-found.ensures.free c.lower.ensures c.pass_on.ensures).longer
-
-pub returns-clause-taken : goal.returns-clause-taken
-returns-clause-taken g c =
-    (IsStepped-row _ _ _ _ _ _ _ _ _ _ _ _ _ _ _ _ _ _ _ _ _ _ c.as_slice-2.ensures.value
-    c.as_slice-5.ensures.value c.as_slice-4.ensures.value c.as_slice-7.ensures.value c.as_slice-6.ensures.value c.as_slice-8.ensures.value
-    c.index-free.ensures c.index-far.ensures (c.as_mut_slice.ensures.value ∙ c.in_ok-push.ensures.items)
-    (whole_slice c.push.new.self.len (length c.pass_on.new.columns) c.pass_on.new.columns c.push.new.self.items (c.pass_on.auto.columns ∙ c.as_mut_slice.ensures.len))
-    c.requires.costs c.requires.more c.requires.placed c.in_ok-found.ensures.search.search c.in_ok-found.ensures.search.nearest c.in_ok-found.ensures.free c.lower.ensures c.pass_on.ensures).taken
+    c.requires.costs c.requires.more c.requires.placed c.in_ok-found.ensures.search.search c.in_ok-found.ensures.search.nearest c.in_ok-found.ensures.free c.lower.ensures c.pass_on.ensures in
+    record { placed = s.placed; longer = s.longer; taken = s.taken }

@@ -1,6 +1,5 @@
 use Rattle.std.proofs.Common.{◌<◌, arith, refl, length, ◌≤◌}
 use Rattle.std.proofs.lemmas.List.Sorted.{All-permutation, IsPermutation-trans}
-use Rattle.msp_matching.specs.Passing.{at}
 use Rattle.msp_assign.proofs.Gathering.{IsGathering-swap, IsNearest-last, some_near}
 use Rattle.msp_assign.proofs.search.gather.Goals as goal
 
@@ -9,11 +8,12 @@ bounds-distance-column c = All-permutation (λ x. x < length c.args.distance.now
     _ _ c.loop-k.invariant.same c.requires.inside c.loop-k.k 0 (omega (arith, c.loop-k-test.true, c.loop-k.auto.k-end, c.loop-k.auto.left))
 
 pub bounds-owner-column : goal.bounds-owner-column
-bounds-owner-column c =
-    let inside : at c.loop-k.left c.loop-k.k < length c.args.distance.now =
-    All-permutation (λ x. x < length c.args.distance.now) _ _ c.loop-k.invariant.same c.requires.inside c.loop-k.k 0 (omega (arith, c.loop-k-test.true, c.loop-k.auto.k-end, c.loop-k.auto.left))
-    in
-    omega (arith, inside, c.requires.owners)
+bounds-owner-column c = omega (
+  arith,
+  c.requires.owners,
+  All-permutation (λ x. x < length c.args.distance.now)
+      _ _ c.loop-k.invariant.same c.requires.inside c.loop-k.k 0 (omega (arith, c.loop-k-test.true, c.loop-k.auto.k-end, c.loop-k.auto.left)),
+)
 
 pub returns-then-is_none-clause-same : goal.returns-then-is_none-clause-same
 returns-then-is_none-clause-same c = IsPermutation-trans _ _ _ c.loop-k.invariant.same c.swap.ensures.permutation

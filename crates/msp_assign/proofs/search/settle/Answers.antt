@@ -1,20 +1,15 @@
 use Rattle.std.proofs.Common.{rules, arith, ◌≡◌, ◌+◌, ◌∙◌, ap, sym, length, get_or, subst}
 use Rattle.std.proofs.lemmas.List.{get_or_default}
 use Rattle.std.proofs.lemmas.List.Sorted.{length_permutation}
-use Rattle.msp_matching.specs.Passing.{at}
 use Rattle.msp_assign.specs.Search.{sizes, IsSearch, IsRelaxed}
-use Rattle.msp_assign.proofs.Lists.{at-Contains, IsWithout-swap_remove}
+use Rattle.msp_assign.proofs.Lists.{at-Contains, taken_away}
 use Rattle.msp_assign.proofs.Growth.{IsClosest-at, IsSearch-grow, IsSearch-reordered, still_left}
 use Rattle.msp_assign.proofs.search.settle.Goals as goal
 
 pub spread-requires-clause-some : goal.spread-requires-clause-some
 spread-requires-clause-some g c =
     let before = c.requires.search in
-    let is : c.swap_remove-column.result ≡ at c.args.search.now.left.items c.args.search.now.nearest =
-    c.swap_remove-column.ensures.value ∙ get_or_default c.args.search.now.left.items c.args.search.now.nearest c.swap_remove-column.result 0 (omega (arith, before.nearest.inside))
-    in
-    let rest = IsWithout-swap_remove c.args.search.now.left.items c.swap_remove-column.new.self.items c.args.search.now.nearest c.swap_remove-column.result before.search.apart
-    (omega (arith, before.nearest.inside)) is c.swap_remove-column.ensures.items in
+    let (is, rest) = taken_away _ _ _ _ before.search.apart (omega (arith, before.nearest.inside)) c.swap_remove-column.ensures.value c.swap_remove-column.ensures.items in
     let free = still_left _ _ _ _ c.requires.row.placed _ _ _ _ before.search _ _ (IsClosest-at _ _ _ _ before.nearest is)
     c.requires.inside (c.requires.has ∙ sym is) _ rest c.requires.row.free.0 c.requires.row.free.1 c.requires.row.free.2 in
     let some = at-Contains c.swap_remove-column.new.self.items c.requires.row.free.0 free in
@@ -23,11 +18,7 @@ spread-requires-clause-some g c =
 pub returns-clause-search : goal.returns-clause-search
 returns-clause-search g c =
     let before = c.requires.search in
-    let is : c.swap_remove-column.result ≡ at c.args.search.now.left.items c.args.search.now.nearest =
-    c.swap_remove-column.ensures.value ∙ get_or_default c.args.search.now.left.items c.args.search.now.nearest c.swap_remove-column.result 0 (omega (arith, before.nearest.inside))
-    in
-    let rest = IsWithout-swap_remove c.args.search.now.left.items c.swap_remove-column.new.self.items c.args.search.now.nearest c.swap_remove-column.result before.search.apart
-    (omega (arith, before.nearest.inside)) is c.swap_remove-column.ensures.items in
+    let (is, rest) = taken_away _ _ _ _ before.search.apart (omega (arith, before.nearest.inside)) c.swap_remove-column.ensures.value c.swap_remove-column.ensures.items in
     let depth : c.index.result.now ≡ get_or c.args.search.now.distance.items c.swap_remove-column.result 0 =
     c.index.ensures ∙ get_or_default c.args.search.now.distance.items c.swap_remove-column.result c.index.result.now 0
     (omega (arith, before.search.distances, before.search.inside c.args.search.now.nearest 0 (omega (arith, before.nearest.inside)), is))
