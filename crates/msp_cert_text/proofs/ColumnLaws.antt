@@ -1,5 +1,5 @@
 -- The prices of positions: their lines, and the prices that lines say.
-use Rattle.std.proofs.Common.{◌≡◌, ℕ, zero, suc, ◌+◌, ◌-◌, ◌*◌, ◌/◌, ◌%◌, ◌^◌, ◌<◌, ◌≤◌, true, not, ◌==◌, nat_le, List, [], ◌∷◌, ◌++◌, length, replicate, Ok, ℤ, pos, negsuc, All}
+use Rattle.std.proofs.Common.{◌≡◌, ℕ, zero, suc, ◌+◌, ◌-◌, ◌*◌, ◌/◌, ◌%◌, ◌^◌, ◌<◌, ◌≤◌, true, not, ◌==◌, nat_le, List, [], ◌∷◌, ◌++◌, length, replicate, None, Ok, ℤ, pos, negsuc, All}
 use Rattle.std.proofs.Common.{bytes_eq, codes, refl, sym, ap, subst, ◌∙◌, append_assoc, append-nil, length-append, add-one, arith, eqb-true, ltb-true, leb-true, le-leb, decimal}
 use Rattle.std.specs.Int.Signed.{◌≤ℤ◌}
 use Rattle.std.specs.Prelude.{int_lt}
@@ -17,8 +17,9 @@ use Rattle.msp_cert_text.specs.declared.kinds.TheConstants.{MOST_LINES}
 use Rattle.msp_grammar.specs.InstanceText.{where_wanted}
 use Rattle.msp_cert_text.specs.CertificateText.{column_line, column_lines, IsColumnPrice, lines_text}
 use Rattle.msp_cert_text.specs.Reading.{filled, position_at, column_price_at, price_at, column_added, columns_by, columns_step}
-use Rattle.msp_grammar.specs.lines.Reading.{◌>>=◌, Place, line_at, fields_of, first_of, others_of, machine_at, ordinal_at, LineRead, more_read, ReadsMore}
-use Rattle.msp_grammar.proofs.reading.LineLaws.{bind_ok, provided_ok, reads, ok_is, bind_again, provided_again, IsField, fields_takes, end_text, GetsBy}
+use Rattle.msp_grammar.specs.lines.Reading.{◌>>=◌, Place, line_at, fields_of, first_of, others_of, machine_at, ordinal_at, LineRead, more_read}
+use Rattle.msp_grammar.proofs.reading.LineLaws.{bind_ok, provided_ok, reads, ok_is, bind_again, provided_again, IsField, fields_takes, end_text}
+use Rattle.msp_grammar.proofs.reading.Lines.{GetsLines}
 use Rattle.msp_grammar.proofs.reading.FieldLaws.{wide_field, signed_takes, signed_again, signed_field, ordinal_takes, ordinal_again}
 use Rattle.msp_cert_text.proofs.KindLaws.{Adds, TakesOne, kind_takes, kind_more, may_again, end_on, line_on}
 use Rattle.msp_job_name.proofs.NameLists.{same_bytes}
@@ -111,11 +112,9 @@ record SaysColumn (n machines : ℕ) (fields : List (List ℕ)) (k : ℕ) (x : �
   below : IsBelow x
 
 three_fields : (fields : List (List ℕ)) → (length fields == 3) ≡ true → fields ≡ first_of fields ∷ first_of (others_of fields) ∷ first_of (others_of (others_of fields)) ∷ []
-three_fields [] h = absurd cc
-three_fields (a ∷ []) h = absurd cc
-three_fields (a ∷ b ∷ []) h = absurd cc
 three_fields (a ∷ b ∷ c ∷ []) h = refl
 three_fields (a ∷ b ∷ c ∷ d ∷ fs) h = absurd (omega (arith, eqb-true _ _ h))
+three_fields _ h = absurd cc
 
 three_are : (a b c d e f : List ℕ) → a ≡ d → b ≡ e → c ≡ f → a ∷ b ∷ c ∷ [] ≡ d ∷ e ∷ f ∷ []
 three_are a b c d e f p q r = cc
@@ -286,7 +285,7 @@ module _ (n machines : ℕ) (narrow : n < 10 ^ 64) (small : machines < 10 ^ 64) 
   record GetsColumns (before : ℕ) (xs : List ℤ) (lines : List (List (List ℕ))) (all : List ℤ) (rest : List ℕ) : Type 0 where
     prices : List ℤ
     filled_up : filled (machines * n) prices ≡ all
-    gets : (at : ℕ) → GetsBy (ReadsMore (columns_step n machines before) xs (record { at = at; rest = (lines_text lines ++ end_text) ++ rest })) prices rest
+    gets : (at : ℕ) → GetsLines (columns_step n machines before) None xs (record { at = at; rest = (lines_text lines ++ end_text) ++ rest }) prices rest
 
   columns_from : (before : ℕ) (more xs : List ℤ) (gap : ℕ) (rest : List ℕ) → length xs + gap + length more ≡ machines * n → All IsColumnPrice more
       → before + length (column_lines n 0 xs) + length (column_lines n (length xs + gap) more) ≤ MOST_LINES
@@ -329,11 +328,11 @@ module _ (n machines : ℕ) (narrow : n < 10 ^ 64) (small : machines < 10 ^ 64) 
             xs after g.prices (codes "column") (others_of (column_line n k x)) (column_lines n (suc k) more) at rest (column_fields k x inside price (m, refl))
             (λ q. may_again (before + length (column_lines n 0 xs)) (bytes_eq (codes "column") (codes "column"))
             (column_added n machines) xs after at (column_line n k x) q refl (omega (arith, room)) (column_again at k xs x inside later price (m, refl)))
-            (λ next. subst (λ (ls : List (List (List ℕ))). GetsBy (ReadsMore (columns_step n machines before) after (record { at = next; rest = (lines_text ls ++ end_text) ++ rest })) g.prices rest)
+            (λ next. subst (λ (ls : List (List (List ℕ))). GetsLines (columns_step n machines before) None after (record { at = next; rest = (lines_text ls ++ end_text) ++ rest }) g.prices rest)
             (sym some) (g.gets next));
       }
 
   pub columns_again : (before : ℕ) (column : List ℤ) (at : ℕ) (rest : List ℕ) → length column ≡ machines * n → All IsColumnPrice column → before + length (column_lines n 0 column) ≤ MOST_LINES
       → (prices : List ℤ) × (filled (machines * n) prices ≡ column)
-      × GetsBy (ReadsMore (columns_step n machines before) [] (record { at = at; rest = (lines_text (column_lines n 0 column) ++ end_text) ++ rest })) prices rest
+      × GetsLines (columns_step n machines before) None [] (record { at = at; rest = (lines_text (column_lines n 0 column) ++ end_text) ++ rest }) prices rest
   columns_again before column at rest total prices room = let g = columns_from before column [] 0 rest (omega arith) prices (omega arith) in (g.prices, g.filled_up, g.gets at)

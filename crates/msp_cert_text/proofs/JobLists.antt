@@ -1,5 +1,5 @@
 -- The lines of jobs and of lists of jobs: what is read is what was written, and what was written is read again.
-use Rattle.std.proofs.Common.{◌≡◌, ℕ, suc, ◌+◌, ◌<◌, ◌≤◌, Bool, true, false, not, ◌&&◌, ◌||◌, ◌==◌, if◌then◌else◌, List, [], ◌∷◌, ◌++◌, length, Ok, Some, All, bytes_eq, codes}
+use Rattle.std.proofs.Common.{◌≡◌, ℕ, suc, ◌+◌, ◌<◌, ◌≤◌, Bool, true, false, not, ◌&&◌, ◌||◌, ◌==◌, if◌then◌else◌, List, [], ◌∷◌, ◌++◌, length, Ok, None, Some, All, bytes_eq, codes}
 use Rattle.std.proofs.Common.{refl, sym, ap, subst, ◌∙◌, append_assoc, append-nil, length-append, arith}
 use Rattle.std.specs.List.{AllByRecursion}
 use Rattle.std.proofs.lemmas.Bool.{and_parts, eqb-true}
@@ -11,11 +11,12 @@ use Rattle.msp_grammar.specs.ScheduleText.{name_at}
 use Rattle.msp_grammar.specs.declared.lines.fault.FileFault.TheVariants.{Count}
 use Rattle.msp_cert_text.specs.declared.kinds.TheConstants.{MOST_LINES}
 use Rattle.msp_cert_text.specs.CertificateText.{job_line, job_lines, segment_lines, lines_text, AreJobs}
-use Rattle.msp_cert_text.specs.Reading.{job_in, job_added, jobs_by, jobs_step, with_job, segment_added, is_segment_word, segments_by, segments_step}
-use Rattle.msp_grammar.specs.lines.Reading.{◌>>=◌, provided, Place, line_at, fields_of, first_of, others_of, known_at, LineRead, end_read, ReadsMore}
-use Rattle.msp_grammar.proofs.reading.LineLaws.{bind_ok, provided_ok, ok_is, bind_again, IsField, fields_takes, one_field, end_text, GetsBy}
+use Rattle.msp_cert_text.specs.Reading.{job_in, job_added, jobs_by, jobs_step, with_job, segment_added, is_segment_word, segments_by, segments_step, segments_from}
+use Rattle.msp_grammar.specs.lines.Reading.{◌>>=◌, provided, Place, line_at, fields_of, first_of, others_of, known_at, LineRead, end_read, goes_on, lines_from}
+use Rattle.msp_grammar.proofs.reading.LineLaws.{bind_ok, provided_ok, ok_is, bind_again, IsField, fields_takes, one_field, end_text, Gets}
+use Rattle.msp_grammar.proofs.reading.Lines.{GetsLines}
 use Rattle.msp_grammar.proofs.reading.FieldLaws.{known_takes, known_again, name_field}
-use Rattle.msp_cert_text.proofs.KindLaws.{Adds, TakesOne, kind_takes, may_again, end_on, line_on}
+use Rattle.msp_cert_text.proofs.KindLaws.{Adds, TakesOne, kind_takes, may_again, last_on, end_on, step_on, line_on}
 use Rattle.msp_cert_text.proofs.SegmentLaws.{with_job_last, begin_lines, push_lines, job_lines-push}
 
 -- ---- one job
@@ -72,18 +73,18 @@ jobs_is names before jobs p = refl
 
 pub jobs_again : (names : List (List ℕ)) (before : ℕ) (more jobs : List ℕ) (at : ℕ) (rest : List ℕ)
     → AreDistinct names → All IsJobName names → AreJobs names more → before + length jobs + length more ≤ MOST_LINES
-    → GetsBy (ReadsMore (jobs_step names before) jobs (record { at = at; rest = (lines_text (job_lines names more) ++ end_text) ++ rest })) (jobs ++ more) rest
+    → GetsLines (jobs_step names before) None jobs (record { at = at; rest = (lines_text (job_lines names more) ++ end_text) ++ rest }) (jobs ++ more) rest
 unfolding job_added
 jobs_again names before [] jobs at rest apart spelled inside room =
     let g = end_on (jobs_step names before) (jobs_by names before) (jobs_is names before) jobs at rest (λ q. refl) in
-    subst (λ (js : List ℕ). GetsBy (ReadsMore (jobs_step names before) jobs (record { at = at; rest = end_text ++ rest })) js rest) (sym (append-nil jobs)) g
+    subst (λ (js : List ℕ). GetsLines (jobs_step names before) None jobs (record { at = at; rest = end_text ++ rest }) js rest) (sym (append-nil jobs)) g
 jobs_again names before (j ∷ more) jobs at rest apart spelled inside room =
     let here = All-head (λ k. k < length names) j more inside in
     line_on (jobs_step names before) (jobs_by names before) (jobs_is names before)
     jobs (jobs ++ j ∷ []) (jobs ++ j ∷ more) (codes "job") (name_at names j ∷ []) (job_lines names more) at rest (job_fields names apart spelled j here)
     (λ q. may_again (before + length jobs) true (job_added names) jobs (jobs ++ j ∷ []) at (job_line names j) q refl (omega arith) (bind_again _ _ _ _ (job_again names apart spelled at j here) refl))
     (λ next.
-    subst (λ (js : List ℕ). GetsBy (ReadsMore (jobs_step names before) (jobs ++ j ∷ []) (record { at = next; rest = (lines_text (job_lines names more) ++ end_text) ++ rest })) js rest)
+    subst (λ (js : List ℕ). GetsLines (jobs_step names before) None (jobs ++ j ∷ []) (record { at = next; rest = (lines_text (job_lines names more) ++ end_text) ++ rest }) js rest)
     (append_assoc jobs (j ∷ []) more)
     (jobs_again names before more (jobs ++ j ∷ []) next rest apart spelled (All-tail (λ k. k < length names) j more inside) (omega (arith, length-append jobs (j ∷ [])))))
 
@@ -194,12 +195,12 @@ module _ (names : List (List ℕ)) (apart : AreDistinct names) (spelled : All Is
   -- jobs of the last list, and the lists after it
   pub lists_again : (lists : List (List ℕ)) (jobs : List ℕ) (done : List (List ℕ)) (last : List ℕ) (at : ℕ) (rest : List ℕ) → All (AreJobs names) lists → AreJobs names jobs
       → length (segment_lines names (done ++ last ∷ [])) + length (job_lines names jobs ++ segment_lines names lists) ≤ MOST_LINES
-      → GetsBy (ReadsMore (segments_step names) (done ++ last ∷ []) (record { at = at; rest = (lines_text (job_lines names jobs ++ segment_lines names lists) ++ end_text) ++ rest }))
+      → GetsLines (segments_step names) None (done ++ last ∷ []) (record { at = at; rest = (lines_text (job_lines names jobs ++ segment_lines names lists) ++ end_text) ++ rest })
       (done ++ (last ++ jobs) ∷ lists) rest
   unfolding segment_added
   lists_again [] [] done last at rest inside here room =
       let g = end_on (segments_step names) (segments_by names) (segments_is names) (done ++ last ∷ []) at rest (λ q. may_end names (done ++ last ∷ []) at q) in
-      subst (λ (js : List ℕ). GetsBy (ReadsMore (segments_step names) (done ++ last ∷ []) (record { at = at; rest = end_text ++ rest })) (done ++ js ∷ []) rest) (sym (append-nil last)) g
+      subst (λ (js : List ℕ). GetsLines (segments_step names) None (done ++ last ∷ []) (record { at = at; rest = end_text ++ rest }) (done ++ js ∷ []) rest) (sym (append-nil last)) g
   lists_again (jobs ∷ lists) [] done last at rest inside here room =
       let now = done ++ last ∷ [] in
       let more = job_lines names jobs ++ segment_lines names lists in
@@ -209,7 +210,7 @@ module _ (names : List (List ℕ)) (apart : AreDistinct names) (spelled : All Is
       (λ q. may_again (length (segment_lines names now)) true (segment_added names (codes "segment")) now (now ++ [] ∷ []) at (codes "segment" ∷ []) q refl (omega (arith, room)) refl)
       (λ at.
       let all : now ++ jobs ∷ lists ≡ done ++ (last ++ []) ∷ jobs ∷ lists = append_assoc done (last ∷ []) (jobs ∷ lists) ∙ ap (λ (js : List ℕ). done ++ js ∷ jobs ∷ lists) (sym (append-nil last)) in
-      subst (λ (ls : List (List ℕ)). GetsBy (ReadsMore (segments_step names) (now ++ [] ∷ []) (record { at = at; rest = (lines_text more ++ end_text) ++ rest })) ls rest) all
+      subst (λ (ls : List (List ℕ)). GetsLines (segments_step names) None (now ++ [] ∷ []) (record { at = at; rest = (lines_text more ++ end_text) ++ rest }) ls rest) all
       (lists_again lists jobs now [] at rest (All-tail (AreJobs names) jobs lists inside) (All-head (AreJobs names) jobs lists inside)
       (omega (arith, ap length next, length-append (segment_lines names now) ((codes "segment" ∷ []) ∷ []), room))))
   lists_again lists (j ∷ jobs) done last at rest inside here room =
@@ -224,19 +225,22 @@ module _ (names : List (List ℕ)) (apart : AreDistinct names) (spelled : All Is
       (with_job now j) at (job_line names j) q (may_stand done last) (omega (arith, room)) (bind_again _ _ _ _ (job_again names apart spelled at j h) refl))
       (λ at.
       let all : done ++ ((last ++ j ∷ []) ++ jobs) ∷ lists ≡ done ++ (last ++ j ∷ jobs) ∷ lists = ap (λ (js : List ℕ). done ++ js ∷ lists) (append_assoc last (j ∷ []) jobs) in
-      subst (λ (ls : List (List ℕ)). GetsBy (ReadsMore (segments_step names) ls (record { at = at; rest = (lines_text more ++ end_text) ++ rest })) (done ++ (last ++ j ∷ jobs) ∷ lists) rest)
+      subst (λ (ls : List (List ℕ)). GetsLines (segments_step names) None ls (record { at = at; rest = (lines_text more ++ end_text) ++ rest }) (done ++ (last ++ j ∷ jobs) ∷ lists) rest)
       (sym last_is)
-      (subst (λ (ls : List (List ℕ)). GetsBy (ReadsMore (segments_step names) (done ++ (last ++ j ∷ []) ∷ []) (record { at = at; rest = (lines_text more ++ end_text) ++ rest })) ls rest) all
+      (subst (λ (ls : List (List ℕ)). GetsLines (segments_step names) None (done ++ (last ++ j ∷ []) ∷ []) (record { at = at; rest = (lines_text more ++ end_text) ++ rest }) ls rest) all
       (lists_again lists jobs done (last ++ j ∷ []) at rest inside (All-tail (λ k. k < length names) j jobs here)
       (subst (λ (ls : List (List ℕ)). length (segment_lines names ls) + length more ≤ MOST_LINES)
       last_is (omega (arith, ap length next, length-append (segment_lines names now) (job_line names j ∷ []), room))))))
 
   pub segments_again : (lists : List (List ℕ)) (at : ℕ) (rest : List ℕ) → All (AreJobs names) lists → length (segment_lines names lists) ≤ MOST_LINES
-      → GetsBy (ReadsMore (segments_step names) [] (record { at = at; rest = (lines_text (segment_lines names lists) ++ end_text) ++ rest })) lists rest
+      → Gets (segments_from names (record { at = at; rest = (lines_text (segment_lines names lists) ++ end_text) ++ rest })) lists rest
   unfolding segment_added
-  segments_again [] at rest inside room = end_on (segments_step names) (segments_by names) (segments_is names) [] at rest (λ q. refl)
+  segments_again [] at rest inside room =
+      let l = last_on (segments_step names) (segments_by names) (segments_is names) [] at rest (λ q. refl) in
+      (l.0, bind_again _ (goes_on None (lines_from (segments_step names))) _ _ l.1 refl)
   segments_again (jobs ∷ lists) at rest inside room =
       let more = job_lines names jobs ++ segment_lines names lists in
-      line_on (segments_step names) (segments_by names) (segments_is names) [] ([] ∷ []) (jobs ∷ lists) (codes "segment") [] more at rest (record { no_space = refl; no_line_feed = refl }, tt)
-      (λ q. may_again 0 true (segment_added names (codes "segment")) [] ([] ∷ []) at (codes "segment" ∷ []) q refl (omega arith) refl)
-      (λ at. lists_again lists jobs [] [] at rest (All-tail (AreJobs names) jobs lists inside) (All-head (AreJobs names) jobs lists inside) (omega (arith, room)))
+      let l = step_on (segments_step names) (segments_by names) (segments_is names) [] ([] ∷ []) (codes "segment") [] more at rest (record { no_space = refl; no_line_feed = refl }, tt)
+      (λ q. may_again 0 true (segment_added names (codes "segment")) [] ([] ∷ []) at (codes "segment" ∷ []) q refl (omega arith) refl) in
+      let g = lists_again lists jobs [] [] l.0 rest (All-tail (AreJobs names) jobs lists inside) (All-head (AreJobs names) jobs lists inside) (omega (arith, room)) _ (omega arith) in
+      (g.0, bind_again _ (goes_on None (lines_from (segments_step names))) _ _ l.1 g.1)

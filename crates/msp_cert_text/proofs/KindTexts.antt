@@ -11,39 +11,39 @@ use Rattle.msp_cert.specs.declared.Proof.TheVariants as proof
 use Rattle.msp_grammar.specs.ScheduleText.{name_at}
 use Rattle.msp_grammar.specs.InstanceText.{line_text}
 use Rattle.msp_grammar.specs.declared.lines.fault.FileFault.{FileFault}
+use Rattle.msp_grammar.specs.declared.lines.fault.What.{What}
 use Rattle.msp_grammar.specs.declared.lines.fault.What.TheVariants as what
 use Rattle.msp_cert_text.specs.declared.kinds.Kind.{Kind}
 use Rattle.msp_cert_text.specs.declared.kinds.Kind.TheVariants as kind
 use Rattle.msp_cert.specs.declared.limits.TheConstants.{GREATEST_HEAD, GREATEST_PRICE}
 use Rattle.msp_cert_text.specs.declared.kinds.TheConstants.{GREATEST_LEVEL, MOST_LINES}
 use Rattle.msp_cert_text.specs.CertificateText.{kind_of, job_lines, numbered_lines, segment_lines, column_lines, kind_lines, lines_text, IsStatedProof}
-use Rattle.msp_cert_text.specs.Reading.{machine_line_at, job_line_of, tail_at, numbers_at, level_at, head_at, price_at, jobs_step, segments_step, columns_step, filled, ReadsProof}
-use Rattle.msp_grammar.specs.lines.Reading.{Place, word_line_at, field_line_at, natural_at, known_at, machine_at, ReadsMore, Then}
-use Rattle.msp_grammar.proofs.reading.LineLaws.{bind_ok, ok_is, bind_again, Takes, Gets, Takes-then, word_line_takes, word_line_again, field_line_takes, field_line_again, end_text, GetsBy}
+use Rattle.msp_cert_text.specs.Reading.{machine_line_at, job_line_of, tail_at, numbers_at, level_at, head_at, price_at, jobs_step, segments_step}
+use Rattle.msp_cert_text.specs.Reading.{columns_step, segments_from, filled, proof_at, group_proof, machine_proof, line_proof}
+use Rattle.msp_cert_text.specs.Reading.{levels_proof, segments_proof, block_proof, prices_proof}
+use Rattle.msp_grammar.specs.lines.Reading.{◌>>=◌, Place, word_line_at, field_line_at, natural_at, known_at, machine_at, lines_from}
+use Rattle.msp_grammar.proofs.reading.LineLaws.{bind_ok, ok_is, bind_again, Takes, Gets, Takes-then, word_line_takes, word_line_again, field_line_takes, field_line_again, end_text}
 use Rattle.msp_grammar.proofs.reading.FieldLaws.{wide_takes, wide_again, wide_field, known_takes, known_again, name_field, signed_takes, signed_again, signed_field, ordinal_takes, ordinal_again}
-use Rattle.msp_grammar.proofs.reading.Readings.{then_ok, then_again}
 use Rattle.msp_cert_text.proofs.CertificatePrinting.{lines_text-append}
-use Rattle.msp_cert_text.proofs.KindLaws.{MoreTaken, more_takes}
-use Rattle.msp_cert_text.proofs.NumberedLaws.{IsReadBy, numbers_take, numbers_again}
+use Rattle.msp_cert_text.proofs.KindLaws.{MoreTaken, more_takes, more_first}
+use Rattle.msp_cert_text.proofs.NumberedLaws.{IsReadBy, numbers_said, numbers_again}
 use Rattle.msp_cert_text.proofs.JobLists.{AreJobLines, jobs_takes, jobs_again, AreListLines, segments_takes, segments_again}
 use Rattle.msp_cert_text.proofs.ColumnLaws.{AreColumns, columns_takes, columns_again, lines-filled, length-filled, all_filled}
-use Rattle.msp_cert_text.proofs.EvidenceReading.{PricesAfter, group_done, segments_done, block_done, prices_done}
 
 -- ---- numbers
 
-level_read : IsReadBy level_at decimal (λ l. l ≤ GREATEST_LEVEL)
-level_read = record {
-  takes = λ at w x e. let t = wide_takes at what.Level 0 GREATEST_LEVEL w x (omega arith) e in (t.0, t.2);
-  again = λ at x h. wide_again at what.Level 0 GREATEST_LEVEL x (omega arith) (omega arith) h;
+natural_read : (quantity : What) (greatest : ℕ) → greatest + 1 < 10 ^ 64 → IsReadBy (λ at w. natural_at at quantity 0 greatest w) decimal (λ n. n ≤ greatest)
+natural_read quantity greatest small = record {
+  takes = λ at w x e. let t = wide_takes at quantity 0 greatest w x (omega arith) e in (t.0, t.2);
+  again = λ at x h. wide_again at quantity 0 greatest x (omega arith) (omega arith) h;
   field = λ x h. wide_field x (omega arith);
 }
 
+level_read : IsReadBy level_at decimal (λ l. l ≤ GREATEST_LEVEL)
+level_read = natural_read what.Level GREATEST_LEVEL (omega arith)
+
 head_read : IsReadBy head_at decimal (λ h. h ≤ GREATEST_HEAD)
-head_read = record {
-  takes = λ at w x e. let t = wide_takes at what.Head 0 GREATEST_HEAD w x (omega arith) e in (t.0, t.2);
-  again = λ at x h. wide_again at what.Head 0 GREATEST_HEAD x (omega arith) (omega arith) h;
-  field = λ x h. wide_field x (omega arith);
-}
+head_read = natural_read what.Head GREATEST_HEAD (omega arith)
 
 price_read : IsReadBy price_at signed_decimal (LiesWithin GREATEST_PRICE)
 price_read = record {
@@ -60,15 +60,21 @@ numbered_length word spell (name ∷ names) (x ∷ xs) h = ap suc (numbered_leng
 
 -- ---- single lines
 
+-- the value in the one field of a line
+field_value : {A : Type 0} (word : List ℕ) (read : List ℕ → Result A FileFault) (p : Place) (x : A × Place) → (field_line_at word p >>= λ l. read l.0 >>= λ a. Ok (a, l.1)) ≡ Ok x
+    → (w : List ℕ) × (read w ≡ Ok x.0) × Takes p (line_text (word ∷ w ∷ [])) x.1
+field_value word read p x e =
+    let l = bind_ok (field_line_at word p) _ x e in
+    let a = bind_ok (read l.0.0) _ x l.2 in
+    subst (λ y. (w : List ℕ) × (read w ≡ Ok y.0) × Takes p (line_text (word ∷ w ∷ [])) y.1) (ok_is (a.0, l.0.1) x a.2) (l.0.0, a.1, field_line_takes word p l.0 l.1)
+
 machine_takes : (machines : ℕ) (p : Place) (x : ℕ × Place)
     → machines < 10 ^ 64 → machine_line_at machines p ≡ Ok x → Takes p (line_text (codes "machine" ∷ decimal (x.0 + 1) ∷ [])) x.1 × (x.0 < machines)
 unfolding machine_line_at
 machine_takes machines p x small e =
-    let l = bind_ok (field_line_at (codes "machine") p) _ x e in
-    let m = bind_ok (machine_at p.at machines l.0.0) _ x l.2 in
-    let t = ordinal_takes p.at what.Machines machines l.0.0 m.0 small m.1 in
-    let text = subst (λ (w : List ℕ). Takes p (line_text (codes "machine" ∷ w ∷ [])) l.0.1) t.0 (field_line_takes (codes "machine") p l.0 l.1) in
-    subst (λ (y : ℕ × Place). Takes p (line_text (codes "machine" ∷ decimal (y.0 + 1) ∷ [])) y.1 × (y.0 < machines)) (ok_is (m.0, l.0.1) x m.2) (text, t.1)
+    let f = field_value (codes "machine") (machine_at p.at machines) p x e in
+    let t = ordinal_takes p.at what.Machines machines f.0 x.0 small f.1 in
+    (subst (λ (w : List ℕ). Takes p (line_text (codes "machine" ∷ w ∷ [])) x.1) t.0 f.2, t.1)
 
 machine_again : (machines m at : ℕ) (rest : List ℕ) → machines < 10 ^ 64
     → m < machines → Gets (machine_line_at machines (record { at = at; rest = line_text (codes "machine" ∷ decimal (m + 1) ∷ []) ++ rest })) m rest
@@ -80,11 +86,9 @@ machine_again machines m at rest small h =
 job_takes : (names : List (List ℕ)) (p : Place) (x : ℕ × Place) → job_line_of names p ≡ Ok x → Takes p (line_text (codes "job" ∷ name_at names x.0 ∷ [])) x.1 × (x.0 < length names)
 unfolding job_line_of
 job_takes names p x e =
-    let l = bind_ok (field_line_at (codes "job") p) _ x e in
-    let j = bind_ok (known_at p.at names l.0.0) _ x l.2 in
-    let t = known_takes p.at names l.0.0 j.0 j.1 in
-    let text = subst (λ (w : List ℕ). Takes p (line_text (codes "job" ∷ w ∷ [])) l.0.1) t.0 (field_line_takes (codes "job") p l.0 l.1) in
-    subst (λ (y : ℕ × Place). Takes p (line_text (codes "job" ∷ name_at names y.0 ∷ [])) y.1 × (y.0 < length names)) (ok_is (j.0, l.0.1) x j.2) (text, t.1)
+    let f = field_value (codes "job") (known_at p.at names) p x e in
+    let t = known_takes p.at names f.0 x.0 f.1 in
+    (subst (λ (w : List ℕ). Takes p (line_text (codes "job" ∷ w ∷ [])) x.1) t.0 f.2, t.1)
 
 job_again : (names : List (List ℕ)) (j at : ℕ) (rest : List ℕ) → AreDistinct names → All IsJobName names
     → j < length names → Gets (job_line_of names (record { at = at; rest = line_text (codes "job" ∷ name_at names j ∷ []) ++ rest })) j rest
@@ -96,11 +100,9 @@ job_again names j at rest apart spelled h =
 tail_takes : (p : Place) (x : ℕ × Place) → tail_at p ≡ Ok x → Takes p (line_text (codes "tail" ∷ decimal x.0 ∷ [])) x.1 × (x.0 ≤ GREATEST_LEVEL)
 unfolding tail_at
 tail_takes p x e =
-    let l = bind_ok (field_line_at (codes "tail") p) _ x e in
-    let n = bind_ok (natural_at p.at what.Level 0 GREATEST_LEVEL l.0.0) _ x l.2 in
-    let t = level_read.takes p.at l.0.0 n.0 n.1 in
-    let text = subst (λ (w : List ℕ). Takes p (line_text (codes "tail" ∷ w ∷ [])) l.0.1) t.0 (field_line_takes (codes "tail") p l.0 l.1) in
-    subst (λ (y : ℕ × Place). Takes p (line_text (codes "tail" ∷ decimal y.0 ∷ [])) y.1 × (y.0 ≤ GREATEST_LEVEL)) (ok_is (n.0, l.0.1) x n.2) (text, t.1)
+    let f = field_value (codes "tail") (natural_at p.at what.Level 0 GREATEST_LEVEL) p x e in
+    let t = level_read.takes p.at f.0 x.0 f.1 in
+    (subst (λ (w : List ℕ). Takes p (line_text (codes "tail" ∷ w ∷ [])) x.1) t.0 f.2, t.1)
 
 tail_again : (t at : ℕ) (rest : List ℕ) → t ≤ GREATEST_LEVEL → Gets (tail_at (record { at = at; rest = line_text (codes "tail" ∷ decimal t ∷ []) ++ rest })) t rest
 unfolding tail_at
@@ -133,109 +135,111 @@ then_end : (p q r : Place) (w : List (List ℕ)) → Takes p (line_text w) q →
 then_end p q r w t u = subst (λ (text : List ℕ). Takes p (text ++ end_text) r) (sym (one_line_text w)) (Takes-then p q r (line_text w) end_text t u)
 
 module _ (names : List (List ℕ)) (machines : ℕ) (named : length names < 10 ^ 64) (small : machines < 10 ^ 64) where
-  jobs_say : (before : ℕ) (p : Place) (lines : Result (List ℕ × Place) FileFault) (x : List ℕ × Place) → before ≤ MOST_LINES
-      → ReadsMore (jobs_step names before) [] p lines → lines ≡ Ok x → Takes p (lines_text (job_lines names x.0) ++ end_text) x.1 × AreJobLines names before x.0
-  jobs_say before p lines x room h e =
+  jobs_say : (before : ℕ) (p : Place) (x : List ℕ × Place) → before ≤ MOST_LINES
+      → lines_from (jobs_step names before) [] p ≡ Ok x → Takes p (lines_text (job_lines names x.0) ++ end_text) x.1 × AreJobLines names before x.0
+  jobs_say before p x room e =
       let t = more_takes (jobs_step names before) (job_lines names)
-      (AreJobLines names before) (jobs_takes names before) [] p lines x (record { inside = All-nil (λ j. j < length names); few = omega arith }) h e in
+      (AreJobLines names before) (jobs_takes names before) [] p x (record { inside = All-nil (λ j. j < length names); few = omega arith }) e in
       (taken_text (job_lines names) (AreJobLines names before) [] x.0 p x.1 refl t, t.fit)
 
-  group_says : (p : Place) (y : Proof × Place) → ReadsProof names machines kind.Group p (Ok y) → SaysProof names machines kind.Group p y.0 y.1
+  group_says : (p : Place) (y : Proof × Place) → group_proof names p ≡ Ok y → SaysProof names machines kind.Group p y.0 y.1
+  unfolding group_proof
   group_says p y h =
-      let l = bind_ok h.lines _ y (sym h.is) in
-      let t = jobs_say 0 p h.lines l.0 (omega arith) h.reads l.1 in
+      let l = bind_ok (lines_from (jobs_step names 0) [] p) _ y h in
+      let t = jobs_say 0 p l.0 (omega arith) l.1 in
       subst (λ (z : Proof × Place). SaysProof names machines kind.Group p z.0 z.1) (ok_is (proof.Group l.0.0, l.0.1) y l.2)
       (record { is = refl; text = t.0; few = omega (arith, t.1.few, length-map l.0.0 (λ j. codes "job" ∷ name_at names j ∷ [])); numbers = t.1.inside })
 
-  machine_says : (p : Place) (y : Proof × Place) → ReadsProof names machines kind.Machine p (Ok y) → SaysProof names machines kind.Machine p y.0 y.1
+  machine_says : (p : Place) (y : Proof × Place) → machine_proof machines p ≡ Ok y → SaysProof names machines kind.Machine p y.0 y.1
+  unfolding machine_proof
   machine_says p y h =
-      let m = then_ok (machine_line_at machines p) _ y h in
-      let e = then_ok (word_line_at (codes "end") m.0.1) _ y m.2 in
+      let m = bind_ok (machine_line_at machines p) _ y h in
+      let e = bind_ok (word_line_at (codes "end") m.0.1) _ y m.2 in
       let t = machine_takes machines p m.0 small m.1 in
-      subst (λ (z : Proof × Place). SaysProof names machines kind.Machine p z.0 z.1) (sym (ok_is y (proof.Machine m.0.0, e.0) e.2))
+      subst (λ (z : Proof × Place). SaysProof names machines kind.Machine p z.0 z.1) (ok_is (proof.Machine m.0.0, e.0) y e.2)
       (record { is = refl; text = then_end p m.0.1 e.0 (codes "machine" ∷ decimal (m.0.0 + 1) ∷ []) t.0 (word_line_takes (codes "end") m.0.1 e.0 e.1); few = omega arith; numbers = t.1 })
 
-  line_says : (p : Place) (y : Proof × Place) → ReadsProof names machines kind.Line p (Ok y) → SaysProof names machines kind.Line p y.0 y.1
+  line_says : (p : Place) (y : Proof × Place) → line_proof names p ≡ Ok y → SaysProof names machines kind.Line p y.0 y.1
+  unfolding line_proof
   line_says p y h =
-      let j = then_ok (job_line_of names p) _ y h in
-      let e = then_ok (word_line_at (codes "end") j.0.1) _ y j.2 in
+      let j = bind_ok (job_line_of names p) _ y h in
+      let e = bind_ok (word_line_at (codes "end") j.0.1) _ y j.2 in
       let t = job_takes names p j.0 j.1 in
-      subst (λ (z : Proof × Place). SaysProof names machines kind.Line p z.0 z.1) (sym (ok_is y (proof.Line j.0.0, e.0) e.2))
+      subst (λ (z : Proof × Place). SaysProof names machines kind.Line p z.0 z.1) (ok_is (proof.Line j.0.0, e.0) y e.2)
       (record { is = refl; text = then_end p j.0.1 e.0 (codes "job" ∷ name_at names j.0.0 ∷ []) t.0 (word_line_takes (codes "end") j.0.1 e.0 e.1); few = omega arith; numbers = t.1 })
 
-  levels_say : (p : Place) (y : Proof × Place) → ReadsProof names machines kind.Levels p (Ok y) → SaysProof names machines kind.Levels p y.0 y.1
+  levels_say : (p : Place) (y : Proof × Place) → levels_proof names p ≡ Ok y → SaysProof names machines kind.Levels p y.0 y.1
+  unfolding levels_proof
   levels_say p y h =
-      let t = then_ok (tail_at p) _ y h in
-      let l = then_ok (numbers_at level_at (codes "level") 1 [] names t.0.1) _ y t.2 in
-      let e = then_ok (word_line_at (codes "end") l.0.1) _ y l.2 in
+      let t = bind_ok (tail_at p) _ y h in
+      let l = bind_ok (numbers_at level_at (codes "level") 1 [] names t.0.1) _ y t.2 in
+      let e = bind_ok (word_line_at (codes "end") l.0.1) _ y l.2 in
       let tail = tail_takes p t.0 t.1 in
-      let says = numbers_take level_at decimal (λ l. l ≤ GREATEST_LEVEL) level_read (codes "level") 1 names [] t.0.1 l.0 (All-nil (λ l. l ≤ GREATEST_LEVEL)) (omega arith) l.1 in
-      let all : l.0.0 ≡ says.more = says.added in
-      let each : length l.0.0 ≡ length names = ap length all ∙ says.each in
+      let says = numbers_said level_at decimal (λ l. l ≤ GREATEST_LEVEL) level_read (codes "level") 1 names t.0.1 l.0 (omega arith) l.1 in
       let line = codes "tail" ∷ decimal t.0.0 ∷ [] in
       let lines = numbered_lines (codes "level") decimal names l.0.0 in
-      let numbers : Takes t.0.1 (lines_text lines) l.0.1 = subst (λ (xs : List ℕ). Takes t.0.1 (lines_text (numbered_lines (codes "level") decimal names xs)) l.0.1) (sym all) says.text in
-      let both = Takes-then p t.0.1 l.0.1 (line_text line) (lines_text lines) tail.0 numbers in
-      subst (λ (z : Proof × Place). SaysProof names machines kind.Levels p z.0 z.1) (sym (ok_is y (proof.Levels l.0.0 t.0.0, e.0) e.2)) (record {
+      let both = Takes-then p t.0.1 l.0.1 (line_text line) (lines_text lines) tail.0 says.text in
+      subst (λ (z : Proof × Place). SaysProof names machines kind.Levels p z.0 z.1) (ok_is (proof.Levels l.0.0 t.0.0, e.0) y e.2) (record {
         is = refl;
         text = Takes-then p l.0.1 e.0 (line_text line ++ lines_text lines) end_text both (word_line_takes (codes "end") l.0.1 e.0 e.1);
-        few = omega (arith, numbered_length (codes "level") decimal names l.0.0 each, says.room);
-        numbers = (each, says.good, tail.1);
+        few = omega (arith, numbered_length (codes "level") decimal names l.0.0 says.each, says.room);
+        numbers = (says.each, says.good, tail.1);
       })
 
-  segments_say : (p : Place) (y : Proof × Place) → ReadsProof names machines kind.Segments p (Ok y) → SaysProof names machines kind.Segments p y.0 y.1
+  segments_say : (p : Place) (y : Proof × Place) → segments_proof names p ≡ Ok y → SaysProof names machines kind.Segments p y.0 y.1
+  unfolding segments_proof
   segments_say p y h =
-      let l = bind_ok h.lines _ y (sym h.is) in
-      let t = more_takes (segments_step names) (segment_lines names) (AreListLines names)
-      (segments_takes names) [] p h.lines l.0 (record { inside = All-nil (λ jobs. All (λ j. j < length names) jobs); few = omega arith }) h.reads l.1 in
+      let l = bind_ok (segments_from names p) _ y h in
+      let t = more_first (segments_step names) (segment_lines names) (AreListLines names)
+      (segments_takes names) [] p l.0 (record { inside = All-nil (λ jobs. All (λ j. j < length names) jobs); few = omega arith }) l.1 in
       subst (λ (z : Proof × Place). SaysProof names machines kind.Segments p z.0 z.1) (ok_is (proof.Segments l.0.0, l.0.1) y l.2)
       (record { is = refl; text = taken_text (segment_lines names) (AreListLines names) [] l.0.0 p l.0.1 refl t; few = t.fit.few; numbers = t.fit.inside })
 
-  block_says : (p : Place) (y : Proof × Place) → ReadsProof names machines kind.Block p (Ok y) → SaysProof names machines kind.Block p y.0 y.1
+  block_says : (p : Place) (y : Proof × Place) → block_proof names p ≡ Ok y → SaysProof names machines kind.Block p y.0 y.1
+  unfolding block_proof
   block_says p y h =
-      let n = then_ok (numbers_at head_at (codes "head") 0 [] names p) _ y h in
-      let r = n.2 in
-      let l = bind_ok r.lines _ y (sym r.is) in
-      let says = numbers_take head_at decimal (λ h. h ≤ GREATEST_HEAD) head_read (codes "head") 0 names [] p n.0 (All-nil (λ h. h ≤ GREATEST_HEAD)) (omega arith) n.1 in
-      let all : n.0.0 ≡ says.more = says.added in
-      let each : length n.0.0 ≡ length names = ap length all ∙ says.each in
+      let n = bind_ok (numbers_at head_at (codes "head") 0 [] names p) _ y h in
+      let l = bind_ok (lines_from (jobs_step names (length n.0.0)) [] n.0.1) _ y n.2 in
+      let says = numbers_said head_at decimal (λ h. h ≤ GREATEST_HEAD) head_read (codes "head") 0 names p n.0 (omega arith) n.1 in
       let heads = numbered_lines (codes "head") decimal names n.0.0 in
-      let numbers : Takes p (lines_text heads) n.0.1 = subst (λ (xs : List ℕ). Takes p (lines_text (numbered_lines (codes "head") decimal names xs)) n.0.1) (sym all) says.text in
-      let t = jobs_say (length n.0.0) n.0.1 r.lines l.0 (omega (arith, says.room)) r.reads l.1 in
+      let t = jobs_say (length n.0.0) n.0.1 l.0 (omega (arith, says.room)) l.1 in
       subst (λ (z : Proof × Place). SaysProof names machines kind.Block p z.0 z.1) (ok_is (proof.Block n.0.0 l.0.0, l.0.1) y l.2) (record {
         is = refl;
-        text = after_lines p n.0.1 l.0.1 heads (job_lines names l.0.0) numbers t.0;
-        few = omega (arith, t.1.few, length-append heads (job_lines names l.0.0), numbered_length (codes "head") decimal names n.0.0 each, length-map l.0.0 (λ j. codes "job" ∷ name_at names j ∷ []));
-        numbers = (each, says.good, t.1.inside);
+        text = after_lines p n.0.1 l.0.1 heads (job_lines names l.0.0) says.text t.0;
+        few = omega (
+          arith,
+          t.1.few,
+          length-append heads (job_lines names l.0.0),
+          numbered_length (codes "head") decimal names n.0.0 says.each,
+          length-map l.0.0 (λ j. codes "job" ∷ name_at names j ∷ []),
+        );
+        numbers = (says.each, says.good, t.1.inside);
       })
 
-  prices_say : (p : Place) (y : Proof × Place) → ReadsProof names machines kind.Prices p (Ok y) → SaysProof names machines kind.Prices p y.0 y.1
+  prices_say : (p : Place) (y : Proof × Place) → prices_proof names machines p ≡ Ok y → SaysProof names machines kind.Prices p y.0 y.1
+  unfolding prices_proof
   prices_say p y h =
-      let n = then_ok (numbers_at price_at (codes "row") 0 [] names p) _ y h in
-      let r = n.2 in
-      let l = bind_ok r.lines _ y (sym r.is) in
-      let says = numbers_take price_at signed_decimal (LiesWithin GREATEST_PRICE) price_read (codes "row") 0 names [] p n.0 (All-nil (LiesWithin GREATEST_PRICE)) (omega arith) n.1 in
-      let all : n.0.0 ≡ says.more = says.added in
-      let each : length n.0.0 ≡ length names = ap length all ∙ says.each in
+      let n = bind_ok (numbers_at price_at (codes "row") 0 [] names p) _ y h in
+      let l = bind_ok (lines_from (columns_step (length names) machines (length n.0.0)) [] n.0.1) _ y n.2 in
+      let says = numbers_said price_at signed_decimal (LiesWithin GREATEST_PRICE) price_read (codes "row") 0 names p n.0 (omega arith) n.1 in
       let rows = numbered_lines (codes "row") signed_decimal names n.0.0 in
-      let numbers : Takes p (lines_text rows) n.0.1 = subst (λ (xs : List ℤ). Takes p (lines_text (numbered_lines (codes "row") signed_decimal names xs)) n.0.1) (sym all) says.text in
       let jobs = length names in
       let before = length n.0.0 in
       let none : AreColumns jobs machines named small before [] = record { inside = omega arith; prices = All-nil _; few = omega (arith, says.room) } in
       let t = more_takes (columns_step jobs machines before) (column_lines jobs 0)
-      (AreColumns jobs machines named small before) (columns_takes jobs machines named small before) [] n.0.1 r.lines l.0 none r.reads l.1 in
+      (AreColumns jobs machines named small before) (columns_takes jobs machines named small before) [] n.0.1 l.0 none l.1 in
       let column = filled (machines * jobs) l.0.0 in
       let text = taken_text (column_lines jobs 0) (AreColumns jobs machines named small before) [] l.0.0 n.0.1 l.0.1 refl t in
       let lines : column_lines jobs 0 column ≡ column_lines jobs 0 l.0.0 = lines-filled jobs (machines * jobs) l.0.0 in
       let columns : Takes n.0.1 (lines_text (column_lines jobs 0 column) ++ end_text) l.0.1 = subst (λ (ls : List (List (List ℕ))). Takes n.0.1 (lines_text ls ++ end_text) l.0.1) (sym lines) text in
       subst (λ (z : Proof × Place). SaysProof names machines kind.Prices p z.0 z.1) (ok_is (proof.Prices n.0.0 column, l.0.1) y l.2) (record {
         is = refl;
-        text = after_lines p n.0.1 l.0.1 rows (column_lines jobs 0 column) numbers columns;
-        few = omega (arith, t.fit.few, ap length lines, length-append rows (column_lines jobs 0 column), numbered_length (codes "row") signed_decimal names n.0.0 each);
-        numbers = (each, says.good, length-filled (machines * jobs) l.0.0 t.fit.inside, all_filled jobs machines named small (machines * jobs) l.0.0 t.fit.prices);
+        text = after_lines p n.0.1 l.0.1 rows (column_lines jobs 0 column) says.text columns;
+        few = omega (arith, t.fit.few, ap length lines, length-append rows (column_lines jobs 0 column), numbered_length (codes "row") signed_decimal names n.0.0 says.each);
+        numbers = (says.each, says.good, length-filled (machines * jobs) l.0.0 t.fit.inside, all_filled jobs machines named small (machines * jobs) l.0.0 t.fit.prices);
       })
 
-  pub proof_says : (k : Kind) (p : Place) (y : Proof × Place) → ReadsProof names machines k p (Ok y) → SaysProof names machines k p y.0 y.1
+  pub proof_says : (k : Kind) (p : Place) (y : Proof × Place) → proof_at names machines k p ≡ Ok y → SaysProof names machines k p y.0 y.1
   proof_says kind.Group p y h = group_says p y h
   proof_says kind.Machine p y h = machine_says p y h
   proof_says kind.Line p y h = line_says p y h
@@ -256,28 +260,28 @@ lines_first a b rest = ap (λ text. (text ++ end_text) ++ rest) (lines_text-appe
 module _ (names : List (List ℕ)) (machines : ℕ) (named : length names < 10 ^ 64) (small : machines < 10 ^ 64) (apart : AreDistinct names) (spelled : All IsJobName names) where
   -- Reading from the text of these lines on gives the proof and leaves the rest.
   abbrev GetsProof : Proof → List (List (List ℕ)) → ℕ → List ℕ → Type 0
-  GetsProof x lines at rest = GetsBy (ReadsProof names machines (kind_of x) (record { at = at; rest = (lines_text lines ++ end_text) ++ rest })) x rest
+  GetsProof x lines at rest = Gets (proof_at names machines (kind_of x) (record { at = at; rest = (lines_text lines ++ end_text) ++ rest })) x rest
 
   single_again : {A : Type 0} (x : Proof) (line : List (List ℕ)) (first : Place → Result (A × Place) FileFault) (make : A → Proof) (a : A) (at : ℕ) (rest : List ℕ)
-      → ((q : Place) (read : Result (Proof × Place) FileFault)
-      → Then (first q) (λ m. Then (word_line_at (codes "end") m.1) (λ place read. read ≡ Ok (make m.0, place))) read → ReadsProof names machines (kind_of x) q read)
+      → ((q : Place) → proof_at names machines (kind_of x) q ≡ (first q >>= λ m. word_line_at (codes "end") m.1 >>= λ place. Ok (make m.0, place)))
       → make a ≡ x → ((rest : List ℕ) → Gets (first (record { at = at; rest = line_text line ++ rest })) a rest) → GetsProof x (line ∷ []) at rest
   single_again x line first make a at rest goes is h =
       let f = h (end_text ++ rest) in
       let e = word_line_again (codes "end") f.0 rest (record { no_space = refl; no_line_feed = refl }) in
       let text : (lines_text (line ∷ []) ++ end_text) ++ rest ≡ line_text line ++ (end_text ++ rest) = line_first (line_text line) [] rest in
       let first_is = ap (λ (b : List ℕ). first (record { at = at; rest = b })) text ∙ f.1 in
-      (e.0, goes _ _ (then_again _ _ _ _ first_is (then_again _ _ _ _ e.1 (ap (λ (y : Proof). Ok (y, record { at = e.0; rest = rest })) (sym is)))))
+      (e.0, goes _ ∙ bind_again _ _ _ _ first_is (bind_again _ _ _ _ e.1 (ap (λ (y : Proof). Ok (y, record { at = e.0; rest = rest })) is)))
 
   pub proof_again : (x : Proof) (at : ℕ) (rest : List ℕ) → IsStatedProof names machines x → length (kind_lines names x) ≤ MOST_LINES → GetsProof x (kind_lines names x) at rest
+  unfolding group_proof machine_proof line_proof levels_proof segments_proof block_proof prices_proof
   proof_again (proof.Group jobs) at rest h few =
-      let g = jobs_again names 0 jobs [] at rest apart spelled h (omega (arith, length-map jobs (λ j. codes "job" ∷ name_at names j ∷ []))) in
-      (g.0, group_done names _ _ jobs g.1)
+      let g = jobs_again names 0 jobs [] at rest apart spelled h (omega (arith, length-map jobs (λ j. codes "job" ∷ name_at names j ∷ []))) _ (omega arith) in
+      (g.0, bind_again _ _ _ _ g.1 refl)
   proof_again (proof.Machine machine) at rest h few =
       single_again (proof.Machine machine) (codes "machine" ∷ decimal (machine + 1) ∷ [])
-      (machine_line_at machines) proof.Machine machine at rest (λ q read k. k) refl (λ rest. machine_again machines machine at rest small h)
+      (machine_line_at machines) proof.Machine machine at rest (λ q. refl) refl (λ rest. machine_again machines machine at rest small h)
   proof_again (proof.Line job) at rest h few =
-      single_again (proof.Line job) (codes "job" ∷ name_at names job ∷ []) (job_line_of names) proof.Line job at rest (λ q read k. k) refl (λ rest. job_again names job at rest apart spelled h)
+      single_again (proof.Line job) (codes "job" ∷ name_at names job ∷ []) (job_line_of names) proof.Line job at rest (λ q. refl) refl (λ rest. job_again names job at rest apart spelled h)
   proof_again (proof.Levels level tail) at rest h few =
       let lines = numbered_lines (codes "level") decimal names level in
       let line = line_text (codes "tail" ∷ decimal tail ∷ []) in
@@ -287,10 +291,10 @@ module _ (names : List (List ℕ)) (machines : ℕ) (named : length names < 10 ^
       let e = word_line_again (codes "end") l.0 rest (record { no_space = refl; no_line_feed = refl }) in
       let first = ap (λ (b : List ℕ). tail_at (record { at = at; rest = b })) (line_first line (lines_text lines) rest) ∙ t.1 in
       let second = ap (λ (b : List ℕ). numbers_at level_at (codes "level") 1 [] names (record { at = t.0; rest = b })) (append_assoc (lines_text lines) end_text rest) ∙ l.1 in
-      (e.0, then_again _ _ _ _ first (then_again _ _ _ _ second (then_again _ _ _ _ e.1 refl)))
+      (e.0, bind_again _ _ _ _ first (bind_again _ _ _ _ second (bind_again _ _ _ _ e.1 refl)))
   proof_again (proof.Segments lists) at rest h few =
       let g = segments_again names apart spelled lists at rest h few in
-      (g.0, segments_done names lists _ _ g.1)
+      (g.0, bind_again _ _ _ _ g.1 refl)
   proof_again (proof.Block head jobs) at rest h few =
       let heads = numbered_lines (codes "head") decimal names head in
       let count = numbered_length (codes "head") decimal names head h.0 in
@@ -298,9 +302,9 @@ module _ (names : List (List ℕ)) (machines : ℕ) (named : length names < 10 ^
       let long = length-map jobs (λ j. codes "job" ∷ name_at names j ∷ []) in
       let n = numbers_again head_at decimal (λ h. h ≤ GREATEST_HEAD) head_read (codes "head") 0 names head [] at
       ((lines_text (job_lines names jobs) ++ end_text) ++ rest) (record { no_space = refl; no_line_feed = refl }) spelled h.0 h.1 (omega (arith, few, count, all)) in
-      let g = jobs_again names (length head) jobs [] n.0 rest apart spelled h.2 (omega (arith, few, count, all, long)) in
+      let g = jobs_again names (length head) jobs [] n.0 rest apart spelled h.2 (omega (arith, few, count, all, long)) _ (omega arith) in
       let first = ap (λ (b : List ℕ). numbers_at head_at (codes "head") 0 [] names (record { at = at; rest = b })) (lines_first heads (job_lines names jobs) rest) ∙ n.1 in
-      (g.0, then_again _ _ _ _ first (block_done names head jobs _ _ g.1))
+      (g.0, bind_again _ _ _ _ first (bind_again _ _ _ _ g.1 refl))
   proof_again (proof.Prices row column) at rest h few =
       let jobs = length names in
       let rows = numbered_lines (codes "row") signed_decimal names row in
@@ -311,8 +315,5 @@ module _ (names : List (List ℕ)) (machines : ℕ) (named : length names < 10 ^
       [] at ((lines_text columns ++ end_text) ++ rest) (record { no_space = refl; no_line_feed = refl }) spelled h.0 h.1 (omega (arith, few, count, all)) in
       let g = columns_again jobs machines named small (length row) column n.0 rest h.2 h.3 (omega (arith, few, count, all)) in
       let first = ap (λ (b : List ℕ). numbers_at price_at (codes "row") 0 [] names (record { at = at; rest = b })) (lines_first rows columns rest) ∙ n.1 in
-      let read = prices_done names machines row g.0 (record { at = n.0; rest = (lines_text columns ++ end_text) ++ rest }) (record { at = g.2.0; rest = rest }) g.2.1 in (
-        g.2.0,
-        then_again _ _ _ _ first (subst (λ (c : List ℤ). PricesAfter names machines row
-            (record { at = n.0; rest = (lines_text columns ++ end_text) ++ rest }) (Ok (proof.Prices row c, record { at = g.2.0; rest = rest }))) g.1 read),
-      )
+      let c = g.2 _ (omega arith) in
+      (c.0, bind_again _ _ _ _ first (bind_again _ _ _ _ c.1 (ap (λ (ys : List ℤ). Ok (proof.Prices row ys, record { at = c.0; rest = rest })) g.1)))

@@ -1,7 +1,6 @@
 pub mod CertificateLimits
 mod CertificatePrinting
 mod ColumnLaws
-mod EvidenceReading
 mod JobLists
 mod KindLaws
 pub mod KindTexts

@@ -1,8 +1,5 @@
 -- The faults of certificate texts, and that their reading comes to an end.
-use Rattle.std.proofs.Common.{◌≡◌, ◌⊎◌, inl, inr, ℕ, ◌+◌, List, [], ◌∷◌, length, Result, Ok, Err, ℤ, bytes_eq, codes, refl, ap, subst, sym}
-use Rattle.msp_pieces.specs.declared.Frac.{Frac}
-use Rattle.msp_cert.specs.declared.Proof.{Proof}
-use Rattle.msp_cert.specs.declared.Certificate.{Certificate}
+use Rattle.std.proofs.Common.{◌≡◌, ◌⊎◌, inl, inr, ℕ, ◌+◌, List, [], ◌∷◌, length, None, Result, Ok, Err, ℤ, bytes_eq, codes, subst, sym}
 use Rattle.msp_grammar.specs.declared.lines.fault.FileFault.{FileFault}
 use Rattle.msp_grammar.specs.declared.lines.fault.FileFault.TheVariants.{Class as ClassBroken, Cycle, Memory, After, Head, Missing, Cut, Line, Count, Key, Name, Number, Limit}
 use Rattle.msp_grammar.specs.declared.lines.fault.FileFault.TheVariants.{Again, ArcAgain, Unknown}
@@ -12,18 +9,15 @@ use Rattle.msp_cert_text.specs.declared.kinds.Kind.TheVariants as kind
 use Rattle.msp_cert.specs.declared.limits.TheConstants.{GREATEST_HEAD, GREATEST_PRICE}
 use Rattle.msp_cert_text.specs.declared.kinds.TheConstants.{GREATEST_BOUND, GREATEST_LEVEL}
 use Rattle.msp_cert_text.specs.Reading.{kind_in, kind_at, machine_line_at, job_line_of, tail_at, named_field_at, named_line_at, numbers_at, level_at, head_at, price_at, job_in}
-use Rattle.msp_cert_text.specs.Reading.{job_added, jobs_step, segment_added, is_segment_word, segments_step, position_at, column_price_at, column_added, columns_step, ReadsProof}
-use Rattle.msp_cert_text.specs.Reading.{IsCertifiedAs, ReadsEvidence, ReadsCertified, ReadsCertificate}
-use Rattle.msp_cert_text.specs.CertificateText.{segment_lines, column_lines}
+use Rattle.msp_cert_text.specs.Reading.{job_added, jobs_step, segment_added, is_segment_word, segments_step, position_at, column_price_at, column_added, columns_step, group_proof, machine_proof}
+use Rattle.msp_cert_text.specs.Reading.{line_proof, levels_proof, segments_proof, block_proof, prices_proof, proof_at, evidence_at, certified_at, ReadsCertificate}
 use Rattle.msp_cert_text.specs.Answers.{IsCertificateFault}
-use Rattle.msp_grammar.specs.lines.Reading.{Place, line_at, fields_of, first_of, word_line_at, LineRead, ReadsMore, ReadsBy, Then, all_of}
+use Rattle.msp_grammar.specs.lines.Reading.{◌>>=◌, Place, line_at, fields_of, first_of, word_line_at, LineRead, lines_from}
 use Rattle.msp_grammar.specs.lines.Costs.{cost_line_at}
-use Rattle.msp_grammar.proofs.reading.LineLaws.{bind_ok}
 use Rattle.msp_grammar.proofs.reading.LineFaults.{IsPlainFault, InBy, IsPlain, fine, bad, chain, given, or_fault, either, line_plain, worded_plain, word_plain, field_plain}
-use Rattle.msp_grammar.proofs.reading.LineFaults.{natural_plain, integer_plain, ordinal_plain, named_plain, known_plain, end_plain, cost_plain, more, then_in, whole_in}
+use Rattle.msp_grammar.proofs.reading.LineFaults.{natural_plain, integer_plain, ordinal_plain, named_plain, known_plain, end_plain, cost_plain, goes_on_in, lines_each, whole_in}
 use Rattle.msp_grammar.proofs.reading.LineFaults.{whole_remembers}
-use Rattle.msp_cert_text.proofs.KindLaws.{kind_in_by, kind_shortens}
-use Rattle.msp_grammar.proofs.reading.Endings.{Shortens, IsNoJob, line_shorter, more_ends, then_ends, by_ends, IsOfFraction, cost_is}
+use Rattle.msp_cert_text.proofs.KindLaws.{kind_in_by}
 
 -- A fault that a line of a certificate text can have.
 abbrev IsKindFault : FileFault → Type 0
@@ -32,22 +26,9 @@ IsKindFault (Again at) = Unit {0}
 IsKindFault e = IsPlainFault e
 
 plain_kind : (e : FileFault) → IsPlainFault e → IsKindFault e
-plain_kind (ClassBroken fault name) h = h
-plain_kind (Cycle job name) h = h
-plain_kind Memory h = h
-plain_kind (After at) h = h
-plain_kind (Head at) h = h
-plain_kind (Missing at) h = tt
-plain_kind (Cut at) h = tt
-plain_kind (Line at) h = tt
-plain_kind (Count at) h = tt
 plain_kind (Key at) h = tt
-plain_kind (Name at) h = tt
-plain_kind (Number at) h = tt
-plain_kind (Limit at quantity) h = tt
 plain_kind (Again at) h = tt
-plain_kind (ArcAgain at) h = h
-plain_kind (Unknown at) h = tt
+plain_kind e h = h
 
 abbrev InKind : {A : Type 0} → Result A FileFault → Type 0
 InKind r = InBy IsKindFault r
@@ -145,66 +126,45 @@ after_column jobs machines before prices p =
 
 -- ---- the whole
 
-by_in : {A B : Type 0} (make : A × Place → B) (step : A → Place → Result (LineRead A) FileFault)
-    → ((d : A) (p : Place) → InKind (step d p)) → (d : A) (p : Place) (r : Result B FileFault) → ReadsBy (λ x. Ok (make x)) (ReadsMore step d p) r → InKind r
-by_in make step each d p r h = subst InKind (sym h.is) (chain h.lines _ (more step each d p h.lines h.reads) (λ x. fine (make x)))
+lines : {A : Type 0} (step : A → Place → Result (LineRead A) FileFault) → ((d : A) (p : Place) → InKind (step d p)) → (d : A) (p : Place) → InKind (lines_from step d p)
+lines step each d p = lines_each step None (λ at. tt) (λ next h. h) each _ d p
 
-is_read : {A : Type 0} (r : Result A FileFault) (x : A) → r ≡ Ok x → InKind r
-is_read r x e = subst InKind (sym e) (fine x)
-
-last_in : {B : Type 0} (q : Place) (make : Place → B) (r : Result B FileFault) → Then (word_line_at (codes "end") q) (λ p read. read ≡ Ok (make p)) r → InKind r
-last_in q make r h = then_in (word_line_at (codes "end") q) _ r (widen _ (word_plain _ q)) (λ p e. is_read r (make p) e) h
+last_in : {B : Type 0} (q : Place) (make : Place → B) → InKind (word_line_at (codes "end") q >>= λ p. Ok (make p))
+last_in q make = chain _ _ (widen _ (word_plain _ q)) (λ p. fine (make p))
 
 module _ (names : List (List ℕ)) (machines : ℕ) where
-  proof_in : (k : Kind) (p : Place) (r : Result (Proof × Place) FileFault) → ReadsProof names machines k p r → InKind r
-  proof_in kind.Group p r h = by_in _ (jobs_step names 0) (after_job names 0) [] p r h
-  proof_in kind.Machine p r h = then_in (machine_line_at machines p) _ r (machine_line machines p) (λ (m : ℕ × Place). last_in m.1 _ r) h
-  proof_in kind.Line p r h = then_in (job_line_of names p) _ r (job_line names p) (λ (j : ℕ × Place). last_in j.1 _ r) h
-  proof_in kind.Levels p r h =
-      then_in (tail_at p) _ r (tail_line p) (λ (t : ℕ × Place).
-      then_in (numbers_at level_at (codes "level") 1 [] names t.1) _ r (numbers level_at (codes "level") 1 [] names t.1 level) (λ (l : List ℕ × Place). last_in l.1 _ r)) h
-  proof_in kind.Segments p r h = by_in _ (segments_step names) (after_segment names) [] p r h
-  proof_in kind.Block p r h =
-      then_in (numbers_at head_at (codes "head") 0 [] names p) _ r (numbers head_at (codes "head") 0 [] names p head)
-      (λ (n : List ℕ × Place). by_in _ (jobs_step names (length n.0)) (after_job names (length n.0)) [] n.1 r) h
-  proof_in kind.Prices p r h =
-      then_in (numbers_at price_at (codes "row") 0 [] names p) _ r (numbers price_at (codes "row") 0 [] names p price)
-      (λ (n : List ℤ × Place). by_in _ (columns_step (length names) machines (length n.0)) (after_column (length names) machines (length n.0)) [] n.1 r) h
+  proof_in : (k : Kind) (p : Place) → InKind (proof_at names machines k p)
+  unfolding group_proof machine_proof line_proof levels_proof segments_proof block_proof prices_proof
+  proof_in kind.Group p = chain _ _ (lines (jobs_step names 0) (after_job names 0) [] p) (λ x. fine _)
+  proof_in kind.Machine p = chain _ _ (machine_line machines p) (λ m. last_in m.1 _)
+  proof_in kind.Line p = chain _ _ (job_line names p) (λ j. last_in j.1 _)
+  proof_in kind.Levels p = chain _ _ (tail_line p) (λ t. chain _ _ (numbers level_at (codes "level") 1 [] names t.1 level) (λ l. last_in l.1 _))
+  proof_in kind.Segments p =
+      chain _ _ (chain (segments_step names [] p) _ (after_segment names [] p) (λ l.
+      goes_on_in None _ (λ d q. lines (segments_step names) (after_segment names) d q) (λ d q. lines (segments_step names) (after_segment names) d q) l)) (λ x. fine _)
+  proof_in kind.Block p =
+      chain _ _ (numbers head_at (codes "head") 0 [] names p head) (λ n. chain _ _ (lines (jobs_step names (length n.0)) (after_job names (length n.0)) [] n.1) (λ x. fine _))
+  proof_in kind.Prices p =
+      chain _ _ (numbers price_at (codes "row") 0 [] names p price) (λ n.
+      chain _ _ (lines (columns_step (length names) machines (length n.0)) (after_column (length names) machines (length n.0)) [] n.1) (λ x. fine _))
 
-  certified_in : (bound : ℤ × ℤ) (lines : Result (Proof × Place) FileFault) (r : Result (Certificate × Place) FileFault) → InKind lines → IsCertifiedAs bound lines r → InKind r
-  certified_in bound (Ok line) (Ok c) h k = fine c
-  certified_in bound (Err e) (Err d) h k = bad d (h.fault d (ap Err (sym k)))
-  certified_in bound (Ok line) (Err d) h k = absurd k
-  certified_in bound (Err e) (Ok c) h k = absurd k
-
-  certified : (p : Place) (r : Result (Certificate × Place) FileFault) → ReadsCertified names machines p r → InKind r
-  unfolding ReadsCertified
-  certified p r h =
-      then_in (word_line_at (codes "certificate") p) _ r (widen _ (word_plain _ p)) (λ (p : Place).
-      then_in (cost_line_at (codes "bound") GREATEST_BOUND p) _ r (widen _ (cost_plain _ _ p)) (λ (b : (ℤ × ℤ) × Place).
-      then_in (kind_at b.1) _ r (kind_line b.1) (λ (k : Kind × Place) e. certified_in b.0 e.lines r (proof_in k.0 k.1 e.lines e.reads) e.certified))) h
+  certified : (p : Place) → InKind (certified_at names machines p)
+  unfolding certified_at evidence_at
+  certified p =
+      chain (word_line_at (codes "certificate") p) _ (widen _ (word_plain _ p)) (λ q.
+      chain (cost_line_at (codes "bound") GREATEST_BOUND q) _ (widen _ (cost_plain _ _ q)) (λ b.
+      chain (kind_at b.1) _ (kind_line b.1) (λ k. chain (proof_at names machines k.0 k.1) _ (proof_in k.0 k.1) (λ x. fine _))))
 
   kind_certificate : (e : FileFault) → IsKindFault e → IsCertificateFault e
   kind_certificate (ClassBroken fault name) h = h
   kind_certificate (Cycle job name) h = h
-  kind_certificate Memory h = tt
-  kind_certificate (After at) h = tt
   kind_certificate (Head at) h = h
-  kind_certificate (Missing at) h = tt
-  kind_certificate (Cut at) h = tt
-  kind_certificate (Line at) h = tt
-  kind_certificate (Count at) h = tt
-  kind_certificate (Key at) h = tt
-  kind_certificate (Name at) h = tt
-  kind_certificate (Number at) h = tt
-  kind_certificate (Limit at quantity) h = tt
-  kind_certificate (Again at) h = tt
   kind_certificate (ArcAgain at) h = h
-  kind_certificate (Unknown at) h = tt
+  kind_certificate _ h = tt
 
   -- the faults of a certificate text
   pub certificate_faults : (line : ℕ) (b : List ℕ) (e : FileFault) → ReadsCertificate names machines line b (Err e) → IsCertificateFault e
-  certificate_faults line b e h = by (whole_in h.lines e (certified (record { at = line; rest = b }) h.lines h.reads) h.is)
+  certificate_faults line b e h = by (whole_in _ e (certified (record { at = line; rest = b })) (sym h))
     where
       by : IsKindFault e ⊎ ((at : ℕ) × (e ≡ After at)) → IsCertificateFault e
       by (inl k) = kind_certificate e k
@@ -212,57 +172,4 @@ module _ (names : List (List ℕ)) (machines : ℕ) where
 
   -- reading gives no out of memory
   pub certificate_remembers : (line : ℕ) (b : List ℕ) → ¬ ReadsCertificate names machines line b (Err Memory)
-  certificate_remembers line b h = whole_remembers h.lines (certified (record { at = line; rest = b }) h.lines h.reads) (λ k. k) h.is
-
-  -- ---- reading comes to an end
-
-  jobs_shorten : (before : ℕ) (d : List ℕ) (p : Place) (next : LineRead (List ℕ)) → jobs_step names before d p ≡ Ok next → IsNoJob next × Shortens p next
-  unfolding jobs_step
-  jobs_shorten before d p next e = let l = bind_ok (line_at p) _ next e in
-      kind_shortens (before + length d) (bytes_eq (first_of (fields_of l.0.0)) (codes "job")) (job_added names) d p.at (fields_of l.0.0) p l.0.1 next (line_shorter p l.0 l.1) l.2
-
-  segments_shorten : (d : List (List ℕ)) (p : Place) (next : LineRead (List (List ℕ))) → segments_step names d p ≡ Ok next → IsNoJob next × Shortens p next
-  unfolding segments_step
-  segments_shorten d p next e = let l = bind_ok (line_at p) _ next e in kind_shortens (length (segment_lines names d)) (is_segment_word d (first_of (fields_of l.0.0)))
-      (segment_added names (first_of (fields_of l.0.0))) d p.at (fields_of l.0.0) p l.0.1 next (line_shorter p l.0 l.1) l.2
-
-  columns_shorten : (jobs before : ℕ) (d : List ℤ) (p : Place) (next : LineRead (List ℤ)) → columns_step jobs machines before d p ≡ Ok next → IsNoJob next × Shortens p next
-  unfolding columns_step
-  columns_shorten jobs before d p next e = let l = bind_ok (line_at p) _ next e in kind_shortens (before + length (column_lines jobs 0 d))
-      (bytes_eq (first_of (fields_of l.0.0)) (codes "column")) (column_added jobs machines) d p.at (fields_of l.0.0) p l.0.1 next (line_shorter p l.0 l.1) l.2
-
-  proof_ends : (k : Kind) (p : Place) → (r : Result (Proof × Place) FileFault) × ReadsProof names machines k p r
-  proof_ends kind.Group p = by_ends _ _ (more_ends (jobs_step names 0) (jobs_shorten 0) [] p)
-  proof_ends kind.Machine p = then_ends (machine_line_at machines p) _ (λ (m : ℕ × Place) _. then_ends (word_line_at (codes "end") m.1) _ (λ q _. (_, refl)))
-  proof_ends kind.Line p = then_ends (job_line_of names p) _ (λ (j : ℕ × Place) _. then_ends (word_line_at (codes "end") j.1) _ (λ q _. (_, refl)))
-  proof_ends kind.Levels p =
-      then_ends (tail_at p) _ (λ (t : ℕ × Place) _.
-      then_ends (numbers_at level_at (codes "level") 1 [] names t.1) _ (λ (l : List ℕ × Place) _. then_ends (word_line_at (codes "end") l.1) _ (λ q _. (_, refl))))
-  proof_ends kind.Segments p = by_ends _ _ (more_ends (segments_step names) segments_shorten [] p)
-  proof_ends kind.Block p =
-      then_ends (numbers_at head_at (codes "head") 0 [] names p) _ (λ (n : List ℕ × Place) _. by_ends _ _ (more_ends (jobs_step names (length n.0)) (jobs_shorten (length n.0)) [] n.1))
-  proof_ends kind.Prices p =
-      then_ends (numbers_at price_at (codes "row") 0 [] names p)
-      _ (λ (n : List ℤ × Place) _. by_ends _ _ (more_ends (columns_step (length names) machines (length n.0)) (columns_shorten (length names) (length n.0)) [] n.1))
-
-  certified_lines : (x : Frac) (r : Result (Proof × Place) FileFault) → (s : Result (Certificate × Place) FileFault) × IsCertifiedAs (x.num, x.den) r s
-  certified_lines x (Ok line) = (Ok (record { bound = x; proof = line.0 }, line.1), (refl, refl, refl, refl))
-  certified_lines x (Err fault) = (Err fault, refl)
-
-  evidence_ends : (x : Frac) (k : Kind) (p : Place) → (s : Result (Certificate × Place) FileFault) × ReadsEvidence names machines (x.num, x.den) k p s
-  evidence_ends x k p =
-      let lines = proof_ends k p in
-      let s = certified_lines x lines.0 in
-      (s.0, record { lines = lines.0; reads = lines.1; certified = s.1 })
-
-  certified_ends : (p : Place) → (s : Result (Certificate × Place) FileFault) × ReadsCertified names machines p s
-  unfolding ReadsCertified IsOfFraction
-  certified_ends p =
-      then_ends (word_line_at (codes "certificate") p) _ (λ (q : Place) _.
-      then_ends (cost_line_at (codes "bound") GREATEST_BOUND q) _ (λ (b : (ℤ × ℤ) × Place) is.
-      then_ends (kind_at b.1) _ (λ (k : Kind × Place) _.
-      let f = cost_is (codes "bound") GREATEST_BOUND q b is in
-      subst (λ (y : ℤ × ℤ). (s : Result (Certificate × Place) FileFault) × ReadsEvidence names machines y k.0 k.1 s) f.1 (evidence_ends f.0 k.0 k.1))))
-
-  pub certificate_ends : (line : ℕ) (b : List ℕ) → (s : Result Certificate FileFault) × ReadsCertificate names machines line b s
-  certificate_ends line b = by_ends all_of (ReadsCertified names machines (record { at = line; rest = b })) (certified_ends (record { at = line; rest = b }))
+  certificate_remembers line b h = whole_remembers _ (certified (record { at = line; rest = b })) (λ k. k) (sym h)

@@ -2,7 +2,7 @@
 use Rattle.std.proofs.Common.{◌≡◌, ℕ, suc, ◌+◌, ◌<◌, ◌≤◌, nat_lt, ◌==◌, List, [], ◌∷◌, ◌++◌, length, Result, Ok, All, bytes_eq, refl, sym, ap, subst, ◌∙◌, append_assoc, append-nil}
 use Rattle.std.proofs.Common.{length-append, arith, ltb-true, lt-ltb}
 use Rattle.std.proofs.lemmas.Slice.Eq.{bytes_eq-Decides}
-use Rattle.std.proofs.lemmas.List.Elements.{All-head, All-tail, All-push}
+use Rattle.std.proofs.lemmas.List.Elements.{All-nil, All-head, All-tail, All-push}
 use Rattle.msp_job_name.specs.JobName.{IsJobName}
 use Rattle.msp_job_name.proofs.NameLists.{same_bytes}
 use Rattle.msp_grammar.specs.InstanceText.{line_text}
@@ -58,15 +58,15 @@ pub record IsReadBy {A : Type 0} (read : ℕ → List ℕ → Result A FileFault
 
 module _ {A : Type 0} (read : ℕ → List ℕ → Result A FileFault) (spell : A → List ℕ) (Good : A → Type 0) (is : IsReadBy read spell Good) (word : List ℕ) (before : ℕ) where
   -- What the lines of the jobs say.
-  pub record SaysNumbers (numbers : List A) (names : List (List ℕ)) (p : Place) (after : List A) (q : Place) : Type 0 where
-    pub more : List A
-    pub added : after ≡ numbers ++ more
-    pub each : length more ≡ length names
-    pub text : Takes p (lines_text (numbered_lines word spell names more)) q
-    pub good : All Good after
-    pub room : before + length after ≤ MOST_LINES
+  record SaysNumbers (numbers : List A) (names : List (List ℕ)) (p : Place) (after : List A) (q : Place) : Type 0 where
+    more : List A
+    added : after ≡ numbers ++ more
+    each : length more ≡ length names
+    text : Takes p (lines_text (numbered_lines word spell names more)) q
+    good : All Good after
+    room : before + length after ≤ MOST_LINES
 
-  pub numbers_take : (names : List (List ℕ)) (numbers : List A) (p : Place) (x : List A × Place)
+  numbers_take : (names : List (List ℕ)) (numbers : List A) (p : Place) (x : List A × Place)
       → All Good numbers → before + length numbers ≤ MOST_LINES → numbers_at read word before numbers names p ≡ Ok x → SaysNumbers numbers names p x.0 x.1
   unfolding numbers_at
   numbers_take [] numbers p x good room e =
@@ -88,6 +88,19 @@ module _ {A : Type 0} (read : ℕ → List ℕ → Result A FileFault) (spell : 
         good = rest.good;
         room = rest.room;
       }
+
+  -- the same of all numbers
+  pub record SaysAll (names : List (List ℕ)) (p : Place) (xs : List A) (q : Place) : Type 0 where
+    pub text : Takes p (lines_text (numbered_lines word spell names xs)) q
+    pub each : length xs ≡ length names
+    pub good : All Good xs
+    pub room : before + length xs ≤ MOST_LINES
+
+  pub numbers_said : (names : List (List ℕ)) (p : Place) (x : List A × Place) → before ≤ MOST_LINES → numbers_at read word before [] names p ≡ Ok x → SaysAll names p x.0 x.1
+  numbers_said names p x few e =
+      let s = numbers_take names [] p x (All-nil Good) (omega arith) e in
+      let text = subst (λ (xs : List A). Takes p (lines_text (numbered_lines word spell names xs)) x.1) (sym s.added) s.text in
+      record { text = text; each = ap length s.added ∙ s.each; good = s.good; room = s.room }
 
   pub numbers_again : (names : List (List ℕ)) (more numbers : List A) (at : ℕ) (rest : List ℕ)
       → IsField word → All IsJobName names → length more ≡ length names → All Good more → before + length numbers + length more ≤ MOST_LINES

@@ -8,8 +8,8 @@ use Rattle.msp_cert_text.specs.Reading.{ReadsCertificate}
 use Rattle.msp_cert_text.specs.Answers.{IsCertificateFaultOf, AreCounted, CertificatesReadAgain, IsCertificateTextOf, IsFirstCertificateFaultOf, LawOfCertificateTexts}
 use Rattle.msp_grammar.proofs.reading.LineLaws.{reads, ok_is}
 use Rattle.msp_grammar.proofs.reading.Readings.{err_is, not_fails}
-use Rattle.msp_cert_text.proofs.Readings.{certificate_same}
-use Rattle.msp_cert_text.proofs.LineFaults.{certificate_remembers, certificate_ends}
+use Rattle.msp_cert_text.proofs.Readings.{certificate_same, certificate_ends}
+use Rattle.msp_cert_text.proofs.LineFaults.{certificate_remembers}
 use Rattle.msp_cert_text.proofs.TextLaws.{certificate_taken, certificate_again, printed_again, no_certificate_fault}
 
 module _ (names : List (List ℕ)) (machines line : ℕ) (h : AreCounted names machines) where

@@ -1,68 +1,49 @@
--- Each certificate text is read in one way.
-use Rattle.std.proofs.Common.{◌≡◌, ℕ, List, [], length, Result, Ok, Err, ℤ, sym, ap, subst, ◌∙◌, codes}
+-- Each certificate text is read in one way, and always to an end.
+use Rattle.std.proofs.Common.{◌≡◌, ℕ, List, Result, Ok, Err, ℤ, refl, sym, ap, subst, ◌∙◌, codes}
 use Rattle.msp_pieces.specs.declared.Frac.{Frac}
 use Rattle.msp_cert.specs.declared.Proof.{Proof}
 use Rattle.msp_cert.specs.declared.Certificate.{Certificate}
 use Rattle.msp_grammar.specs.declared.lines.fault.FileFault.{FileFault}
-use Rattle.msp_cert_text.specs.declared.kinds.Kind.{Kind}
-use Rattle.msp_cert_text.specs.declared.kinds.Kind.TheVariants as kind
 use Rattle.msp_cert_text.specs.declared.kinds.TheConstants.{GREATEST_BOUND}
-use Rattle.msp_cert_text.specs.Reading.{machine_line_at, job_line_of, tail_at, numbers_at, level_at, head_at, price_at, jobs_step, segments_step, columns_step, kind_at, ReadsProof}
-use Rattle.msp_cert_text.specs.Reading.{IsCertifiedAs, ReadsEvidence, ReadsCertified, ReadsCertificate}
-use Rattle.msp_grammar.specs.lines.Reading.{Place, word_line_at, LineRead, ReadsMore, ReadsBy, all_of}
+use Rattle.msp_cert_text.specs.Reading.{kind_at, proof_at, evidence_at, certified_at, certificate_at, said_of, ReadsCertificate}
+use Rattle.msp_grammar.specs.lines.Reading.{◌>>=◌, Place, word_line_at, all_of}
 use Rattle.msp_grammar.specs.lines.Costs.{cost_line_at}
-use Rattle.msp_grammar.proofs.reading.Readings.{more_same, then_same, by_same, fraction_is}
+use Rattle.msp_grammar.proofs.reading.LineLaws.{bind_ok, provided_ok, ok_is}
+use Rattle.msp_grammar.proofs.reading.Readings.{seen_is}
+use Rattle.msp_grammar.proofs.reading.Fractions.{fraction_is, IsOfFraction, cost_is}
 
--- lines up to the end
-more_by_same : {A B : Type 0} (last : A × Place → Result B FileFault) (step : A → Place → Result (LineRead A) FileFault) (d : A) (p : Place) (r s : Result B FileFault)
-    → ReadsBy last (ReadsMore step d p) r → ReadsBy last (ReadsMore step d p) s → r ≡ s
-more_by_same last step d p r s h k = by_same last (ReadsMore step d p) (λ x y a b. more_same step d p x y a b) r s h k
+abbrev pub Said : Type 0
+Said = (ℤ × ℤ) × Proof
+
+abbrev pub certified_by : Frac → Proof → Certificate
+certified_by b x = record { bound = b; proof = x }
+
+certified_is : (c d : Certificate) → said_of c ≡ said_of d → c ≡ d
+certified_is c d e =
+    ap (λ (b : Frac). certified_by b c.proof) (fraction_is c.bound d.bound (ap (λ (y : Said). y.0.0) e) (ap (λ (y : Said). y.0.1) e)) ∙ ap (certified_by d.bound) (ap (λ (y : Said). y.1) e)
 
 module _ (names : List (List ℕ)) (machines : ℕ) where
-  proof_same : (k : Kind) (p : Place) (r s : Result (Proof × Place) FileFault) → ReadsProof names machines k p r → ReadsProof names machines k p s → r ≡ s
-  proof_same kind.Group p r s h g = more_by_same _ (jobs_step names 0) [] p r s h g
-  proof_same kind.Machine p r s h g =
-      then_same (machine_line_at machines p) _ r s (λ (m : ℕ × Place).
-      then_same (word_line_at (codes "end") m.1) _ r s (λ q a b. a ∙ sym b)) h g
-  proof_same kind.Line p r s h g =
-      then_same (job_line_of names p) _ r s (λ (j : ℕ × Place).
-      then_same (word_line_at (codes "end") j.1) _ r s (λ q a b. a ∙ sym b)) h g
-  proof_same kind.Levels p r s h g =
-      then_same (tail_at p) _ r s (λ (t : ℕ × Place).
-      then_same (numbers_at level_at (codes "level") 1 [] names t.1) _ r s (λ (l : List ℕ × Place).
-      then_same (word_line_at (codes "end") l.1) _ r s (λ q a b. a ∙ sym b))) h g
-  proof_same kind.Segments p r s h g = more_by_same _ (segments_step names) [] p r s h g
-  proof_same kind.Block p r s h g =
-      then_same (numbers_at head_at (codes "head") 0 [] names p) _ r s (λ (n : List ℕ × Place). more_by_same _ (jobs_step names (length n.0)) [] n.1 r s) h g
-  proof_same kind.Prices p r s h g =
-      then_same (numbers_at price_at (codes "row") 0 [] names p) _ r s (λ (n : List ℤ × Place). more_by_same _ (columns_step (length names) machines (length n.0)) [] n.1 r s) h g
-
-  read_as : Frac → Proof → Place → Result (Certificate × Place) FileFault
-  read_as b x q = Ok (record { bound = b; proof = x }, q)
-
-  certified_as : (bound : ℤ × ℤ) (lines : Result (Proof × Place) FileFault) (r s : Result (Certificate × Place) FileFault) → IsCertifiedAs bound lines r → IsCertifiedAs bound lines s → r ≡ s
-  unfolding read_as
-  certified_as bound (Ok line) (Ok r) (Ok s) h k =
-      ap (λ x. read_as r.0.bound x r.1) (h.0 ∙ sym k.0)
-      ∙ ap (λ x. read_as x s.0.proof r.1) (fraction_is r.0.bound s.0.bound (h.1 ∙ sym k.1) (h.2 ∙ sym k.2))
-      ∙ ap (read_as s.0.bound s.0.proof) (h.3 ∙ sym k.3)
-  certified_as bound (Err e) (Err r) (Err s) h k = ap Err (h ∙ sym k)
-  certified_as bound (Ok line) (Err r) s h k = absurd h
-  certified_as bound (Ok line) (Ok r) (Err s) h k = absurd k
-  certified_as bound (Err e) (Ok r) s h k = absurd h
-  certified_as bound (Err e) (Err r) (Ok s) h k = absurd k
-
-  evidence_same : (bound : ℤ × ℤ) (k : Kind) (p : Place) (r s : Result (Certificate × Place) FileFault) → ReadsEvidence names machines bound k p r → ReadsEvidence names machines bound k p s → r ≡ s
-  evidence_same bound k p r s h g =
-      let same = proof_same k p h.lines g.lines h.reads g.reads in
-      certified_as bound g.lines r s (subst (λ (lines : Result (Proof × Place) FileFault). IsCertifiedAs bound lines r) same h.certified) g.certified
-
-  certified_same : (start : Place) (r s : Result (Certificate × Place) FileFault) → ReadsCertified names machines start r → ReadsCertified names machines start s → r ≡ s
-  unfolding ReadsCertified
-  certified_same start r s h k =
-      then_same (word_line_at (codes "certificate") start) _ r s (λ (p : Place).
-      then_same (cost_line_at (codes "bound") GREATEST_BOUND p) _ r s (λ (b : (ℤ × ℤ) × Place).
-      then_same (kind_at b.1) _ r s (λ (j : Kind × Place). evidence_same b.0 j.0 j.1 r s))) h k
-
   pub certificate_same : (line : ℕ) (b : List ℕ) (r s : Result Certificate FileFault) → ReadsCertificate names machines line b r → ReadsCertificate names machines line b s → r ≡ s
-  certificate_same line b r s h k = by_same all_of (ReadsCertified names machines (record { at = line; rest = b })) (certified_same (record { at = line; rest = b })) r s h k
+  certificate_same line b r s h k = seen_is said_of certified_is r s (sym h ∙ k)
+
+  -- a bound that was read is a fraction
+  bound_read : (start : Place) (y : Said × Place) → certified_at names machines start ≡ Ok y → IsOfFraction y.0.0
+  unfolding certified_at evidence_at
+  bound_read start y e =
+      let t = bind_ok (word_line_at (codes "certificate") start) _ y e in
+      let b = bind_ok (cost_line_at (codes "bound") GREATEST_BOUND t.0) _ y t.2 in
+      let k = bind_ok (kind_at b.0.1) _ y b.2 in
+      let p = bind_ok (proof_at names machines k.0.0 k.0.1) _ y k.2 in
+      subst (λ (z : Said × Place). IsOfFraction z.0.0) (ok_is _ y p.2) (cost_is (codes "bound") GREATEST_BOUND t.0 b.0 b.1)
+
+  pub certificate_ends : (line : ℕ) (b : List ℕ) → (r : Result Certificate FileFault) × ReadsCertificate names machines line b r
+  unfolding IsOfFraction
+  certificate_ends line b = by (certificate_at names machines line b) refl
+    where
+      by : (r : Result Said FileFault) → certificate_at names machines line b ≡ r → (s : Result Certificate FileFault) × ReadsCertificate names machines line b s
+      by (Err e) is = (Err e, is)
+      by (Ok y) is =
+          let x = bind_ok (certified_at names machines (record { at = line; rest = b })) all_of y is in
+          let f = bound_read (record { at = line; rest = b }) x.0 x.1 in
+          let same = ok_is x.0.0 y (provided_ok _ _ _ y x.2).1 in
+          (Ok (certified_by f.0 x.0.0.1), is ∙ ap Ok (sym same ∙ ap (λ (c : ℤ × ℤ). (c, x.0.0.1)) (sym f.1)))

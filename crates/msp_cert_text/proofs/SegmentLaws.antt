@@ -1,13 +1,12 @@
 -- Lists of jobs: a list that begins, and a job that comes to the last one.
-use Rattle.std.proofs.Common.{◌≡◌, ℕ, ◌+◌, List, [], ◌∷◌, ◌++◌, length, Ok, refl, sym, ap, ◌∙◌, append_assoc, length-append, codes}
+use Rattle.std.proofs.Common.{◌≡◌, ℕ, ◌+◌, List, [], ◌∷◌, ◌++◌, length, None, Result, Ok, Err, refl, sym, ap, ◌∙◌, append_assoc, length-append, codes}
 use Rattle.msp_class.proofs.Lists.{flat_map_push}
 use Rattle.msp_grammar.specs.declared.lines.fault.FileFault.{FileFault}
+use Rattle.msp_grammar.specs.declared.lines.fault.FileFault.TheVariants.{Memory}
 use Rattle.msp_grammar.specs.lines.Answers.{Fails}
-use Rattle.msp_grammar.specs.lines.Reading.{Place, ReadsMore, more_read, end_read, more_then, more_end}
+use Rattle.msp_grammar.specs.lines.Reading.{◌>>=◌, Place, LineRead, more_read, end_read, goes_on, lines_from}
 use Rattle.msp_cert_text.specs.CertificateText.{job_line, job_lines, segment_lines}
-use Rattle.msp_cert_text.specs.Reading.{with_job, segments_step}
-use Rattle.msp_grammar.specs.lines.Steps.{FailsBy}
-use Rattle.msp_grammar.proofs.reading.Readings.{more_fails, fails_on}
+use Rattle.msp_cert_text.specs.Reading.{with_job, segments_step, segments_from}
 
 pub with_job_last : (done : List (List ℕ)) (last : List ℕ) (j : ℕ) → with_job (done ++ last ∷ []) j ≡ done ++ (last ++ j ∷ []) ∷ []
 with_job_last [] last j = refl
@@ -44,18 +43,24 @@ push_count names done more last j e =
 pub ruleset count_rules = (begin_count, push_count)
 
 -- the first line
+first_is : (names : List (List ℕ)) (p : Place) (line : Result (LineRead (List (List ℕ))) FileFault) → segments_step names [] p ≡ line
+    → segments_from names p ≡ (line >>= goes_on None (lines_from (segments_step names)))
+first_is names p line h = ap (λ s. s >>= goes_on None (lines_from (segments_step names))) h
+
 pub first_then : (names lists : List (List ℕ)) (p q r : Place) → segments_step names [] p ≡ Ok (more_read ([] ∷ []) q)
-    → ReadsMore (segments_step names) ([] ∷ []) q (Ok (lists, r)) → ReadsMore (segments_step names) [] p (Ok (lists, r))
-first_then names lists p q r step h = more_then [] ([] ∷ []) p q _ step h
+    → lines_from (segments_step names) ([] ∷ []) q ≡ Ok (lists, r) → segments_from names p ≡ Ok (lists, r)
+first_then names lists p q r step h = first_is names p _ step ∙ h
 
 pub first_breaks : (names : List (List ℕ)) (p q : Place) (e : FileFault) → segments_step names [] p ≡ Ok (more_read ([] ∷ []) q)
-    → FailsBy e (ReadsMore (segments_step names) ([] ∷ []) q) → FailsBy e (ReadsMore (segments_step names) [] p)
-first_breaks names p q e step h = fails_on e _ _ (λ r k. more_then [] ([] ∷ []) p q r step k) h
+    → Fails e (lines_from (segments_step names) ([] ∷ []) q) → Fails e (segments_from names p)
+first_breaks names p q Memory step h = tt
+first_breaks names p q e step h = first_is names p _ step ∙ h
 
-pub first_ends : (names : List (List ℕ)) (p q : Place) → segments_step names [] p ≡ Ok (end_read [] q) → ReadsMore (segments_step names) [] p (Ok ([], q))
-first_ends names p q step = more_end [] [] p q _ step refl
+pub first_ends : (names : List (List ℕ)) (p q : Place) → segments_step names [] p ≡ Ok (end_read [] q) → segments_from names p ≡ Ok ([], q)
+first_ends names p q step = first_is names p _ step
 
-pub first_fails : (names : List (List ℕ)) (p : Place) (e : FileFault) → Fails e (segments_step names [] p) → FailsBy e (ReadsMore (segments_step names) [] p)
-first_fails names p e h = more_fails (segments_step names) [] p e h
+pub first_fails : (names : List (List ℕ)) (p : Place) (e : FileFault) → Fails e (segments_step names [] p) → Fails e (segments_from names p)
+first_fails names p Memory h = tt
+first_fails names p e h = first_is names p _ h
 
 pub ruleset first_rules = (first_then, first_breaks, first_ends, first_fails)

@@ -17,21 +17,20 @@ use Rattle.msp_cert_text.specs.declared.kinds.Kind.{Kind}
 use Rattle.msp_cert_text.specs.declared.kinds.Kind.TheVariants as kind
 use Rattle.msp_cert_text.specs.declared.kinds.TheConstants.{GREATEST_BOUND, MOST_LINES}
 use Rattle.msp_cert_text.specs.CertificateText.{kind_of, kind_word, kind_lines, lines_text, certificate_text, printed_certificate, IsStatedBound, IsStatedProof, IsStatedCertificate, IsCertificateText}
-use Rattle.msp_cert_text.specs.Reading.{kind_in, kind_at, ReadsProof, IsCertifiedAs, ReadsEvidence, ReadsCertified, ReadsCertificate}
+use Rattle.msp_cert_text.specs.Reading.{kind_in, kind_at, proof_at, said_of, evidence_at, certified_at, certificate_at, ReadsCertificate}
 use Rattle.msp_cert_text.specs.Answers.{IsCertificateFaultOf, IsCertificateFault}
 use Rattle.msp_grammar.specs.lines.Answers.{Fails, Gives}
-use Rattle.msp_grammar.specs.lines.Reading.{Place, word_line_at, field_line_at, all_of}
+use Rattle.msp_grammar.specs.lines.Reading.{◌>>=◌, Place, word_line_at, field_line_at, all_of}
 use Rattle.msp_grammar.specs.lines.Costs.{cost_line_at}
-use Rattle.msp_grammar.specs.lines.Steps.{FailsBy, GivesBy, parts_of}
+use Rattle.msp_grammar.specs.lines.Steps.{parts_of}
 use Rattle.msp_grammar.proofs.reading.LineLaws.{bind_ok, provided_ok, reads, ok_is, bind_again, Takes, Gets, Takes-then, IsField, word_line_takes, word_line_again}
-use Rattle.msp_grammar.proofs.reading.LineLaws.{field_line_takes, field_line_again, end_text, GetsBy, spread}
+use Rattle.msp_grammar.proofs.reading.LineLaws.{field_line_takes, field_line_again, end_text, spread}
 use Rattle.msp_grammar.proofs.reading.FieldLaws.{ok_some}
-use Rattle.msp_grammar.proofs.reading.Readings.{then_ok, then_again}
-use Rattle.msp_grammar.proofs.reading.CostLaws.{IsCostWithin, with_place, cost_line_takes, cost_line_again, pair}
+use Rattle.msp_grammar.proofs.reading.CostLaws.{IsCostWithin, with_place, cost_line_takes, cost_line_again}
 use Rattle.msp_cert_text.proofs.CertificatePrinting.{printed}
 use Rattle.msp_cert_text.proofs.KindTexts.{proof_says, proof_again}
 use Rattle.msp_cert_text.proofs.LineFaults.{certificate_faults}
-use Rattle.msp_cert_text.proofs.Readings.{certificate_same}
+use Rattle.msp_cert_text.proofs.Readings.{Said, certificate_same}
 
 -- ---- the kind
 
@@ -60,21 +59,11 @@ kind_is w j e =
 
 kind_again : (k : Kind) → kind_in (kind_word k) ≡ Some k
 kind_again kind.Group = refl
-kind_again kind.Machine = refl
-kind_again kind.Line = refl
-kind_again kind.Levels = refl
-kind_again kind.Segments = refl
-kind_again kind.Block = refl
-kind_again kind.Prices = refl
+kind_again _ = refl
 
 kind_field : (k : Kind) → IsField (kind_word k)
 kind_field kind.Group = record { no_space = refl; no_line_feed = refl }
-kind_field kind.Machine = record { no_space = refl; no_line_feed = refl }
-kind_field kind.Line = record { no_space = refl; no_line_feed = refl }
-kind_field kind.Levels = record { no_space = refl; no_line_feed = refl }
-kind_field kind.Segments = record { no_space = refl; no_line_feed = refl }
-kind_field kind.Block = record { no_space = refl; no_line_feed = refl }
-kind_field kind.Prices = record { no_space = refl; no_line_feed = refl }
+kind_field _ = record { no_space = refl; no_line_feed = refl }
 
 kind_takes : (p : Place) (x : Kind × Place) → kind_at p ≡ Ok x → Takes p (line_text (codes "kind" ∷ kind_word x.0 ∷ [])) x.1
 unfolding kind_at
@@ -100,21 +89,6 @@ record SaysCertificate (names : List (List ℕ)) (machines : ℕ) (start : Place
   text : Takes start (certificate_text spelling names c.proof) q
   stated : IsStatedCertificate names machines c
 
--- What was read after the kind.
-record SaysEvidence (bound : ℤ × ℤ) (lines : Result (Proof × Place) FileFault) (x : Certificate × Place) : Type 0 where
-  line : Proof × Place
-  read : lines ≡ Ok line
-  proof : x.0.proof ≡ line.0
-  parts : parts_of x.0.bound ≡ bound
-  place : x.1 ≡ line.1
-
-pair_made : (a b c d : ℤ) → a ≡ c → b ≡ d → pair a b ≡ pair c d
-pair_made a b c d e f = rw (e, f) refl
-
-evidence_said : (bound : ℤ × ℤ) (lines : Result (Proof × Place) FileFault) (x : Certificate × Place) → IsCertifiedAs bound lines (Ok x) → SaysEvidence bound lines x
-evidence_said bound (Ok line) x h = record { line = line; read = refl; proof = h.0; parts = pair_made x.0.bound.num x.0.bound.den bound.0 bound.1 h.1 h.2; place = h.3 }
-evidence_said bound (Err e) x h = absurd h
-
 stated_bound : (x : Frac) → IsCostWithin GREATEST_BOUND x → IsStatedBound x
 stated_bound x h = record { num = h.num; den = h.den }
 
@@ -135,54 +109,57 @@ certificate_is : (spelling : List ℕ) (names : List (List ℕ)) (x : Proof)
 unfolding certificate_text title bound_line kind_line
 certificate_is spelling names x = refl
 
+abbrev said_at : (ℤ × ℤ) → Proof → Place → Said × Place
+said_at x p q = ((x, p), q)
+
 module _ (names : List (List ℕ)) (machines : ℕ) (named : length names < PLACES) (small : machines < PLACES) where
-  certified_takes : (start : Place) (x : Certificate × Place) → ReadsCertified names machines start (Ok x) → SaysCertificate names machines start x.0 x.1
-  unfolding ReadsCertified title bound_line kind_line
-  certified_takes start x h =
-      let t = then_ok (word_line_at (codes "certificate") start) _ x h in
-      let b = then_ok (cost_line_at (codes "bound") GREATEST_BOUND t.0) _ x t.2 in
-      let k = then_ok (kind_at b.0.1) _ x b.2 in
-      let r : ReadsEvidence names machines b.0.0 k.0.0 k.0.1 (Ok x) = k.2 in
-      let says = evidence_said b.0.0 r.lines x r.certified in
-      let reads_proof = subst (ReadsProof names machines k.0.0 k.0.1) says.read r.reads in
-      let a = proof_says names machines (omega (arith, named)) (omega (arith, small)) k.0.0 k.0.1 says.line reads_proof in
-      let bound = cost_line_takes GREATEST_BOUND (omega arith) (codes "bound") t.0 x.0.bound b.0.1 (b.1 ∙ ap (λ (y : ℤ × ℤ). reads (with_place y b.0.1)) (sym says.parts)) in
+  certified_takes : (start : Place) (c : Certificate) (q : Place) → certified_at names machines start ≡ Ok (said_at (parts_of c.bound) c.proof q) → SaysCertificate names machines start c q
+  unfolding certified_at evidence_at title bound_line kind_line
+  certified_takes start c q h =
+      let last = said_at (parts_of c.bound) c.proof q in
+      let t = bind_ok (word_line_at (codes "certificate") start) _ last h in
+      let b = bind_ok (cost_line_at (codes "bound") GREATEST_BOUND t.0) _ last t.2 in
+      let k = bind_ok (kind_at b.0.1) _ last b.2 in
+      let l = bind_ok (proof_at names machines k.0.0 k.0.1) _ last k.2 in
+      let both = ok_is (said_at b.0.0 l.0.0 l.0.1) last l.2 in
+      let a = proof_says names machines (omega (arith, named)) (omega (arith, small)) k.0.0 k.0.1 l.0 l.1 in
+      let bound = cost_line_takes GREATEST_BOUND (omega arith) (codes "bound") t.0 c.bound b.0.1 (b.1 ∙ ap (λ (y : Said × Place). reads (with_place y.0.0 b.0.1)) both) in
+      let proof = ap (λ (y : Said × Place). y.0.1) both in
       let two = Takes-then start t.0 b.0.1 title (bound_line bound.spelling) (word_line_takes (codes "certificate") start t.0 t.1) bound.text in
       let three = Takes-then start b.0.1 k.0.1 (title ++ bound_line bound.spelling) (kind_line k.0.0) two (kind_takes b.0.1 k.0 k.1) in
-      let four = Takes-then start k.0.1 says.line.1 (title ++ bound_line bound.spelling ++ kind_line k.0.0) (lines_text (kind_lines names says.line.0) ++ end_text) three a.text in
-      let five : Takes start (title ++ bound_line bound.spelling ++ kind_line k.0.0 ++ lines_text (kind_lines names says.line.0) ++ end_text) says.line.1 =
-      subst (λ (text : List ℕ). Takes start text says.line.1) (sym (append_assoc (title ++ bound_line bound.spelling ++ kind_line k.0.0) (lines_text (kind_lines names says.line.0)) end_text)) four in
-      let six : Takes start (title ++ bound_line bound.spelling ++ kind_line (kind_of says.line.0) ++ lines_text (kind_lines names says.line.0) ++ end_text) says.line.1 =
-      subst (λ (j : Kind). Takes start (title ++ bound_line bound.spelling ++ kind_line j ++ lines_text (kind_lines names says.line.0) ++ end_text) says.line.1) (sym a.is) five in
-      let whole : Takes start (certificate_text bound.spelling names says.line.0) says.line.1 =
-      subst (λ (text : List ℕ). Takes start text says.line.1) (sym (certificate_is bound.spelling names says.line.0)) six in
+      let four = Takes-then start k.0.1 l.0.1 (title ++ bound_line bound.spelling ++ kind_line k.0.0) (lines_text (kind_lines names l.0.0) ++ end_text) three a.text in
+      let five : Takes start (title ++ bound_line bound.spelling ++ kind_line k.0.0 ++ lines_text (kind_lines names l.0.0) ++ end_text) l.0.1 =
+      subst (λ (text : List ℕ). Takes start text l.0.1) (sym (append_assoc (title ++ bound_line bound.spelling ++ kind_line k.0.0) (lines_text (kind_lines names l.0.0)) end_text)) four in
+      let six : Takes start (title ++ bound_line bound.spelling ++ kind_line (kind_of l.0.0) ++ lines_text (kind_lines names l.0.0) ++ end_text) l.0.1 =
+      subst (λ (j : Kind). Takes start (title ++ bound_line bound.spelling ++ kind_line j ++ lines_text (kind_lines names l.0.0) ++ end_text) l.0.1) (sym a.is) five in
+      let whole : Takes start (certificate_text bound.spelling names l.0.0) l.0.1 =
+      subst (λ (text : List ℕ). Takes start text l.0.1) (sym (certificate_is bound.spelling names l.0.0)) six in
       record {
         spelling = bound.spelling;
         spells = bound.spells;
-        text = subst (λ (q : Place). Takes start (certificate_text bound.spelling names x.0.proof) q)
-            (sym says.place) (subst (λ (y : Proof). Takes start (certificate_text bound.spelling names y) says.line.1) (sym says.proof) whole);
+        text = subst (λ (p : Place). Takes start (certificate_text bound.spelling names c.proof) p)
+            (ap (λ (y : Said × Place). y.1) both) (subst (λ (y : Proof). Takes start (certificate_text bound.spelling names y) l.0.1) proof whole);
         stated = record {
-          bound = stated_bound x.0.bound bound.range;
-          few = subst (λ (y : Proof). length (kind_lines names y) ≤ MOST_LINES) (sym says.proof) a.few;
-          numbers = subst (IsStatedProof names machines) (sym says.proof) a.numbers;
+          bound = stated_bound c.bound bound.range;
+          few = subst (λ (y : Proof). length (kind_lines names y) ≤ MOST_LINES) proof a.few;
+          numbers = subst (IsStatedProof names machines) proof a.numbers;
         };
       }
 
   pub certificate_taken : (line : ℕ) (b : List ℕ) (c : Certificate) → ReadsCertificate names machines line b (Ok c) → IsCertificateText b names machines c
   certificate_taken line b c h =
       let start : Place = record { at = line; rest = b } in
-      let x = bind_ok h.lines all_of c (sym h.is) in
-      let g = provided_ok _ _ _ c x.2 in
-      let says = certified_takes start x.0 (subst (ReadsCertified names machines start) x.1 h.reads) in
+      let x = bind_ok (certified_at names machines start) all_of (said_of c) h in
+      let g = provided_ok _ _ _ (said_of c) x.2 in
+      let says = certified_takes start c x.0.1 (x.1 ∙ ap (λ (y : Said). reads (said_at y.0 y.1 x.0.1)) (ok_is x.0.0 (said_of c) g.1)) in
       let nothing : x.0.1.rest ≡ [] = nil_from_length x.0.1.rest (eqb-true _ _ g.0) in
-      let text = certificate_text says.spelling names x.0.0.proof in
-      let whole : b ≡ text = says.text ∙ ap (λ (r : List ℕ). text ++ r) nothing ∙ append-nil text in
-      subst (λ (y : Certificate). IsCertificateText b names machines y) (ok_is x.0.0 c g.1) (record { spelling = says.spelling; spells = says.spells; text = whole; stated = says.stated })
+      let text = certificate_text says.spelling names c.proof in
+      record { spelling = says.spelling; spells = says.spells; text = says.text ∙ ap (λ (r : List ℕ). text ++ r) nothing ∙ append-nil text; stated = says.stated }
 
   module _ (spelled : All IsJobName names) (apart : AreDistinct names) where
     certified_again : (at : ℕ) (spelling : List ℕ) (c : Certificate) (rest : List ℕ) → IsFractionText c.bound spelling → IsStatedCertificate names machines c
-        → GetsBy (ReadsCertified names machines (record { at = at; rest = certificate_text spelling names c.proof ++ rest })) c rest
-    unfolding ReadsCertified title bound_line kind_line
+        → Gets (certified_at names machines (record { at = at; rest = certificate_text spelling names c.proof ++ rest })) (said_of c) rest
+    unfolding certified_at evidence_at title bound_line kind_line
     certified_again at spelling c rest spells h =
         let inner = lines_text (kind_lines names c.proof) in
         let lines = (inner ++ end_text) ++ rest in
@@ -197,20 +174,17 @@ module _ (names : List (List ℕ)) (machines : ℕ) (named : length names < PLAC
         let kind_read = kind_line_again (kind_of c.proof) b.0 lines in
         let p = proof_again names machines (omega (arith, named)) (omega (arith, small)) apart spelled c.proof kind_read.0 rest h.numbers h.few in (
           p.0,
-          then_again _ _ _ _ (ap (λ (b : List ℕ). word_line_at (codes "certificate") (record { at = at; rest = b })) text ∙ t.1) (
-              then_again _ _ _ _ b.1 (
-              then_again _ _ _ _ kind_read.1 (record { lines = Ok (c.proof, record { at = p.0; rest = rest }); reads = p.1; certified = (refl, refl, refl, refl) }))),
+          bind_again _ _ _ _ (ap (λ (b : List ℕ). word_line_at (codes "certificate") (record { at = at; rest = b })) text ∙ t.1) (
+              bind_again _ _ _ _ b.1 (
+              bind_again _ _ _ _ kind_read.1 (
+              bind_again _ _ _ _ p.1 refl))),
         )
 
     pub certificate_again : (line : ℕ) (b : List ℕ) (c : Certificate) → IsCertificateText b names machines c → ReadsCertificate names machines line b (Ok c)
     certificate_again line b c h =
         let g = certified_again line h.spelling c [] h.spells h.stated in
-        let text : certificate_text h.spelling names c.proof ++ [] ≡ b = append-nil (certificate_text h.spelling names c.proof) ∙ sym h.text in
-        record {
-          lines = Ok (c, record { at = g.0; rest = [] });
-          reads = subst (λ (t : List ℕ). ReadsCertified names machines (record { at = line; rest = t }) (Ok (c, record { at = g.0; rest = [] }))) text g.1;
-          is = refl;
-        }
+        let text : b ≡ certificate_text h.spelling names c.proof ++ [] = h.text ∙ sym (append-nil (certificate_text h.spelling names c.proof)) in
+        ap (λ (t : List ℕ). certified_at names machines (record { at = line; rest = t }) >>= all_of) text ∙ bind_again _ all_of _ _ g.1 refl
 
     pub printed_again : (line : ℕ) (c : Certificate) → IsStatedCertificate names machines c → ReadsCertificate names machines line (printed_certificate names c) (Ok c)
     printed_again line c h = certificate_again line (printed_certificate names c) c (printed names machines c (printed_certificate names c) h refl)
@@ -221,29 +195,24 @@ module _ (names : List (List ℕ)) (machines : ℕ) (named : length names < PLAC
     no_certificate_fault line b Memory k c h = tt
     no_certificate_fault line b e k c h = certificate_same names machines line b (reads c) (Err e) (certificate_again line b c h) k
 
-    pub certificate_is_read : (line : ℕ) (b : List ℕ) (f : Certificate) → ReadsCertificate names machines line b (Ok f) → (c : Certificate) → IsCertificateText b names machines c → reads c ≡ reads f
-    certificate_is_read line b f k c h = certificate_same names machines line b (reads c) (Ok f) (certificate_again line b c h) k
-
-pub certificate_fault_of : (names : List (List ℕ)) (machines line : ℕ) (b : List ℕ) (e : FileFault) → FailsBy e (ReadsCertificate names machines line b) → IsCertificateFaultOf names machines line b e
+pub certificate_fault_of : (names : List (List ℕ)) (machines line : ℕ) (b : List ℕ) (e : FileFault) → Fails e (certificate_at names machines line b) → IsCertificateFaultOf names machines line b e
 certificate_fault_of names machines line b Memory h = tt
 certificate_fault_of names machines line b e h = h
-
-pub certificate_fault_is : (names : List (List ℕ)) (machines line : ℕ) (b : List ℕ) (e : FileFault) → IsCertificateFaultOf names machines line b e → IsCertificateFault e
-certificate_fault_is names machines line b Memory h = tt
-certificate_fault_is names machines line b e h = certificate_faults names machines line b e h
 
 -- what is answered to the text of a certificate
 pub certificate_answered : (names : List (List ℕ)) (machines : ℕ)
     → length names < PLACES → machines < PLACES → All IsJobName names → AreDistinct names → (line : ℕ) (b : List ℕ) (r : Result Certificate FileFault)
-    → GivesBy r (ReadsCertificate names machines line b) → (c : Certificate) → IsCertificateText b names machines c → Gives (λ f. f) r (reads c)
-certificate_answered names machines named small spelled apart line b (Ok f) k c h = certificate_is_read names machines named small spelled apart line b f k c h
+    → Gives said_of r (certificate_at names machines line b) → (c : Certificate) → IsCertificateText b names machines c → Gives (λ f. f) r (reads c)
+certificate_answered names machines named small spelled apart line b (Ok f) k c h =
+    certificate_same names machines line b (reads c) (Ok f) (certificate_again names machines named small spelled apart line b c h) k
 certificate_answered names machines named small spelled apart line b (Err e) k c h =
     no_certificate_fault names machines named small spelled apart line b e (certificate_fault_of names machines line b e k) c h
 
 -- the faults that are answered
 pub certificate_faults_answered : (names : List (List ℕ)) (machines line : ℕ) (b : List ℕ) (r : Result Certificate FileFault)
-    → GivesBy r (ReadsCertificate names machines line b) → IfErr r (λ e. IsCertificateFault e)
+    → Gives said_of r (certificate_at names machines line b) → IfErr r (λ e. IsCertificateFault e)
 certificate_faults_answered names machines line b (Ok f) k = tt
-certificate_faults_answered names machines line b (Err e) k = certificate_fault_is names machines line b e (certificate_fault_of names machines line b e k)
+certificate_faults_answered names machines line b (Err Memory) k = tt
+certificate_faults_answered names machines line b (Err e) k = certificate_faults names machines line b e k
 
 pub ruleset certificate_rules = (certificate_fault_of, certificate_taken)

@@ -13,7 +13,9 @@ use Rattle.msp_cert.specs.declared.limits.TheConstants.{GREATEST_HEAD, GREATEST_
 use Rattle.msp_cert_text.specs.declared.kinds.TheConstants.{GREATEST_BOUND, GREATEST_LEVEL, MOST_LINES}
 use Rattle.msp_cert_text.specs.CertificateText.{kind_word, segment_lines, column_lines}
 use Rattle.msp_grammar.specs.lines.Reading.{◌>>=◌, provided, Place, line_at, fields_of, first_of, others_of, worded_at, word_line_at, field_line_at, natural_at, integer_at}
-use Rattle.msp_grammar.specs.lines.Reading.{job_name_at, known_at, ordinal_at, machine_at, LineRead, more_read, end_at, ReadsMore, Then, ReadsBy, all_of}
+use Rattle.msp_grammar.specs.lines.Reading.{job_name_at, known_at, ordinal_at, machine_at, LineRead, more_read, end_at, goes_on, lines_from, all_of}
+use Rattle.msp_grammar.specs.lines.Answers.{seen}
+use Rattle.msp_grammar.specs.lines.Steps.{parts_of}
 use Rattle.msp_grammar.specs.lines.Costs.{cost_line_at}
 
 -- ---- the first lines
@@ -172,72 +174,88 @@ columns_step jobs machines before prices place = do
   line ← line_at place
   columns_by jobs machines before prices place.at (fields_of line.0) line.1
 
+-- The lines of lists: the first of them begins one.
+abbrev pub segments_from : List (List ℕ) → Place → Result (List (List ℕ) × Place) FileFault
+segments_from names place = segments_step names [] place >>= goes_on None (lines_from (segments_step names))
+
 -- ---- the lines after the kind
 
-abbrev pub ReadsGroup : List (List ℕ) → Place → Result (Proof × Place) FileFault → Type 0
-ReadsGroup names place read = ReadsBy (λ x. Ok (proof.Group x.0, x.1)) (ReadsMore (jobs_step names 0) [] place) read
+unfoldable pub group_proof : List (List ℕ) → Place → Result (Proof × Place) FileFault
+group_proof names place = do
+  jobs ← lines_from (jobs_step names 0) [] place
+  Ok (proof.Group jobs.0, jobs.1)
 
-abbrev pub ReadsMachine : ℕ → Place → Result (Proof × Place) FileFault → Type 0
-ReadsMachine machines place read =
-    Then (machine_line_at machines place) (λ machine.
-    Then (word_line_at (codes "end") machine.1) (λ place read. read ≡ Ok (proof.Machine machine.0, place))) read
+unfoldable pub machine_proof : ℕ → Place → Result (Proof × Place) FileFault
+machine_proof machines place = do
+  machine ← machine_line_at machines place
+  place ← word_line_at (codes "end") machine.1
+  Ok (proof.Machine machine.0, place)
 
-abbrev pub ReadsLine : List (List ℕ) → Place → Result (Proof × Place) FileFault → Type 0
-ReadsLine names place read =
-    Then (job_line_of names place) (λ job.
-    Then (word_line_at (codes "end") job.1) (λ place read. read ≡ Ok (proof.Line job.0, place))) read
+unfoldable pub line_proof : List (List ℕ) → Place → Result (Proof × Place) FileFault
+line_proof names place = do
+  job ← job_line_of names place
+  place ← word_line_at (codes "end") job.1
+  Ok (proof.Line job.0, place)
 
-abbrev pub ReadsLevels : List (List ℕ) → Place → Result (Proof × Place) FileFault → Type 0
-ReadsLevels names place read =
-    Then (tail_at place) (λ tail.
-    Then (numbers_at level_at (codes "level") 1 [] names tail.1) (λ level.
-    Then (word_line_at (codes "end") level.1) (λ place read. read ≡ Ok (proof.Levels level.0 tail.0, place)))) read
+unfoldable pub levels_proof : List (List ℕ) → Place → Result (Proof × Place) FileFault
+levels_proof names place = do
+  tail ← tail_at place
+  level ← numbers_at level_at (codes "level") 1 [] names tail.1
+  place ← word_line_at (codes "end") level.1
+  Ok (proof.Levels level.0 tail.0, place)
 
-abbrev pub ReadsSegments : List (List ℕ) → Place → Result (Proof × Place) FileFault → Type 0
-ReadsSegments names place read = ReadsBy (λ x. Ok (proof.Segments x.0, x.1)) (ReadsMore (segments_step names) [] place) read
+unfoldable pub segments_proof : List (List ℕ) → Place → Result (Proof × Place) FileFault
+segments_proof names place = do
+  lists ← segments_from names place
+  Ok (proof.Segments lists.0, lists.1)
 
-abbrev pub ReadsBlock : List (List ℕ) → Place → Result (Proof × Place) FileFault → Type 0
-ReadsBlock names place read =
-    Then (numbers_at head_at (codes "head") 0 [] names place) (λ head.
-    ReadsBy (λ x. Ok (proof.Block head.0 x.0, x.1)) (ReadsMore (jobs_step names (length head.0)) [] head.1)) read
+unfoldable pub block_proof : List (List ℕ) → Place → Result (Proof × Place) FileFault
+block_proof names place = do
+  head ← numbers_at head_at (codes "head") 0 [] names place
+  jobs ← lines_from (jobs_step names (length head.0)) [] head.1
+  Ok (proof.Block head.0 jobs.0, jobs.1)
 
-abbrev pub ReadsPrices : List (List ℕ) → ℕ → Place → Result (Proof × Place) FileFault → Type 0
-ReadsPrices names machines place read =
-    Then (numbers_at price_at (codes "row") 0 [] names place) (λ row.
-    ReadsBy (λ x. Ok (proof.Prices row.0 (filled (machines * length names) x.0), x.1)) (ReadsMore (columns_step (length names) machines (length row.0)) [] row.1)) read
+unfoldable pub prices_proof : List (List ℕ) → ℕ → Place → Result (Proof × Place) FileFault
+prices_proof names machines place = do
+  row ← numbers_at price_at (codes "row") 0 [] names place
+  column ← lines_from (columns_step (length names) machines (length row.0)) [] row.1
+  Ok (proof.Prices row.0 (filled (machines * length names) column.0), column.1)
 
--- The lines after the one with the kind are read so: as those of a proof of this kind and the last one, or up to the first fault.
-abbrev pub ReadsProof : List (List ℕ) → ℕ → Kind → Place → Result (Proof × Place) FileFault → Type 0
-ReadsProof names machines kind.Group place read = ReadsGroup names place read
-ReadsProof names machines kind.Machine place read = ReadsMachine machines place read
-ReadsProof names machines kind.Line place read = ReadsLine names place read
-ReadsProof names machines kind.Levels place read = ReadsLevels names place read
-ReadsProof names machines kind.Segments place read = ReadsSegments names place read
-ReadsProof names machines kind.Block place read = ReadsBlock names place read
-ReadsProof names machines kind.Prices place read = ReadsPrices names machines place read
+-- The lines after the one with the kind: those of a proof of this kind and the last one, or up to the first fault.
+abbrev pub proof_at : List (List ℕ) → ℕ → Kind → Place → Result (Proof × Place) FileFault
+proof_at names machines kind.Group place = group_proof names place
+proof_at names machines kind.Machine place = machine_proof machines place
+proof_at names machines kind.Line place = line_proof names place
+proof_at names machines kind.Levels place = levels_proof names place
+proof_at names machines kind.Segments place = segments_proof names place
+proof_at names machines kind.Block place = block_proof names place
+proof_at names machines kind.Prices place = prices_proof names machines place
 
 -- ---- the whole
 
--- What is read is the certificate of this bound and this proof, or the fault of its lines.
-abbrev pub IsCertifiedAs : ℤ × ℤ → Result (Proof × Place) FileFault → Result (Certificate × Place) FileFault → Type 0
-IsCertifiedAs bound (Ok line) (Ok read) = (read.0.proof ≡ line.0) × (read.0.bound.num ≡ bound.0) × (read.0.bound.den ≡ bound.1) × (read.1 ≡ line.1)
-IsCertifiedAs bound (Err fault) (Err read) = read ≡ fault
-IsCertifiedAs bound _ _ = ⊥
+-- What a certificate says: the numbers of its bound, and its proof.
+abbrev pub said_of : Certificate → (ℤ × ℤ) × Proof
+said_of c = (parts_of c.bound, c.proof)
 
--- The lines after the kind, which show this bound.
-pub record ReadsEvidence (names : List (List ℕ)) (machines : ℕ) (bound : ℤ × ℤ) (k : Kind) (place : Place) (read : Result (Certificate × Place) FileFault) : Type 0 where
-  pub lines : Result (Proof × Place) FileFault
-  pub reads : ReadsProof names machines k place lines
-  pub certified : IsCertifiedAs bound lines read
+-- The lines after that of the bound.
+unfoldable pub evidence_at : List (List ℕ) → ℕ → ℤ × ℤ → Place → Result (((ℤ × ℤ) × Proof) × Place) FileFault
+evidence_at names machines bound place = do
+  kind ← kind_at place
+  proof ← proof_at names machines kind.0 kind.1
+  Ok ((bound, proof.0), proof.1)
 
--- The lines from a place on are read so: as those of one certificate, up to the place after them, or up to the first fault.
-unfoldable pub ReadsCertified : List (List ℕ) → ℕ → Place → Result (Certificate × Place) FileFault → Type 0
-ReadsCertified names machines place read =
-    Then (word_line_at (codes "certificate") place) (λ place.
-    Then (cost_line_at (codes "bound") GREATEST_BOUND place) (λ bound.
-    Then (kind_at bound.1) (λ k. ReadsEvidence names machines bound.0 k.0 k.1))) read
+-- The lines from a place on: those of one certificate, up to the place after them, or up to the first fault.
+unfoldable pub certified_at : List (List ℕ) → ℕ → Place → Result (((ℤ × ℤ) × Proof) × Place) FileFault
+certified_at names machines place = do
+  place ← word_line_at (codes "certificate") place
+  bound ← cost_line_at (codes "bound") GREATEST_BOUND place
+  evidence_at names machines bound.0 bound.1
 
--- The lines of a text, the first of which has this number, are read so: as those of one certificate for an instance with these names of
--- jobs and so many machines and no more, or up to the first fault.
+-- The lines of a text, the first of which has this number: those of one certificate for an instance with these names of jobs and so
+-- many machines and no more, or up to the first fault.
+abbrev pub certificate_at : List (List ℕ) → ℕ → ℕ → List ℕ → Result ((ℤ × ℤ) × Proof) FileFault
+certificate_at names machines line bytes = certified_at names machines (record { at = line; rest = bytes }) >>= all_of
+
+-- They are read so.
 abbrev pub ReadsCertificate : List (List ℕ) → ℕ → ℕ → List ℕ → Result Certificate FileFault → Type 0
-ReadsCertificate names machines line bytes read = ReadsBy all_of (ReadsCertified names machines (record { at = line; rest = bytes })) read
+ReadsCertificate names machines line bytes read = certificate_at names machines line bytes ≡ seen said_of read

@@ -2,10 +2,10 @@
 ghost use Rattle.std.specs.Prelude.{◌≡◌, ◌+◌, ◌-◌, ◌*◌, ◌<◌, ◌≤◌, ◌^◌, [], ◌++◌, ◌∷◌, length, IsTrue, OnOk, IfOk};
 ghost use Rattle.msp_cert_text.specs.declared.kinds.TheConstants.{MOST_LINES};
 ghost use Rattle.msp_grammar.specs.lines.Answers.{Gives};
-ghost use Rattle.msp_grammar.specs.lines.Reading.{first_of, others_of, ReadsMore};
+ghost use Rattle.msp_grammar.specs.lines.Reading.{first_of, others_of, lines_from};
 ghost use Rattle.msp_cert_text.specs.CertificateText.{column_lines};
 ghost use Rattle.msp_cert_text.specs.Reading.{filled, position_at, column_price_at, column_added, columns_step};
-ghost use Rattle.msp_grammar.specs.lines.Steps.{MovesBy, AfterLine, place_of, fields_after};
+ghost use Rattle.msp_grammar.specs.lines.Steps.{Moves, AfterLine, place_of, fields_after};
 
 use crate::segments::has_room;
 use msp_cert::GREATEST_PRICE;
@@ -151,7 +151,7 @@ pub(crate) fn columns_at(
     before: usize,
     lines: &mut Lines<'_>,
 ) -> Result<List<i128>, FileFault>
-    ensures { MovesBy (λ x. x) result (place_of lines.new) (ReadsMore (columns_step counts.jobs counts.machines before) [] (place_of lines.old)) }
+    ensures { Moves (λ x. x) result (place_of lines.new) (lines_from (columns_step counts.jobs counts.machines before) [] (place_of lines.old)) }
 {
     let mut prices = List::new(alloc);
     let mut used: usize = 0;

@@ -1,8 +1,8 @@
 // The lines of a certificate after the one with its kind.
 ghost use Rattle.std.specs.Prelude.{◌<◌, length};
 ghost use Rattle.msp_class.specs.declared.list.TheConstants.{PLACES};
-ghost use Rattle.msp_cert_text.specs.Reading.{machine_line_at, job_line_of, tail_at, ReadsGroup, ReadsMachine, ReadsLine, ReadsLevels, ReadsSegments, ReadsBlock, ReadsPrices, ReadsProof};
-ghost use Rattle.msp_grammar.specs.lines.Steps.{Moves, MovesBy, place_of};
+ghost use Rattle.msp_cert_text.specs.Reading.{machine_line_at, job_line_of, tail_at, group_proof, machine_proof, line_proof, levels_proof, segments_proof, block_proof, prices_proof, proof_at};
+ghost use Rattle.msp_grammar.specs.lines.Steps.{Moves, place_of};
 
 use crate::columns::{Counts, columns_at, fill, product};
 use crate::kinds::{GREATEST_LEVEL, Kind};
@@ -45,19 +45,19 @@ fn tail_at(lines: &mut Lines<'_>) -> Result<u32, FileFault>
 }
 
 /// Some jobs.
-#[tactic(auto, using(crate::proofs::EvidenceReading::kind_rules))]
+#[tactic(auto, unfolding(crate::specs::Reading::group_proof))]
 fn group_at(alloc: Global, names: &Names, lines: &mut Lines<'_>) -> Result<Proof, FileFault>
     requires { length names.now < PLACES }
-    ensures { MovesBy (λ p. p) result (place_of lines.new) (ReadsGroup names.now (place_of lines.old)) }
+    ensures { Moves (λ p. p) result (place_of lines.new) (group_proof names.now (place_of lines.old)) }
 {
     let jobs = jobs_at(alloc, names, 0, lines)?;
     Ok(Proof::Group { jobs })
 }
 
 /// A machine.
-#[tactic(auto, using(msp_grammar::proofs::reading::Readings::then_rules))]
+#[tactic(auto, unfolding(crate::specs::Reading::machine_proof))]
 fn machine_at(machines: u32, lines: &mut Lines<'_>) -> Result<Proof, FileFault>
-    ensures { MovesBy (λ p. p) result (place_of lines.new) (ReadsMachine machines (place_of lines.old)) }
+    ensures { Moves (λ p. p) result (place_of lines.new) (machine_proof machines (place_of lines.old)) }
 {
     let machine = machine_line_at(machines, lines)?;
     word_line_at(lines, b"end")?;
@@ -65,10 +65,10 @@ fn machine_at(machines: u32, lines: &mut Lines<'_>) -> Result<Proof, FileFault>
 }
 
 /// A job.
-#[tactic(auto, using(msp_grammar::proofs::reading::Readings::then_rules))]
+#[tactic(auto, unfolding(crate::specs::Reading::line_proof))]
 fn one_job_at(names: &Names, lines: &mut Lines<'_>) -> Result<Proof, FileFault>
     requires { length names.now < PLACES }
-    ensures { MovesBy (λ p. p) result (place_of lines.new) (ReadsLine names.now (place_of lines.old)) }
+    ensures { Moves (λ p. p) result (place_of lines.new) (line_proof names.now (place_of lines.old)) }
 {
     let job = job_line_of(names, lines)?;
     word_line_at(lines, b"end")?;
@@ -76,9 +76,9 @@ fn one_job_at(names: &Names, lines: &mut Lines<'_>) -> Result<Proof, FileFault>
 }
 
 /// A level for each job.
-#[tactic(auto, using(msp_grammar::proofs::reading::Readings::then_rules))]
+#[tactic(auto, unfolding(crate::specs::Reading::levels_proof))]
 fn steps_at(alloc: Global, names: &Names, lines: &mut Lines<'_>) -> Result<Proof, FileFault>
-    ensures { MovesBy (λ p. p) result (place_of lines.new) (ReadsLevels names.now (place_of lines.old)) }
+    ensures { Moves (λ p. p) result (place_of lines.new) (levels_proof names.now (place_of lines.old)) }
 {
     let tail = tail_at(lines)?;
     let level = levels_at(alloc, names, lines)?;
@@ -87,20 +87,20 @@ fn steps_at(alloc: Global, names: &Names, lines: &mut Lines<'_>) -> Result<Proof
 }
 
 /// Lists of jobs.
-#[tactic(auto, using(crate::proofs::EvidenceReading::kind_rules))]
+#[tactic(auto, unfolding(crate::specs::Reading::segments_proof))]
 fn lists_at(alloc: Global, names: &Names, lines: &mut Lines<'_>) -> Result<Proof, FileFault>
     requires { length names.now < PLACES }
-    ensures { MovesBy (λ p. p) result (place_of lines.new) (ReadsSegments names.now (place_of lines.old)) }
+    ensures { Moves (λ p. p) result (place_of lines.new) (segments_proof names.now (place_of lines.old)) }
 {
     let lists = segments_at(alloc, names, lines)?;
     Ok(Proof::Segments { lists })
 }
 
 /// A head for each job, and some jobs.
-#[tactic(auto, using(msp_grammar::proofs::reading::Readings::then_rules, crate::proofs::EvidenceReading::kind_rules))]
+#[tactic(auto, unfolding(crate::specs::Reading::block_proof))]
 fn block_at(alloc: Global, names: &Names, lines: &mut Lines<'_>) -> Result<Proof, FileFault>
     requires { length names.now < PLACES }
-    ensures { MovesBy (λ p. p) result (place_of lines.new) (ReadsBlock names.now (place_of lines.old)) }
+    ensures { Moves (λ p. p) result (place_of lines.new) (block_proof names.now (place_of lines.old)) }
 {
     let head = heads_at(alloc, names, lines)?;
     let jobs = jobs_at(alloc, names, head.len(), lines)?;
@@ -108,7 +108,7 @@ fn block_at(alloc: Global, names: &Names, lines: &mut Lines<'_>) -> Result<Proof
 }
 
 /// A price for each job, and for each position on each machine.
-#[tactic(auto, using(msp_grammar::proofs::reading::Readings::then_rules, crate::proofs::EvidenceReading::kind_rules))]
+#[tactic(auto, unfolding(crate::specs::Reading::prices_proof))]
 fn prices_at(
     alloc: Global,
     names: &Names,
@@ -116,7 +116,7 @@ fn prices_at(
     lines: &mut Lines<'_>,
 ) -> Result<Proof, FileFault>
     requires { length names.now < PLACES }
-    ensures { MovesBy (λ p. p) result (place_of lines.new) (ReadsPrices names.now machines (place_of lines.old)) }
+    ensures { Moves (λ p. p) result (place_of lines.new) (prices_proof names.now machines (place_of lines.old)) }
 {
     let row = rows_at(alloc, names, lines)?;
     let counts = Counts {
@@ -137,7 +137,7 @@ pub(crate) fn proof_at(
     lines: &mut Lines<'_>,
 ) -> Result<Proof, FileFault>
     requires { length names.now < PLACES }
-    ensures { MovesBy (λ p. p) result (place_of lines.new) (ReadsProof names.now machines kind (place_of lines.old)) }
+    ensures { Moves (λ p. p) result (place_of lines.new) (proof_at names.now machines kind (place_of lines.old)) }
 {
     match kind {
         Kind::Group => group_at(alloc, names, lines),

@@ -4,12 +4,11 @@ ghost use Rattle.msp_class.specs.declared.list.TheConstants.{PLACES};
 ghost use Rattle.msp_cert.specs.declared.Certificate.{Certificate as CertificateValue};
 ghost use Rattle.msp_grammar.specs.declared.lines.limits.TheConstants.{MOST_BYTES, LAST_LINE};
 ghost use Rattle.msp_grammar.specs.lines.Answers.{Gives};
-ghost use Rattle.msp_grammar.specs.lines.Reading.{Then};
 ghost use Rattle.msp_cert_text.specs.CertificateText.{IsCertificateText};
-ghost use Rattle.msp_cert_text.specs.Reading.{kind_in, kind_at, ReadsEvidence, ReadsCertified, ReadsCertificate};
+ghost use Rattle.msp_cert_text.specs.Reading.{kind_in, kind_at, said_of, evidence_at, certified_at, certificate_at};
 ghost use Rattle.msp_cert_text.specs.Steps.{later_kind_in};
 ghost use Rattle.msp_cert_text.specs.Answers.{IsCertificateFaultOf, IsCertificateFault, CertificatesReadAgain};
-ghost use Rattle.msp_grammar.specs.lines.Steps.{GivesBy, Moves, MovesBy, parts_of, place_of};
+ghost use Rattle.msp_grammar.specs.lines.Steps.{Moves, parts_of, place_of};
 
 use crate::evidence::proof_at;
 use crate::kinds::{GREATEST_BOUND, Kind};
@@ -70,7 +69,7 @@ fn kind_at(lines: &mut Lines<'_>) -> Result<Kind, FileFault>
 }
 
 /// Reads the lines after that of the bound.
-#[tactic(auto, using(msp_grammar::proofs::reading::Readings::then_rules, crate::proofs::EvidenceReading::evidence_rules))]
+#[tactic(auto, unfolding(crate::specs::Reading::evidence_at))]
 fn evidence_at(
     alloc: Global,
     names: &Names,
@@ -79,7 +78,7 @@ fn evidence_at(
     lines: &mut Lines<'_>,
 ) -> Result<Certificate, FileFault>
     requires { length names.now < PLACES }
-    ensures { MovesBy (λ c. c) result (place_of lines.new) (Then (kind_at (place_of lines.old)) (λ k. ReadsEvidence names.now machines (parts_of bound) k.0 k.1)) }
+    ensures { Moves said_of result (place_of lines.new) (evidence_at names.now machines (parts_of bound) (place_of lines.old)) }
 {
     let kind = kind_at(lines)?;
     let proof = proof_at(alloc, names, machines, kind, lines)?;
@@ -87,7 +86,7 @@ fn evidence_at(
 }
 
 /// Reads the lines of one certificate.
-#[tactic(auto, unfolding(crate::specs::Reading::ReadsCertified), using(msp_grammar::proofs::reading::Readings::then_rules))]
+#[tactic(auto, unfolding(crate::specs::Reading::certified_at))]
 fn certified_at(
     alloc: Global,
     names: &Names,
@@ -95,7 +94,7 @@ fn certified_at(
     lines: &mut Lines<'_>,
 ) -> Result<Certificate, FileFault>
     requires { length names.now < PLACES }
-    ensures { MovesBy (λ c. c) result (place_of lines.new) (ReadsCertified names.now machines (place_of lines.old)) }
+    ensures { Moves said_of result (place_of lines.new) (certified_at names.now machines (place_of lines.old)) }
 {
     word_line_at(lines, b"certificate")?;
     let bound = cost_line_at(lines, b"bound", GREATEST_BOUND)?;
@@ -103,7 +102,6 @@ fn certified_at(
 }
 
 /// Reads the lines of a text, which are those of one certificate and no more.
-#[tactic(auto, using(msp_grammar::proofs::reading::Readings::whole_rules))]
 fn certificate_at(
     alloc: Global,
     names: &Names,
@@ -114,7 +112,7 @@ fn certificate_at(
     requires names { length names.now < PLACES }
     requires bytes { length bytes.now ≤ MOST_BYTES }
     requires line { line ≤ LAST_LINE }
-    ensures { GivesBy result (ReadsCertificate names.now machines line bytes.now) }
+    ensures { Gives said_of result (certificate_at names.now machines line bytes.now) }
 {
     let mut lines = Lines {
         at: line,

@@ -3,11 +3,11 @@ ghost use Rattle.std.specs.Prelude.{◌≡◌, ◌+◌, ◌<◌, ◌++◌, ◌�
 ghost use Rattle.msp_class.specs.declared.list.TheConstants.{PLACES};
 ghost use Rattle.msp_cert_text.specs.declared.kinds.TheConstants.{MOST_LINES};
 ghost use Rattle.msp_grammar.specs.lines.Answers.{Fails, Gives};
-ghost use Rattle.msp_grammar.specs.lines.Reading.{ReadsMore, more_read, end_read};
+ghost use Rattle.msp_grammar.specs.lines.Reading.{more_read, end_read, lines_from};
 ghost use Rattle.msp_cert_text.specs.CertificateText.{segment_lines};
-ghost use Rattle.msp_cert_text.specs.Reading.{job_in, jobs_step, with_job, is_segment_word, segment_added, segments_step};
+ghost use Rattle.msp_cert_text.specs.Reading.{job_in, jobs_step, with_job, is_segment_word, segment_added, segments_step, segments_from};
 ghost use Rattle.msp_cert_text.specs.Steps.{lists_of};
-ghost use Rattle.msp_grammar.specs.lines.Steps.{MovesBy, AfterLine, place_of, fields_after};
+ghost use Rattle.msp_grammar.specs.lines.Steps.{Moves, AfterLine, place_of, fields_after};
 
 use crate::kinds::MOST_LINES;
 use msp_class::{List, NoMemory};
@@ -75,7 +75,7 @@ pub(crate) fn jobs_at(
     lines: &mut Lines<'_>,
 ) -> Result<List<u32>, FileFault>
     requires { length names.now < PLACES }
-    ensures { MovesBy (λ x. x) result (place_of lines.new) (ReadsMore (jobs_step names.now before) [] (place_of lines.old)) }
+    ensures { Moves (λ x. x) result (place_of lines.new) (lines_from (jobs_step names.now before) [] (place_of lines.old)) }
 {
     let mut jobs = List::new(alloc);
     'lines: while jobs_step(names, before, &mut jobs, lines)? {}
@@ -170,7 +170,7 @@ fn segments_step(
 /// Reads the lines after the first list began, up to the last one.
 fn lists_at(alloc: Global, names: &Names, lines: &mut Lines<'_>) -> Result<Segments, FileFault>
     requires { length names.now < PLACES }
-    ensures { MovesBy lists_of result (place_of lines.new) (ReadsMore (segments_step names.now) ([] ∷ []) (place_of lines.old)) }
+    ensures { Moves lists_of result (place_of lines.new) (lines_from (segments_step names.now) ([] ∷ []) (place_of lines.old)) }
 {
     let mut lists = Segments {
         done: List::new(alloc),
@@ -219,7 +219,7 @@ pub(crate) fn segments_at(
     lines: &mut Lines<'_>,
 ) -> Result<List<List<u32>>, FileFault>
     requires { length names.now < PLACES }
-    ensures { MovesBy (λ x. x) result (place_of lines.new) (ReadsMore (segments_step names.now) [] (place_of lines.old)) }
+    ensures { Moves (λ x. x) result (place_of lines.new) (segments_from names.now (place_of lines.old)) }
 {
     if !first_list(lines)? {
         return Ok(List::new(alloc));

@@ -14,15 +14,15 @@ use Rattle.msp_grammar.specs.declared.lines.fault.FileFault.TheVariants.{Class, 
 use Rattle.msp_file.specs.declared.instance.read.Front.{Front}
 use Rattle.msp_grammar.specs.declared.filed.Stated.{Stated}
 use Rattle.msp_grammar.specs.lines.Reading.{Place}
-use Rattle.msp_file.specs.instance.Reading.{Reads, ReadsFront, ReadsLines, start_of}
-use Rattle.msp_grammar.specs.lines.Steps.{FailsBy}
+use Rattle.msp_file.specs.instance.Reading.{filed_at, Reads, ReadsFront, lines_at, start_of}
+use Rattle.msp_grammar.specs.lines.Answers.{Fails}
 use Rattle.msp_file.specs.schedule.Reading.{ReadsSchedule}
 use Rattle.msp_file.specs.instance.Answers.{faulty_name, IsClassFault, IsCycleFault, IsFaultBy}
 use Rattle.msp_file.specs.schedule.Answers.{IsScheduleFaultOf}
 use Rattle.msp_file.specs.Laws.{IsTextOf, IsFirstFaultOf, IsFrontOf, IsFirstFrontFaultOf, IsStatedTextOf, IsFirstScheduleFaultOf, LawOfInstanceTexts, LawOfFrontTexts, LawOfScheduleTexts}
 use Rattle.msp_grammar.proofs.reading.LineLaws.{reads, ok_is}
 use Rattle.msp_file.proofs.instances.Readings.{reads_same, front_same, front_done}
-use Rattle.msp_file.proofs.schedules.Readings.{schedule_same}
+use Rattle.msp_file.proofs.schedules.Readings.{schedule_same, schedule_ends}
 use Rattle.msp_file.proofs.instances.TextLaws.{lines_take, whole_takes, whole_again, front_again}
 use Rattle.msp_file.proofs.instances.AnswerLaws.{text_of_read, again_fault, again_front_fault}
 use Rattle.msp_file.proofs.instances.FrontLaws.{front_text, front_fault, front_read}
@@ -30,8 +30,6 @@ use Rattle.msp_file.proofs.instances.LineFaults.{IsLineFault, lines_in, whole}
 use Rattle.msp_file.proofs.schedules.LineFaults.{schedule_remembers}
 use Rattle.msp_file.proofs.instances.AnswerLemmas.{fault_of_lines}
 use Rattle.msp_file.proofs.instances.FirstFaults.{class_or_fault}
-use Rattle.msp_file.proofs.instances.Endings.{lines_end, reading_ends}
-use Rattle.msp_file.proofs.schedules.Endings.{schedule_ends}
 use Rattle.msp_file.proofs.schedules.ScheduleLaws.{schedule_again, schedule_taken, no_schedule_fault}
 use Rattle.msp_grammar.proofs.reading.Readings.{err_is, not_fails}
 
@@ -141,9 +139,9 @@ one_front_fault b e f h k = one_first (ReadsFront b) (front_same b) e f h k
 
 -- ---- each has an instance or a first fault
 
-fails_by : {A : Type 0} (R : Result A FileFault → Type 0) (e : FileFault) → R (Err e) → FailsBy e R
-fails_by R Memory h = tt
-fails_by R e h = h
+fails_by : {A : Type 0} (r : Result A FileFault) (e : FileFault) → r ≡ Err e → Fails e r
+fails_by r Memory h = tt
+fails_by r e h = h
 
 line_fault_is : (e : FileFault) → IsLineFault e → e ≢ Memory
 line_fault_is e h m = subst IsLineFault m h
@@ -157,20 +155,20 @@ text_fault_is e (inr h) m = after_is h.0 (sym h.1 ∙ m)
 
 some_instance : (b : List ℕ) (r : Result Filed FileFault) → Reads b r → ((f : Filed) × IsTextOf b f) ⊎ ((e : FileFault) × IsFirstFaultOf b e)
 some_instance b (Ok f) h = elim (class_or_fault b f (whole_takes b f h) (Reads b) h) [ inl c ↦ inl (f, text_of_read b f h c) | inr e ↦ inr e ]
-some_instance b (Err e) h = inr (e, (fault_of_lines b e (fails_by (Reads b) e h), text_fault_is e (whole b e h)))
+some_instance b (Err e) h = inr (e, (fault_of_lines b e (fails_by (filed_at b) e h), text_fault_is e (whole b e h)))
 
-some_front : (b : List ℕ) (r : Result (Filed × Place) FileFault) → ReadsLines (start_of b) r → ((f : Front) × IsFrontOf b f) ⊎ ((e : FileFault) × IsFirstFrontFaultOf b e)
+some_front : (b : List ℕ) (r : Result (Filed × Place) FileFault) → lines_at (start_of b) ≡ r → ((f : Front) × IsFrontOf b f) ⊎ ((e : FileFault) × IsFirstFrontFaultOf b e)
 some_front b (Ok x) h =
     let t = lines_take (start_of b) x h in
     elim (class_or_fault t.0 x.0 t.2 (ReadsFront b) (front_done b x.0 x.1 h)) [
       | inl c ↦ inl (record { filed = x.0; used = length b - length x.1.rest; line = x.1.at }, front_text b x.0 x.1 h c)
       | inr e ↦ inr e
     ]
-some_front b (Err e) h = inr (e, (front_fault b e (fails_by (ReadsLines (start_of b)) e h), line_fault_is e ((lines_in (start_of b) (Err e) h).fault e refl)))
+some_front b (Err e) h = inr (e, (front_fault b e (fails_by (lines_at (start_of b)) e h), line_fault_is e ((lines_in (start_of b)).fault e h)))
 
 pub law_of_instance_texts : LawOfInstanceTexts
 law_of_instance_texts = record {
-  some = λ b. let r = reading_ends b in some_instance b r.0 r.1;
+  some = λ b. some_instance b (filed_at b) refl;
   not_both = instance_not_both;
   one_value = one_instance;
   one_fault = one_instance_fault;
@@ -178,7 +176,7 @@ law_of_instance_texts = record {
 
 pub law_of_front_texts : LawOfFrontTexts
 law_of_front_texts = record {
-  some = λ b. let r = lines_end (start_of b) in some_front b r.0 r.1;
+  some = λ b. some_front b (lines_at (start_of b)) refl;
   not_both = front_not_both;
   one_value = one_front;
   one_fault = one_front_fault;

@@ -4,7 +4,6 @@ pub mod Apart
 pub mod ArcLaws
 pub mod CurveLaws
 pub mod Deciding
-pub mod Endings
 pub mod FirstFaults
 pub mod FrontLaws
 pub mod HeadLaws

@@ -1,4 +1,5 @@
-pub mod Endings
 pub mod LineFaults
+pub mod PieceLaws
+pub mod PieceLines
 pub mod Readings
 pub mod ScheduleLaws

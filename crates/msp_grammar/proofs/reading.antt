@@ -1,10 +1,11 @@
 pub mod CostLaws
 pub mod CostReading
-pub mod Endings
 pub mod FieldLaws
 pub mod Fields
+pub mod Fractions
 pub mod LineFaults
 pub mod LineLaws
+pub mod Lines
 pub mod FirstSeparator
 pub mod NameReading
 pub mod Readings

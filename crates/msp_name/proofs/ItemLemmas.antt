@@ -1,5 +1,5 @@
 -- One item more: what the class has then, and when the item fits.
-use Rattle.std.proofs.Common.{◌≡◌, refl, sym, ap, subst, Bool, true, false, cond, ◌||◌, ◌⊎◌, inl, inr, Option, Some, None}
+use Rattle.std.proofs.Common.{◌≡◌, ◌∙◌, refl, sym, ap, subst, Bool, true, false, cond, ◌||◌, ◌⊎◌, inl, inr, Option, Some, None}
 use Rattle.msp_class.specs.declared.class.Class.{Class}
 use Rattle.msp_class.specs.declared.class.Env.{Env}
 use Rattle.msp_class.specs.declared.class.Env.TheVariants as e
@@ -23,76 +23,46 @@ Gains-at x s s' d d' e f g =
     let Q : Class → Type 0 = λ v. Gains v x d in
     subst P f (subst Q e g)
 
+abbrev Has : Class → Item → Class → Item → Type 0
+Has s x d y = has_item d y ≡ (item_eq x y || has_item s y)
+
 Gains-cut : (s : Class) → Gains s i.Cut (record s { cut = true })
-Gains-cut s = record { items = λ y. elim y as (λ y. has_item (record s { cut = true }) y ≡ (item_eq i.Cut y || has_item s y)) [ i.Cut ↦ refl | _ ↦ refl ]; env = refl; crit = refl }
+Gains-cut s = record { items = λ y. elim y as (Has s i.Cut (record s { cut = true })) [ i.Cut ↦ refl | _ ↦ refl ]; env = refl; crit = refl }
 
 Gains-heads : (s : Class) → Gains s i.Heads (record s { heads = true })
-Gains-heads s = record { items = λ y. elim y as (λ y. has_item (record s { heads = true }) y ≡ (item_eq i.Heads y || has_item s y)) [ i.Cut ↦ refl | _ ↦ refl ]; env = refl; crit = refl }
+Gains-heads s = record { items = λ y. elim y as (Has s i.Heads (record s { heads = true })) [ i.Cut ↦ refl | _ ↦ refl ]; env = refl; crit = refl }
 
 Gains-unit : (s : Class) → Gains (record s { times = t.General }) i.Unit (record s { times = t.Unit })
-Gains-unit s = record {
-  items = λ y. elim y as (λ y. has_item (record s { times = t.Unit }) y ≡ (item_eq i.Unit y || has_item (record s { times = t.General }) y)) [ i.Cut ↦ refl | _ ↦ refl ];
-  env = refl;
-  crit = refl;
-}
+Gains-unit s = record { items = λ y. elim y as (Has (record s { times = t.General }) i.Unit (record s { times = t.Unit })) [ i.Cut ↦ refl | _ ↦ refl ]; env = refl; crit = refl }
 
 Gains-equal : (s : Class) → Gains (record s { times = t.General }) i.Equal (record s { times = t.Equal })
-Gains-equal s = record {
-  items = λ y. elim y as (λ y. has_item (record s { times = t.Equal }) y ≡ (item_eq i.Equal y || has_item (record s { times = t.General }) y)) [ i.Cut ↦ refl | _ ↦ refl ];
-  env = refl;
-  crit = refl;
-}
+Gains-equal s = record { items = λ y. elim y as (Has (record s { times = t.General }) i.Equal (record s { times = t.Equal })) [ i.Cut ↦ refl | _ ↦ refl ]; env = refl; crit = refl }
 
 Gains-chains : (s : Class) → Gains (record s { order = o.Free }) i.Chains (record s { order = o.Chains })
-Gains-chains s = record {
-  items = λ y. elim y as (λ y. has_item (record s { order = o.Chains }) y ≡ (item_eq i.Chains y || has_item (record s { order = o.Free }) y)) [ i.Cut ↦ refl | _ ↦ refl ];
-  env = refl;
-  crit = refl;
-}
+Gains-chains s = record { items = λ y. elim y as (Has (record s { order = o.Free }) i.Chains (record s { order = o.Chains })) [ i.Cut ↦ refl | _ ↦ refl ]; env = refl; crit = refl }
 
 Gains-intree : (s : Class) → Gains (record s { order = o.Free }) i.Intree (record s { order = o.Intree })
-Gains-intree s = record {
-  items = λ y. elim y as (λ y. has_item (record s { order = o.Intree }) y ≡ (item_eq i.Intree y || has_item (record s { order = o.Free }) y)) [ i.Cut ↦ refl | _ ↦ refl ];
-  env = refl;
-  crit = refl;
-}
+Gains-intree s = record { items = λ y. elim y as (Has (record s { order = o.Free }) i.Intree (record s { order = o.Intree })) [ i.Cut ↦ refl | _ ↦ refl ]; env = refl; crit = refl }
 
 Gains-outtree : (s : Class) → Gains (record s { order = o.Free }) i.Outtree (record s { order = o.Outtree })
-Gains-outtree s = record {
-  items = λ y. elim y as (λ y. has_item (record s { order = o.Outtree }) y ≡ (item_eq i.Outtree y || has_item (record s { order = o.Free }) y)) [ i.Cut ↦ refl | _ ↦ refl ];
-  env = refl;
-  crit = refl;
-}
+Gains-outtree s = record { items = λ y. elim y as (Has (record s { order = o.Free }) i.Outtree (record s { order = o.Outtree })) [ i.Cut ↦ refl | _ ↦ refl ]; env = refl; crit = refl }
 
 Gains-prec : (s : Class) → Gains (record s { order = o.Free }) i.Prec (record s { order = o.Prec })
-Gains-prec s = record {
-  items = λ y. elim y as (λ y. has_item (record s { order = o.Prec }) y ≡ (item_eq i.Prec y || has_item (record s { order = o.Free }) y)) [ i.Cut ↦ refl | _ ↦ refl ];
-  env = refl;
-  crit = refl;
-}
+Gains-prec s = record { items = λ y. elim y as (Has (record s { order = o.Free }) i.Prec (record s { order = o.Prec })) [ i.Cut ↦ refl | _ ↦ refl ]; env = refl; crit = refl }
 
 Gains-J2 : (s : Class) → Gains (record s { env = e.J2 }) i.Short (record s { env = e.J2Short })
-Gains-J2 s = record {
-  items = λ y. elim y as (λ y. has_item (record s { env = e.J2Short }) y ≡ (item_eq i.Short y || has_item (record s { env = e.J2 }) y)) [ i.Cut ↦ refl | _ ↦ refl ];
-  env = refl;
-  crit = refl;
-}
+Gains-J2 s = record { items = λ y. elim y as (Has (record s { env = e.J2 }) i.Short (record s { env = e.J2Short })) [ i.Cut ↦ refl | _ ↦ refl ]; env = refl; crit = refl }
 
 Gains-J : (s : Class) → Gains (record s { env = e.J }) i.Short (record s { env = e.JShort })
-Gains-J s =
-    record { items = λ y. elim y as (λ y. has_item (record s { env = e.JShort }) y ≡ (item_eq i.Short y || has_item (record s { env = e.J }) y)) [ i.Cut ↦ refl | _ ↦ refl ]; env = refl; crit = refl }
+Gains-J s = record { items = λ y. elim y as (Has (record s { env = e.J }) i.Short (record s { env = e.JShort })) [ i.Cut ↦ refl | _ ↦ refl ]; env = refl; crit = refl }
 
 with_order-some : (p : Order) (r d : Class) → elim p as (λ _. Option Class) [ o.Free ↦ Some r | _ ↦ None ] ≡ Some d → (p ≡ o.Free) × (r ≡ d)
 with_order-some o.Free r d h = (refl, cc)
-with_order-some o.Chains r d h = cc
-with_order-some o.Intree r d h = cc
-with_order-some o.Outtree r d h = cc
-with_order-some o.Prec r d h = cc
+with_order-some _ r d h = cc
 
 with_times-some : (p : Times) (r d : Class) → elim p as (λ _. Option Class) [ t.General ↦ Some r | _ ↦ None ] ≡ Some d → (p ≡ t.General) × (r ≡ d)
 with_times-some t.General r d h = (refl, cc)
-with_times-some t.Unit r d h = cc
-with_times-some t.Equal r d h = cc
+with_times-some _ r d h = cc
 
 with_short-some : (x : Env) (r q d : Class) → elim x as (λ _. Option Class) [ e.J2 ↦ Some r | e.J ↦ Some q | _ ↦ None ] ≡ Some d → ((x ≡ e.J2) × (r ≡ d)) ⊎ ((x ≡ e.J) × (q ≡ d))
 with_short-some e.J2 r q d h = inl (refl, cc)
@@ -139,47 +109,34 @@ pub record Within (s c : Class) : Type 0 where
   pub items : (y : Item) → has_item s y ≡ true → has_item c y ≡ true
   pub env : plain_env s.env ≡ plain_env c.env
 
+order_eq-self : (p : Order) → order_eq p p ≡ true
+order_eq-self o.Free = refl
+order_eq-self _ = refl
+
+times_eq-self : (p : Times) → times_eq p p ≡ true
+times_eq-self t.General = refl
+times_eq-self _ = refl
+
+-- a value of `a` that `b` has too is no other than the one that `b` has and `a` lacks
+clash : {T : Type 0} (eq : T → T → Bool) → ((p q : T) → eq p q ≡ true → p ≡ q) → ((p : T) → eq p p ≡ true)
+    → (x p a b : T) → (eq a p ≡ true → eq b p ≡ true) → eq b x ≡ true → eq a x ≡ false → a ≡ p → ⊥
+clash eq same self x p a b w h k m =
+    let q : b ≡ p = same b p (w (ap (λ y. eq y p) m ∙ self p)) in
+    let u : b ≡ x = same b x h in
+    let z : eq a x ≡ true = ap (λ y. eq y x) (m ∙ sym q ∙ u) ∙ self x in
+    cc
+
 is_free : (x : Order) (s c : Class) → Within s c → order_eq c.order x ≡ true → order_eq s.order x ≡ false → (p : Order) → s.order ≡ p → p ≡ o.Free
 is_free x s c w h k o.Free m = refl
-is_free x s c w h k o.Chains m =
-    let q : order_eq s.order o.Chains ≡ true = rw m refl in
-    let r : c.order ≡ o.Chains = order_eq-same _ _ (w.items i.Chains q) in
-    let u : c.order ≡ x = order_eq-same _ _ h in
-    let z : x ≡ o.Chains = cc in
-    let y : order_eq s.order o.Chains ≡ false = rw z at k in cc
-is_free x s c w h k o.Intree m =
-    let q : order_eq s.order o.Intree ≡ true = rw m refl in
-    let r : c.order ≡ o.Intree = order_eq-same _ _ (w.items i.Intree q) in
-    let u : c.order ≡ x = order_eq-same _ _ h in
-    let z : x ≡ o.Intree = cc in
-    let y : order_eq s.order o.Intree ≡ false = rw z at k in cc
-is_free x s c w h k o.Outtree m =
-    let q : order_eq s.order o.Outtree ≡ true = rw m refl in
-    let r : c.order ≡ o.Outtree = order_eq-same _ _ (w.items i.Outtree q) in
-    let u : c.order ≡ x = order_eq-same _ _ h in
-    let z : x ≡ o.Outtree = cc in
-    let y : order_eq s.order o.Outtree ≡ false = rw z at k in cc
-is_free x s c w h k o.Prec m =
-    let q : order_eq s.order o.Prec ≡ true = rw m refl in
-    let r : c.order ≡ o.Prec = order_eq-same _ _ (w.items i.Prec q) in
-    let u : c.order ≡ x = order_eq-same _ _ h in
-    let z : x ≡ o.Prec = cc in
-    let y : order_eq s.order o.Prec ≡ false = rw z at k in cc
+is_free x s c w h k o.Chains m = absurd (clash order_eq order_eq-same order_eq-self x o.Chains s.order c.order (w.items i.Chains) h k m)
+is_free x s c w h k o.Intree m = absurd (clash order_eq order_eq-same order_eq-self x o.Intree s.order c.order (w.items i.Intree) h k m)
+is_free x s c w h k o.Outtree m = absurd (clash order_eq order_eq-same order_eq-self x o.Outtree s.order c.order (w.items i.Outtree) h k m)
+is_free x s c w h k o.Prec m = absurd (clash order_eq order_eq-same order_eq-self x o.Prec s.order c.order (w.items i.Prec) h k m)
 
 is_general : (x : Times) (s c : Class) → Within s c → times_eq c.times x ≡ true → times_eq s.times x ≡ false → (p : Times) → s.times ≡ p → p ≡ t.General
 is_general x s c w h k t.General m = refl
-is_general x s c w h k t.Unit m =
-    let q : times_eq s.times t.Unit ≡ true = rw m refl in
-    let r : c.times ≡ t.Unit = times_eq-same _ _ (w.items i.Unit q) in
-    let u : c.times ≡ x = times_eq-same _ _ h in
-    let z : x ≡ t.Unit = cc in
-    let y : times_eq s.times t.Unit ≡ false = rw z at k in cc
-is_general x s c w h k t.Equal m =
-    let q : times_eq s.times t.Equal ≡ true = rw m refl in
-    let r : c.times ≡ t.Equal = times_eq-same _ _ (w.items i.Equal q) in
-    let u : c.times ≡ x = times_eq-same _ _ h in
-    let z : x ≡ t.Equal = cc in
-    let y : times_eq s.times t.Equal ≡ false = rw z at k in cc
+is_general x s c w h k t.Unit m = absurd (clash times_eq times_eq-same times_eq-self x t.Unit s.times c.times (w.items i.Unit) h k m)
+is_general x s c w h k t.Equal m = absurd (clash times_eq times_eq-same times_eq-self x t.Equal s.times c.times (w.items i.Equal) h k m)
 
 -- `s` has room for the item
 abbrev pub Fits : Class → Item → Type 0
@@ -195,8 +152,6 @@ short_of : (x y : Env) (r q : Class) → plain_env x ≡ plain_env y
     → is_short y ≡ true → is_short x ≡ false → (d : Class) × (elim x as (λ _. Option Class) [ e.J2 ↦ Some r | e.J ↦ Some q | _ ↦ None ] ≡ Some d)
 short_of e.J2 y r q h k m = (r, refl)
 short_of e.J y r q h k m = (q, refl)
-short_of e.J2Short y r q h k m = cc
-short_of e.JShort y r q h k m = cc
 short_of x e.J2Short r q h k m = cc
 short_of x e.JShort r q h k m = cc
 short_of _ _ r q h k m = cc
@@ -219,10 +174,7 @@ order_from a b c d = cond a o.Chains (cond b o.Intree (cond c o.Outtree (cond d 
 order_back : (p : Order) → order_from (order_eq p o.Chains) (order_eq p o.Intree) (order_eq p o.Outtree) (order_eq p o.Prec) ≡ p
 unfolding order_from
 order_back o.Free = refl
-order_back o.Chains = refl
-order_back o.Intree = refl
-order_back o.Outtree = refl
-order_back o.Prec = refl
+order_back _ = refl
 
 times_from : Bool → Bool → Times
 times_from a b = cond a t.Unit (cond b t.Equal t.General)
@@ -230,8 +182,7 @@ times_from a b = cond a t.Unit (cond b t.Equal t.General)
 times_back : (p : Times) → times_from (times_eq p t.Unit) (times_eq p t.Equal) ≡ p
 unfolding times_from
 times_back t.General = refl
-times_back t.Unit = refl
-times_back t.Equal = refl
+times_back _ = refl
 
 env_from : Bool → Env → Env
 env_from true e.J2 = e.J2Short

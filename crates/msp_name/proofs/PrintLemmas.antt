@@ -158,15 +158,11 @@ same-is false false h = refl
 
 rows-exact : (y : Item) (a : Bool) (p : Order) (h : Bool) (u : Times) (s : Bool) → has a p h u s y ≡ among (map (λ w. w.1) (rows a p h u s)) y
 unfolding has rows row_if order_row times_row every all_bools all_orders all_times same
-rows-exact i.Cut a p h u s = same-is _ _ (every-at (λ a p h u s. same (has a p h u s i.Cut) (among (map (λ w. w.1) (rows a p h u s)) i.Cut)) refl a p h u s)
-rows-exact i.Chains a p h u s = same-is _ _ (every-at (λ a p h u s. same (has a p h u s i.Chains) (among (map (λ w. w.1) (rows a p h u s)) i.Chains)) refl a p h u s)
-rows-exact i.Intree a p h u s = same-is _ _ (every-at (λ a p h u s. same (has a p h u s i.Intree) (among (map (λ w. w.1) (rows a p h u s)) i.Intree)) refl a p h u s)
-rows-exact i.Outtree a p h u s = same-is _ _ (every-at (λ a p h u s. same (has a p h u s i.Outtree) (among (map (λ w. w.1) (rows a p h u s)) i.Outtree)) refl a p h u s)
-rows-exact i.Prec a p h u s = same-is _ _ (every-at (λ a p h u s. same (has a p h u s i.Prec) (among (map (λ w. w.1) (rows a p h u s)) i.Prec)) refl a p h u s)
-rows-exact i.Heads a p h u s = same-is _ _ (every-at (λ a p h u s. same (has a p h u s i.Heads) (among (map (λ w. w.1) (rows a p h u s)) i.Heads)) refl a p h u s)
-rows-exact i.Unit a p h u s = same-is _ _ (every-at (λ a p h u s. same (has a p h u s i.Unit) (among (map (λ w. w.1) (rows a p h u s)) i.Unit)) refl a p h u s)
-rows-exact i.Equal a p h u s = same-is _ _ (every-at (λ a p h u s. same (has a p h u s i.Equal) (among (map (λ w. w.1) (rows a p h u s)) i.Equal)) refl a p h u s)
-rows-exact i.Short a p h u s = same-is _ _ (every-at (λ a p h u s. same (has a p h u s i.Short) (among (map (λ w. w.1) (rows a p h u s)) i.Short)) refl a p h u s)
+rows-exact y a p h u s = same-is _ _ (every-at (λ a p h u s. same (has a p h u s y) (among (map (λ w. w.1) (rows a p h u s)) y)) (by y) a p h u s)
+  where
+    by : (y : Item) → every (λ a p h u s. same (has a p h u s y) (among (map (λ w. w.1) (rows a p h u s)) y)) ≡ true
+    by i.Cut = refl
+    by _ = refl
 
 differ : Item → List Item → Bool
 differ x [] = true

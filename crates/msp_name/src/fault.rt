@@ -72,9 +72,9 @@ fn plain(bytes: &[u8]) -> FaultText
     requires { length bytes.now ≤ FAULT_ROOM }
     ensures { result ≡ bytes.now }
 {
-    let mut text = ShortText::new();
-    text.put(bytes);
-    FaultText { text }
+    FaultText {
+        text: ShortText::of(bytes),
+    }
 }
 
 /// The text with the digits of a place behind it, which are at most 10.
@@ -84,8 +84,7 @@ fn placed(bytes: &[u8], at: u32) -> FaultText
     ensures short { length result ≤ length bytes.now + 10 }
 {
     let mut digits = itoa::Buffer::new();
-    let mut text = ShortText::new();
-    text.put(bytes);
+    let mut text = ShortText::of(bytes);
     text.put(digits.format(at).as_bytes());
     FaultText { text }
 }

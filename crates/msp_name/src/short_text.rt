@@ -30,6 +30,16 @@ impl<const ROOM: usize> ShortText<ROOM> {
         }
     }
 
+    /// A text of these bytes.
+    pub fn of(bytes: &[u8]) -> ShortText<ROOM>
+        requires { length bytes.now ≤ ROOM }
+        ensures { result ≡ bytes.now }
+    {
+        let mut text = ShortText::new();
+        text.put(bytes);
+        text
+    }
+
     /// Puts bytes at the end.
     pub fn put(&mut self, text: &[u8])
         requires { length self.old + length text.now ≤ ROOM }

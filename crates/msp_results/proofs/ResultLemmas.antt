@@ -134,13 +134,10 @@ fields_read-ok version at n v s e h =
     }
 
 three_of-some : (fs : List (List ℕ)) (a b c : List ℕ) → three_of fs ≡ Some (a, b, c) → fs ≡ a ∷ b ∷ c ∷ []
-three_of-some [] a b c h = cc
-three_of-some (x ∷ []) a b c h = cc
-three_of-some (x ∷ y ∷ []) a b c h = cc
 three_of-some (x ∷ y ∷ z ∷ []) a b c h =
     let k : ◌≡◌ {A = List ℕ × List ℕ × List ℕ} (x, y, z) (a, b, c) = cc in
     λ j. (k j).0 ∷ (k j).1 ∷ (k j).2 ∷ []
-three_of-some (x ∷ y ∷ z ∷ w ∷ ws) a b c h = cc
+three_of-some _ a b c h = cc
 
 by_fields : (version : Version) (at : ℕ) (o : Option (List ℕ × List ℕ × List ℕ)) (e : Entry)
     → elim o as (λ _. Result Entry ResultFault) [ Some t ↦ fields_read version at t.0 t.1 t.2 | None ↦ Err (fault.Width at) ] ≡ Ok e
@@ -163,9 +160,7 @@ row_read-ok version at fs e h =
 
 word_read-text : (w : Verdict) → word_read (verdict_text w) ≡ Some w
 word_read-text Easy = refl
-word_read-text Pseudo = refl
-word_read-text Hard = refl
-word_read-text Strong = refl
+word_read-text _ = refl
 
 verdict_read-text : (version : Version) (w : Verdict) → IsTrue (has_verdict version w) → verdict_read version (verdict_text w) ≡ Some w
 verdict_read-text version w may = rw (word_read-text w, may) refl

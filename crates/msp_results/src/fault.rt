@@ -52,25 +52,16 @@ impl ResultFault {
         ensures { result ≡ results_text self }
     {
         match self {
-            ResultFault::Header => plain(b"header"),
+            ResultFault::Header => ShortText::of(b"header"),
             ResultFault::Width { at } => recorded(at, b": width"),
             ResultFault::Name { at, fault } => misnamed(at, fault),
             ResultFault::Verdict { at } => recorded(at, b": verdict"),
             ResultFault::Source { at } => recorded(at, b": source"),
             ResultFault::Long { at } => recorded(at, b": limit of source"),
-            ResultFault::Many => plain(b"limit of records"),
-            ResultFault::Memory => plain(b"out of memory"),
+            ResultFault::Many => ShortText::of(b"limit of records"),
+            ResultFault::Memory => ShortText::of(b"out of memory"),
         }
     }
-}
-
-fn plain(bytes: &[u8]) -> ShortText<FAULT_ROOM>
-    requires { length bytes.now ≤ FAULT_ROOM }
-    ensures { result ≡ bytes.now }
-{
-    let mut text = ShortText::new();
-    text.put(bytes);
-    text
 }
 
 /// The number of a record, which has at most 10 digits, and what is said of it.
@@ -80,8 +71,7 @@ fn recorded(at: u32, what: &[u8]) -> ShortText<FAULT_ROOM>
     ensures short { length result ≤ length what.now + 17 }
 {
     let mut digits = itoa::Buffer::new();
-    let mut text = ShortText::new();
-    text.put(b"record ");
+    let mut text = ShortText::of(b"record ");
     text.put(digits.format(at).as_bytes());
     text.put(what);
     text

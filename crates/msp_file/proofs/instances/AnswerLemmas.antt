@@ -3,20 +3,20 @@ use Rattle.std.proofs.Common.{◌≡◌, ℕ, List, Result, Ok, inl, inr}
 use Rattle.msp_grammar.specs.declared.lines.fault.FileFault.{FileFault}
 use Rattle.msp_grammar.specs.declared.lines.fault.FileFault.TheVariants.{Class, Cycle, Memory, After}
 use Rattle.msp_grammar.specs.declared.filed.Filed.{Filed}
-use Rattle.msp_file.specs.instance.Reading.{Reads, ReadsFront}
-use Rattle.msp_grammar.specs.lines.Steps.{FailsBy}
+use Rattle.msp_file.specs.instance.Reading.{filed_at, front_at, Reads, ReadsFront}
+use Rattle.msp_grammar.specs.lines.Answers.{Fails}
 use Rattle.msp_file.specs.instance.Steps.{IsFaultOfFiled}
 use Rattle.msp_file.specs.instance.Answers.{IsFaultBy, IsFaultOf, IsFrontFaultOf}
 use Rattle.msp_file.proofs.instances.LineFaults.{whole, front}
 
 -- a fault of the lines is the first fault of the text
-pub fault_of_lines : (b : List ℕ) (e : FileFault) → FailsBy e (Reads b) → IsFaultOf b e
+pub fault_of_lines : (b : List ℕ) (e : FileFault) → Fails e (filed_at b) → IsFaultOf b e
 fault_of_lines b (Class fault name) f = elim (whole b (Class fault name) f) [ inl h ↦ absurd h | inr h ↦ let is : Class fault name ≡ After h.0 = h.1 in absurd cc ]
 fault_of_lines b (Cycle job name) f = elim (whole b (Cycle job name) f) [ inl h ↦ absurd h | inr h ↦ let is : Cycle job name ≡ After h.0 = h.1 in absurd cc ]
 fault_of_lines b Memory f = tt
 fault_of_lines b e f = f
 
-pub fault_of_front : (b : List ℕ) (e : FileFault) → FailsBy e (ReadsFront b) → IsFrontFaultOf b e
+pub fault_of_front : (b : List ℕ) (e : FileFault) → Fails e (front_at b) → IsFrontFaultOf b e
 fault_of_front b (Class fault name) f = absurd (front b (Class fault name) f)
 fault_of_front b (Cycle job name) f = absurd (front b (Cycle job name) f)
 fault_of_front b Memory f = tt

@@ -1,5 +1,5 @@
 -- The lines of arcs: what is read is the text of the arcs, and the text of arcs is read as those arcs.
-use Rattle.std.proofs.Common.{◌≡◌, ◌≢◌, ℕ, ◌<◌, ◌≤◌, Bool, true, false, not, ◌&&◌, ◌==◌, if◌then◌else◌, List, [], ◌∷◌, ◌++◌, length, All, AllPairs, Contains, Result, Ok, bytes_eq}
+use Rattle.std.proofs.Common.{◌≡◌, ◌≢◌, ℕ, ◌<◌, ◌≤◌, Bool, true, false, not, ◌&&◌, ◌==◌, if◌then◌else◌, List, [], ◌∷◌, ◌++◌, length, All, AllPairs, Contains, None, Result, Ok, bytes_eq}
 use Rattle.std.proofs.Common.{codes, refl, sym, ap, subst, ◌∙◌, append_assoc, append-nil, arith, length-append, ltb-true, lt-ltb, eqb-true, eq-eqb}
 use Rattle.std.specs.List.{AllByRecursion}
 use Rattle.std.proofs.lemmas.Bool.{and_parts}
@@ -15,12 +15,12 @@ use Rattle.msp_job_name.specs.JobName.{IsJobName, AreDistinct}
 use Rattle.msp_grammar.specs.ScheduleText.{name_at}
 use Rattle.msp_grammar.specs.InstanceText.{line_text, arc_fields, arcs_text}
 use Rattle.msp_file.specs.instance.ArcFlags.{is_arc_among}
-use Rattle.msp_grammar.specs.lines.Reading.{◌>>=◌, Place, line_at, fields_of, first_of, others_of, LineRead, job_read, more_read, end_read, end_at, more_then, more_end, more_fault}
-use Rattle.msp_file.specs.instance.Reading.{with_arc, arc_line_at, arc_or_end, arc_step, ReadsArcs}
+use Rattle.msp_grammar.specs.lines.Reading.{◌>>=◌, Place, line_at, fields_of, first_of, others_of, LineRead, job_read, more_read, end_read, end_at}
+use Rattle.msp_file.specs.instance.Reading.{with_arc, arc_line_at, arc_or_end, arc_step, arcs_from}
 use Rattle.msp_job_name.proofs.NameLists.{same_bytes}
 use Rattle.msp_file.proofs.instances.Apart.{apart_push, apart_before}
 use Rattle.msp_grammar.proofs.reading.LineLaws.{bind_ok, provided_ok, ok_is, Takes, Takes-then, IsField, fields_takes, line_then, two_fields, end_text, end_field, end_takes}
-use Rattle.msp_grammar.proofs.reading.LineLaws.{last_is, no_answer, GetsBy}
+use Rattle.msp_grammar.proofs.reading.Lines.{line_less, Follows, lines_take, GetsLines, line_gets}
 use Rattle.msp_grammar.proofs.reading.FieldLaws.{known_takes, known_again, name_field}
 
 -- ---- the line of an arc
@@ -175,10 +175,19 @@ arc_step_takes d p next e =
     let l = bind_ok (line_at p) _ next e in
     arc_or_end_takes true p.at d (fields_of l.0.0) p l.0.1 next (fields_takes p l.0 l.1) l.2
 
-pub arcs_take : (d : Draft) (p : Place) (read : Result (Draft × Place) FileFault) (x : Draft × Place) → AreArcs d.names d.arcs → ReadsArcs d p read → read ≡ Ok x → AddsArcs d p x.0 x.1
-arcs_take d p read x fit (more_then _ e _ q _ step rest) is = let t = arc_step_takes d p (more_read e q) step in then_arcs d t.0 e p q x t.1 t.2 fit (λ good. arcs_take e q read x good rest is)
-arcs_take d p read x fit (more_end _ e _ q _ step ends) is = let t = arc_step_takes d p (end_read e q) step in no_arcs d p x q fit (last_is d e q read x t.0 ends is) t.1
-arcs_take d p read x fit (more_fault _ _ _ fault step fails) is = absurd (no_answer read x fault fails is)
+abbrev Arcs : Draft → Place → Draft × Place → Type 0
+Arcs d p x = AreArcs d.names d.arcs → AddsArcs d p x.0 x.1
+
+arcs_on : (d : Draft) (p : Place) (line : LineRead Draft) (x : Draft × Place) → arc_step d p ≡ Ok line → Follows None Arcs line x → Arcs d p x
+arcs_on d p line x e = by line (arc_step_takes d p line e)
+  where
+    by : (line : LineRead Draft) → TakesArc true d p line → Follows None Arcs line x → Arcs d p x
+    by (job_read e q) t k fit = absurd t
+    by (more_read e q) t k fit = then_arcs d t.0 e p q x t.1 t.2 fit k
+    by (end_read e q) t k fit = no_arcs d p x q fit (k ∙ ap (λ (y : Draft). (y, q)) t.0) t.1
+
+pub arcs_take : (d : Draft) (p : Place) (x : Draft × Place) → AreArcs d.names d.arcs → arcs_from d p ≡ Ok x → AddsArcs d p x.0 x.1
+arcs_take d p x fit e = lines_take arc_step None Arcs arcs_on _ d p x e fit
 
 -- an arc at its place among others
 pub arc_in : (names : List (List ℕ)) (arcs : List Arc) (a : Arc) (more : List Arc) → AreArcs names (arcs ++ a ∷ more)
@@ -189,23 +198,25 @@ arc_in names arcs a more fit =
     (ends.0, ends.1, apart_before arcs a more fit.once, omega (arith, fit.few), subst (AreArcs names) (sym (append_assoc arcs (a ∷ []) more)) fit)
 
 pub arcs_again : (more : List Arc) (d : Draft) (at : ℕ) (rest : List ℕ) → AreDistinct d.names → All IsJobName d.names → AreArcs d.names (d.arcs ++ more)
-    → GetsBy (ReadsArcs d (record { at = at; rest = (arcs_text d.names more ++ end_text) ++ rest })) (with_arcs d more) rest
+    → GetsLines arc_step None d (record { at = at; rest = (arcs_text d.names more ++ end_text) ++ rest }) (with_arcs d more) rest
 unfolding arc_step
 arcs_again [] d at rest apart spelled fit =
     let l = line_then (arc_or_end true at d) at (codes "end") [] rest end_field in
-    (l.0, more_end d d _ (record { at = l.0; rest = rest }) _ l.1 (ap (λ (arcs : List Arc). Ok (record d { arcs = arcs }, record { at = l.0; rest = rest })) (append-nil d.arcs)))
+    let q : Place = record { at = l.0; rest = rest } in
+    subst (λ (arcs : List Arc). GetsLines arc_step None d (record { at = at; rest = end_text ++ rest }) (record d { arcs = arcs }) rest)
+    (sym (append-nil d.arcs)) (line_gets arc_step None d _ (end_read d q) d rest l.1 (λ n enough. (l.0, refl)))
 arcs_again (a ∷ more) d at rest apart spelled fit =
     let in_range = arc_in d.names d.arcs a more fit in
     let left = (arcs_text d.names more ++ end_text) ++ rest in
-    let text : (arcs_text d.names (a ∷ more) ++ end_text) ++ rest ≡ line_text (arc_fields d.names a) ++ left = ap (λ (b : List ℕ). b ++ rest)
-    (append_assoc (line_text (arc_fields d.names a)) (arcs_text d.names more) end_text) ∙ append_assoc (line_text (arc_fields d.names a)) (arcs_text d.names more ++ end_text) rest in
+    let line = line_text (arc_fields d.names a) in
+    let text : (arcs_text d.names (a ∷ more) ++ end_text) ++ rest ≡ line ++ left =
+    ap (λ (b : List ℕ). b ++ rest) (append_assoc line (arcs_text d.names more) end_text) ∙ append_assoc line (arcs_text d.names more ++ end_text) rest in
     let l = line_then (arc_or_end true at d) at (codes "arc") (name_at d.names a.before ∷ name_at d.names a.after ∷ []) left (arc_line_fields d.names a spelled in_range.0 in_range.1) in
+    let p : Place = record { at = at; rest = line ++ left } in
     let q : Place = record { at = l.0; rest = left } in
     let one = arc_again at d a apart spelled in_range.0 in_range.1 in_range.2 in_range.3 in
-    let step : arc_step d (record { at = at; rest = (arcs_text d.names (a ∷ more) ++ end_text) ++ rest }) ≡ Ok (more_read (with_arc d a.before a.after) q) =
-    ap (λ (b : List ℕ). arc_step d (record { at = at; rest = b })) text ∙ l.1 ∙ ap (λ r. r >>= λ e. Ok (more_read e q)) one in
-    let g = arcs_again more (with_arc d a.before a.after) l.0 rest apart spelled in_range.4 in (
-      g.0,
-      subst (λ (arcs : List Arc). ReadsArcs d (record { at = at; rest = (arcs_text d.names (a ∷ more) ++ end_text) ++ rest }) (Ok (record d { arcs = arcs }, record { at = g.0; rest = rest })))
-          (append_assoc d.arcs (a ∷ []) more) (more_then d (with_arc d a.before a.after) _ q _ step g.1),
-    )
+    let g = arcs_again more (with_arc d a.before a.after) l.0 rest apart spelled in_range.4 in
+    let all = subst (λ (arcs : List Arc). GetsLines arc_step None (with_arc d a.before a.after) q (record d { arcs = arcs }) rest) (append_assoc d.arcs (a ∷ []) more) g in
+    subst (λ (b : List ℕ). GetsLines arc_step None d (record { at = at; rest = b }) (with_arcs d (a ∷ more)) rest) (sym text)
+    (line_gets arc_step None d p (more_read (with_arc d a.before a.after) q) (with_arcs d (a ∷ more)) rest (l.1 ∙ ap (λ r. r >>= λ e. Ok (more_read e q)) one)
+    (λ n enough. all n (let less = line_less (arc_fields d.names a) p q refl in omega arith)))

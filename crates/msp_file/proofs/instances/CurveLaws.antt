@@ -92,9 +92,8 @@ curve_fields_again at v h =
 
 -- a line of at least two fields
 two_at_least : (ws : List (List ℕ)) (n : ℕ) (P : List (List ℕ) → Type 0) → length ws ≡ 2 + n → ((w u : List ℕ) (us : List (List ℕ)) → ws ≡ w ∷ u ∷ us → P (w ∷ u ∷ us)) → P ws
-two_at_least [] n P e h = absurd (omega arith)
-two_at_least (w ∷ []) n P e h = absurd (omega arith)
 two_at_least (w ∷ u ∷ us) n P e h = h w u us refl
+two_at_least _ n P e h = absurd (omega arith)
 
 curve_line_takes : (p : Place) (x : Curve × Place) → curve_line_at p ≡ Ok x → Takes p (line_text (curve_fields x.0)) x.1 × IsCurve text_limits x.0
 unfolding curve_line_at

@@ -1,7 +1,9 @@
 -- Whether a condition holds can be told, for the conditions of a class that a text can break.
-use Rattle.std.proofs.Common.{◌≡◌, ◌≢◌, ℕ, zero, suc, ◌+◌, ◌-◌, ◌*◌, ◌<◌, ◌≤◌, ◌⊎◌, inl, inr, ◌==◌, true, false, Bool, List, [], ◌∷◌, length, get_or, All, Any, refl, sym, ◌∙◌, subst, arith}
-use Rattle.std.specs.List.{AllAdjacentBelow}
-use Rattle.std.proofs.lemmas.Bool.{cases_Bool, cases_lt, eqb-true, eqb-false}
+use Rattle.std.proofs.Common.{◌≡◌, ◌≢◌, ℕ, zero, suc, ◌+◌, ◌-◌, ◌*◌, ◌/◌, ◌%◌, ◌||◌, ◌<◌, ◌≤◌, ◌⊎◌, inl, inr, ◌==◌, true, false, Bool}
+use Rattle.std.proofs.Common.{List, [], ◌∷◌, length, get_or, All, Any, refl, sym, ap, ◌∙◌, subst, arith}
+use Rattle.std.specs.List.{AllAdjacentBelow, list_all}
+use Rattle.std.proofs.Math.Nat.{div-add-mod, mul-mod_left}
+use Rattle.std.proofs.lemmas.Bool.{cases_Bool, cases_lt, eqb-true, eqb-false, eq-eqb, and_parts, and_from, or_cases}
 use Rattle.std.proofs.lemmas.List.{get_or_default}
 use Rattle.std.proofs.lemmas.List.Elements.{All-nil, All-cons, All-head, All-tail}
 use Rattle.msp_class.specs.Env.{kind_of, most_operations}
@@ -15,6 +17,7 @@ use Rattle.msp_instance.specs.declared.Need.{Need}
 use Rattle.msp_instance.specs.declared.Instance.{Instance}
 use Rattle.msp_class.specs.declared.sizes.TheConstants.{GREATEST_MULTIPLE}
 use Rattle.msp_instance.specs.Instance.{no_need}
+use Rattle.msp_file.specs.instance.Reading.{has_multiple}
 use Rattle.msp_instance.specs.Conditions.{Limits, HasSmallMultiple, IsSingleNeed, IsNeedPerMachine, IsRoute, HasShape, HasTimes, least_time, greatest_time, HasNeeds, leaving, entering, HasDegree}
 
 -- The condition holds, or it does not.
@@ -79,35 +82,53 @@ all_told P told (x ∷ xs) = elim (told x) [
 
 -- ---- speeds
 
-product_within : (multiple times s : ℕ) → multiple ≡ times * suc s → times < multiple + 1
-product_within multiple times s h = omega arith
+abbrev AreDivisors : List ℕ → ℕ → Type 0
+AreDivisors speeds multiple = All (λ s. (times : ℕ) × (multiple ≡ times * s)) speeds
 
-multiple_told : (multiple s : ℕ) → Told ((times : ℕ) × (multiple ≡ times * s))
-multiple_told multiple zero = elim (equal_told multiple 0) [
-  | inl e ↦ inl (0, omega arith)
-  | inr absent ↦ inr (λ h. let e = h.1 in absent (omega arith))
-]
-multiple_told multiple (suc s) = elim (some_below (λ times. multiple ≡ times * suc s) (λ times. equal_told multiple (times * suc s)) (multiple + 1)) [
-  | inl f ↦ inl (f.0, f.2)
-  | inr none ↦ inr (λ h. none h.0 (product_within multiple h.0 s h.1) h.1)
-]
+divided : (m : ℕ) (speeds : List ℕ) → list_all (λ s. m % s == 0) speeds ≡ true → AreDivisors speeds m
+divided m [] e = All-nil _
+divided m (s ∷ ss) e =
+    let both = and_parts (m % s == 0) (list_all (λ s. m % s == 0) ss) e in
+    All-cons (λ s. (times : ℕ) × (m ≡ times * s)) s ss (m / s, omega (arith, div-add-mod m s, eqb-true (m % s) 0 both.0)) (divided m ss both.1)
 
-IsMultipleOf : List ℕ → ℕ → Type 0
-IsMultipleOf speeds multiple = (1 ≤ multiple) × All (λ s. (times : ℕ) × (multiple ≡ times * s)) speeds
+dividing : (m : ℕ) (speeds : List ℕ) → AreDivisors speeds m → list_all (λ s. m % s == 0) speeds ≡ true
+dividing m [] h = refl
+dividing m (s ∷ ss) h =
+    let here = All-head (λ s. (times : ℕ) × (m ≡ times * s)) s ss h in
+    and_from _ _ (eq-eqb (m % s) 0 (ap (λ n. n % s) here.1 ∙ mul-mod_left here.0 s)) (dividing m ss (All-tail (λ s. (times : ℕ) × (m ≡ times * s)) s ss h))
 
-multiple_of_told : (speeds : List ℕ) (multiple : ℕ) → Told (IsMultipleOf speeds multiple)
-unfolding IsMultipleOf
-multiple_of_told speeds multiple = both (le_told 1 multiple) (all_told (λ s. (times : ℕ) × (multiple ≡ times * s)) (multiple_told multiple) speeds)
-
-small_told : (greatest : ℕ) (speeds : List ℕ) → Told ((multiple : ℕ) × (1 ≤ multiple) × (multiple ≤ greatest) × All (λ s. (times : ℕ) × (multiple ≡ times * s)) speeds)
-unfolding IsMultipleOf
-small_told greatest speeds = elim (some_below (IsMultipleOf speeds) (multiple_of_told speeds) (greatest + 1)) [
-  | inl f ↦ let less = f.1 in inl (f.0, f.2.0, omega arith, f.2.1)
-  | inr none ↦ inr (λ h. let few = h.2 in none h.0 (omega arith) (h.1, h.3))
+multiple_found : (n : ℕ) (speeds : List ℕ) → has_multiple n speeds ≡ true → (m : ℕ) × (1 ≤ m) × (m ≤ n) × AreDivisors speeds m
+unfolding has_multiple
+multiple_found zero speeds e = absurd cc
+multiple_found (suc n) speeds e = elim (or_cases (list_all (λ s. suc n % s == 0) speeds) (has_multiple n speeds) e) [
+  | inl here ↦ (suc n, omega arith, omega arith, divided (suc n) speeds here)
+  | inr before ↦ let f = multiple_found n speeds before in let less = f.2 in (f.0, f.1, omega arith, f.3)
 ]
 
-pub small_multiple_told : (speeds : List ℕ) → Told (HasSmallMultiple speeds)
-small_multiple_told speeds = small_told GREATEST_MULTIPLE speeds
+pub or_right : (a b : Bool) → b ≡ true → (a || b) ≡ true
+or_right true b h = refl
+or_right false b h = h
+
+pub or_left : (a b : Bool) → a ≡ true → (a || b) ≡ true
+or_left true b h = refl
+or_left false b h = absurd cc
+
+multiple_there : (n m : ℕ) (speeds : List ℕ) → 1 ≤ m → m ≤ n → AreDivisors speeds m → has_multiple n speeds ≡ true
+unfolding has_multiple
+multiple_there zero m speeds some few h = absurd (omega arith)
+multiple_there (suc n) m speeds some few h = elim (cases_lt m (suc n)) [
+  | inl less ↦ or_right _ _ (multiple_there n m speeds some (omega arith) h)
+  | inr past ↦ or_left _ _ (dividing (suc n) speeds (subst (AreDivisors speeds) (omega arith) h))
+]
+
+pub small_found : (speeds : List ℕ) → has_multiple GREATEST_MULTIPLE speeds ≡ true → HasSmallMultiple speeds
+small_found speeds e = multiple_found GREATEST_MULTIPLE speeds e
+
+pub small_there : (speeds : List ℕ) → HasSmallMultiple speeds → has_multiple GREATEST_MULTIPLE speeds ≡ true
+small_there speeds h = multiple_there GREATEST_MULTIPLE h.0 speeds h.1 h.2 h.3
+
+pub small_none : (speeds : List ℕ) → ¬ HasSmallMultiple speeds → has_multiple GREATEST_MULTIPLE speeds ≡ false
+small_none speeds none = elim (cases_Bool (has_multiple GREATEST_MULTIPLE speeds)) [ inl e ↦ absurd (none (small_found speeds e)) | inr e ↦ e ]
 
 -- ---- the needs of a job
 

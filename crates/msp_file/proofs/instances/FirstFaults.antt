@@ -46,26 +46,32 @@ module _ (b : List ℕ) (f : Filed) (t : IsReadText b f) where
   no_jobs : ¬ (1 ≤ length f.instance.jobs) → IsFirstFault f.instance class_fault.Jobs
   no_jobs none = record { within = tt; broken = λ h. none h.0; first = λ g w s. absurd (none_sooner (turn_of g) (turn_of class_fault.Jobs) refl refl refl s) }
 
-  need_broken : (j : ℕ) → j < length f.instance.jobs → ¬ NeedsAt j → ((k : ℕ) → k < j → NeedsAt k) → IsFirstFault f.instance (class_fault.Need j)
-  need_broken j within broken before = record { within = within; broken = broken; first = first }
-    where
-      before_it : (k : ℕ) → k < j → 0 < j
-      before_it k h = omega arith
+  -- the conditions whose turn comes before that of a fault
+  earlier : (fault : ClassFault) → 1 ≤ length f.instance.jobs → ((k : ℕ) → k < length f.instance.jobs → IsSooner (turn_of (class_fault.Need k)) (turn_of fault) → NeedsAt k)
+      → ((k : ℕ) → IsSooner (turn_of (class_fault.Unit k)) (turn_of fault) → NeedsAt 0) → ((k : ℕ) → IsSooner (turn_of (class_fault.Degree k)) (turn_of fault) → DegreeAt k)
+      → (g : ClassFault) → IsOf f.instance g → IsSooner (turn_of g) (turn_of fault) → Condition f.instance g
+  earlier fault some need first degree class_fault.Jobs w s = (some, t.few)
+  earlier fault some need first degree class_fault.Machines w s = t.machines
+  earlier fault some need first degree class_fault.Speeds w s = t.speeds
+  earlier fault some need first degree class_fault.Multiple w s = t.multiple
+  earlier fault some need first degree (class_fault.Need k) w s = need k w s
+  earlier fault some need first degree (class_fault.Unit k) w s = times_read b f t k w (first k s)
+  earlier fault some need first degree (class_fault.Head k) w s = (t.jobs k no_job w).release
+  earlier fault some need first degree (class_fault.Due k) w s = (t.jobs k no_job w).due
+  earlier fault some need first degree (class_fault.Weight k) w s = (t.jobs k no_job w).weight
+  earlier fault some need first degree (class_fault.Curve k) w s = (t.jobs k no_job w).curve
+  earlier fault some need first degree class_fault.Arcs w s = t.arcs
+  earlier fault some need first degree (class_fault.Arc at) w s = HasArc-from_all f.instance at t.ends t.once w
+  earlier fault some need first degree (class_fault.Degree k) w s = degree k s
 
-      first : (g : ClassFault) → IsOf f.instance g → IsSooner (turn_of g) (turn_of (class_fault.Need j)) → Condition f.instance g
-      first class_fault.Jobs w s = (omega arith, t.few)
-      first class_fault.Machines w s = t.machines
-      first class_fault.Speeds w s = t.speeds
-      first class_fault.Multiple w s = t.multiple
-      first (class_fault.Need k) w s = before k (numbers_in_order (turn_of (class_fault.Need k)) (turn_of (class_fault.Need j)) s refl refl)
-      first (class_fault.Unit k) w s = times_read b f t k w (before 0 (before_it k (numbers_in_order (turn_of (class_fault.Unit k)) (turn_of (class_fault.Need j)) s refl refl)))
-      first (class_fault.Head k) w s = (t.jobs k no_job w).release
-      first (class_fault.Due k) w s = (t.jobs k no_job w).due
-      first (class_fault.Weight k) w s = (t.jobs k no_job w).weight
-      first (class_fault.Curve k) w s = (t.jobs k no_job w).curve
-      first class_fault.Arcs w s = t.arcs
-      first (class_fault.Arc at) w s = HasArc-from_all f.instance at t.ends t.once w
-      first (class_fault.Degree k) w s = let late = parts_in_order (turn_of (class_fault.Degree k)) (turn_of (class_fault.Need j)) s in absurd (omega (arith, late))
+  need_broken : (j : ℕ) → j < length f.instance.jobs → ¬ NeedsAt j → ((k : ℕ) → k < j → NeedsAt k) → IsFirstFault f.instance (class_fault.Need j)
+  need_broken j within broken before = record {
+    within = within;
+    broken = broken;
+    first = earlier (class_fault.Need j) (omega arith) (λ k w s. before k (numbers_in_order (turn_of (class_fault.Need k)) (turn_of (class_fault.Need j)) s refl refl))
+        (λ k s. let less = numbers_in_order (turn_of (class_fault.Unit k)) (turn_of (class_fault.Need j)) s refl refl in before 0 (omega arith))
+        (λ k s. let late = parts_in_order (turn_of (class_fault.Degree k)) (turn_of (class_fault.Need j)) s in absurd (omega (arith, late)));
+  }
 
   module _ (some : 1 ≤ length f.instance.jobs) (needs : (k : ℕ) → k < length f.instance.jobs → NeedsAt k) where
     job_of : (k : ℕ) → k < length f.instance.jobs → IsJobOf text_limits f.instance (job_at f.instance k)
@@ -77,22 +83,12 @@ module _ (b : List ℕ) (f : Filed) (t : IsReadText b f) where
     all_jobs k d w = subst (IsJobOf text_limits f.instance) (get_or_default f.instance.jobs k no_job d w) (job_of k w)
 
     degree_broken : (j : ℕ) → j < length f.instance.jobs → ¬ DegreeAt j → ((k : ℕ) → k < j → DegreeAt k) → IsFirstFault f.instance (class_fault.Degree j)
-    degree_broken j within broken before = record { within = within; broken = broken; first = first }
-      where
-        first : (g : ClassFault) → IsOf f.instance g → IsSooner (turn_of g) (turn_of (class_fault.Degree j)) → Condition f.instance g
-        first class_fault.Jobs w s = (some, t.few)
-        first class_fault.Machines w s = t.machines
-        first class_fault.Speeds w s = t.speeds
-        first class_fault.Multiple w s = t.multiple
-        first (class_fault.Need k) w s = (job_of k w).needs
-        first (class_fault.Unit k) w s = (job_of k w).times
-        first (class_fault.Head k) w s = (job_of k w).release
-        first (class_fault.Due k) w s = (job_of k w).due
-        first (class_fault.Weight k) w s = (job_of k w).weight
-        first (class_fault.Curve k) w s = (job_of k w).curve
-        first class_fault.Arcs w s = t.arcs
-        first (class_fault.Arc at) w s = HasArc-from_all f.instance at t.ends t.once w
-        first (class_fault.Degree k) w s = before k (numbers_in_order (turn_of (class_fault.Degree k)) (turn_of (class_fault.Degree j)) s refl refl)
+    degree_broken j within broken before = record {
+      within = within;
+      broken = broken;
+      first = earlier (class_fault.Degree j) some (λ k w s. needs k w) (λ k s. needs 0 some)
+          (λ k s. before k (numbers_in_order (turn_of (class_fault.Degree k)) (turn_of (class_fault.Degree j)) s refl refl));
+    }
 
     meets : ((j : ℕ) → j < length f.instance.jobs → DegreeAt j) → MeetsConditions text_limits f.instance
     meets degree = record {

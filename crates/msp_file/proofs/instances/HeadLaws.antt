@@ -102,12 +102,10 @@ spelled_takes at (Ok d) c e = cc
 spelled_takes at (Err d) c e = absurd cc
 
 class_fields_take : (at : ℕ) (fields : List (List ℕ)) (c : Class) → class_in at fields ≡ Ok c → (spelling : List ℕ) × (fields ≡ codes "class" ∷ spelling ∷ []) × NameOf spelling c
-class_fields_take at [] c e = absurd cc
-class_fields_take at (w ∷ []) c e = absurd cc
 class_fields_take at (w ∷ name ∷ []) c e =
     let t = provided_ok (bytes_eq w (codes "class")) (Head at) (spelled_class at (reading_of name)) c e in
     (name, ap (λ v. v ∷ name ∷ []) (same_bytes w (codes "class") t.0), NameOf-from_reading name c (spelled_takes at (reading_of name) c t.1))
-class_fields_take at (w ∷ name ∷ v ∷ vs) c e = absurd cc
+class_fields_take at _ c e = absurd cc
 
 pub class_takes : (p : Place) (x : Class × Place) → class_at p ≡ Ok x → (spelling : List ℕ) × NameOf spelling x.0 × Takes p (class_text spelling) x.1
 unfolding class_at class_text
@@ -135,24 +133,14 @@ AreMachines e m = (1 ≤ m) × (m ≤ MOST_MACHINES) × MatchOption (fixed_machi
 
 -- a fixed number of machines is within the limits of texts
 fixed_in : (x : Env) → MatchOption (fixed_machines x) ⊤ (λ n. (1 ≤ n) × (n ≤ MOST_MACHINES))
-fixed_in env.One = (omega arith, omega arith)
-fixed_in env.P2 = (omega arith, omega arith)
-fixed_in env.P3 = (omega arith, omega arith)
 fixed_in env.P = tt
-fixed_in env.Q2 = (omega arith, omega arith)
 fixed_in env.Q = tt
-fixed_in env.R2 = (omega arith, omega arith)
 fixed_in env.R = tt
-fixed_in env.O2 = (omega arith, omega arith)
-fixed_in env.O3 = (omega arith, omega arith)
 fixed_in env.O = tt
-fixed_in env.F2 = (omega arith, omega arith)
-fixed_in env.F3 = (omega arith, omega arith)
 fixed_in env.F = tt
-fixed_in env.J2Short = (omega arith, omega arith)
 fixed_in env.JShort = tt
-fixed_in env.J2 = (omega arith, omega arith)
 fixed_in env.J = tt
+fixed_in _ = (omega arith, omega arith)
 
 machines_line_takes : (p : Place) (x : ℕ × Place) → machines_line_at p ≡ Ok x → Takes p (line_text (codes "machines" ∷ decimal x.0 ∷ [])) x.1 × ((1 ≤ x.0) × (x.0 ≤ MOST_MACHINES))
 machines_line_takes p x h = number_line_takes (codes "machines") what.Machines MOST_MACHINES p x (omega arith) h

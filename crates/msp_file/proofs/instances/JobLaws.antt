@@ -90,18 +90,12 @@ keyed_time : (t : Times) (k : EnvKind) (e : Env) (m : ℕ) (needs : List Need) �
     → IsKeyed (has_times t && has_one_time k) 1 GREATEST (time_of (has_times t && has_one_time k) needs)
 keyed_time General Identical e m needs shape h = h 0 no_need (omega (arith, shape.0))
 keyed_time General Uniform e m needs shape h = h 0 no_need (omega (arith, shape.0))
-keyed_time General Unrelated e m needs shape h = refl
-keyed_time General OpenShop e m needs shape h = refl
-keyed_time General FlowShop e m needs shape h = refl
-keyed_time General JobShop e m needs shape h = refl
-keyed_time UnitTimes k e m needs shape h = refl
-keyed_time Equal k e m needs shape h = refl
+keyed_time _ _ e m needs shape h = refl
 
 -- times that are written are those of texts
 written_times : (t : Times) (least : ℕ) (needs : List Need) → HasTimes least (greatest_time text_limits t) needs → has_times t ≡ true → HasTimes least GREATEST needs
 written_times General least needs h e = h
-written_times UnitTimes least needs h e = absurd cc
-written_times Equal least needs h e = absurd cc
+written_times _ least needs h e = absurd cc
 
 keys_are : (i : Instance) (j : Job) → IsJobOf text_limits i j → AreKeys i.class (keys_of i.class j)
 keys_are i j h =

@@ -1,5 +1,5 @@
 -- The lines after the head: what is read is the text of the jobs and arcs, and the text of jobs and arcs is read as those.
-use Rattle.std.proofs.Common.{◌≡◌, ℕ, ◌<◌, ◌≤◌, Bool, true, false, ◌&&◌, if◌then◌else◌, List, [], ◌∷◌, ◌++◌, length, All, Contains, Result, Ok, bytes_eq, codes, refl, sym, ap}
+use Rattle.std.proofs.Common.{◌≡◌, ℕ, ◌<◌, ◌≤◌, Bool, true, false, ◌&&◌, if◌then◌else◌, List, [], ◌∷◌, ◌++◌, length, All, Contains, Some, Result, Ok, bytes_eq, codes, refl, sym, ap}
 use Rattle.std.proofs.Common.{subst, ◌∙◌, append_assoc, append-nil, arith, length-append}
 use Rattle.std.proofs.lemmas.List.{get_or_at}
 use Rattle.std.proofs.lemmas.List.Elements.{All-push, All-nil}
@@ -16,10 +16,11 @@ use Rattle.msp_grammar.specs.ScheduleText.{name_at}
 use Rattle.msp_grammar.specs.Layout.{has_order, has_times}
 use Rattle.msp_grammar.specs.InstanceText.{line_text, key_fields, job_fields, times_text, route_text, curve_text, job_text, jobs_text, arc_fields, arcs_text}
 use Rattle.msp_grammar.specs.lines.Reading.{◌>>=◌, Place, line_at, fields_of, first_of, others_of, LineRead, job_read, more_read, end_read, end_at}
-use Rattle.msp_file.specs.instance.Reading.{with_arc, arc_line_at, job_at_line, arc_or_end, job_step, ReadsJobs, job_then, arc_after, jobs_end, jobs_fault}
+use Rattle.msp_file.specs.instance.Reading.{with_arc, arc_line_at, job_at_line, arc_or_end, job_step, arcs_from, jobs_from}
 use Rattle.msp_job_name.proofs.NameLists.{same_bytes}
 use Rattle.msp_file.proofs.instances.Apart.{apart_push, apart_before}
-use Rattle.msp_grammar.proofs.reading.LineLaws.{bind_ok, ok_is, Takes, Gets, Takes-then, fields_takes, line_then, end_text, end_field, last_is, no_answer, GetsBy}
+use Rattle.msp_grammar.proofs.reading.LineLaws.{bind_ok, ok_is, Takes, Gets, Takes-then, fields_takes, line_then, end_text, end_field}
+use Rattle.msp_grammar.proofs.reading.Lines.{line_less, Follows, lines_take, GetsLines, line_gets}
 use Rattle.msp_file.proofs.instances.NeedLaws.{HaveTime}
 use Rattle.msp_file.proofs.instances.JobLaws.{IsReadJob, job_rest, AddsJob, job_takes, job_again, job_line_fields}
 use Rattle.msp_file.proofs.instances.ArcLaws.{TakesArc, arc_or_end_takes, arc_again, arc_line_fields, AreArcs, AddsArcs, then_arcs, arcs_take, arc_in, arcs_again}
@@ -157,20 +158,25 @@ job_line_of c machines shared names jobs d p next bound same e = subst (λ (y : 
 not_both : (b : Bool) → b ≡ true → b ≡ false → ⊥
 not_both b e f = cc
 
-pub jobs_take : (c : Class) (machines shared : ℕ) (names : List (List ℕ)) (jobs : List Job) (d : Draft) (p : Place) (read : Result (Draft × Place) FileFault) (x : Draft × Place)
-    → machines ≤ MOST_MACHINES → AreJobs c shared names jobs → d ≡ draft_of names jobs → ReadsJobs c machines shared d p read → read ≡ Ok x → AddsLines c shared names jobs p x.0 x.1
-jobs_take c machines shared names jobs d p read x bound fit same (job_then _ e _ q _ step rest) is =
-    let t = job_line_of c machines shared names jobs d p (job_read e q) bound same step in
-    then_job c shared names jobs t.0 e p t.1 q x t.2 t.3 fit (λ ns js also good. jobs_take c machines shared ns js e q read x bound good also rest is)
-jobs_take c machines shared names jobs d p read x bound fit same (arc_after _ e _ q _ step rest) is =
-    let t = job_line_of c machines shared names jobs d p (more_read e q) bound same step in
-    let a = then_arcs (draft_of names jobs) t.0 e p q x t.1 t.2 (no_arc names) (λ good. arcs_take e q read x good rest is) in
-    only_arcs c shared names jobs p x.1 x.0 a fit (λ f. absurd (not_both (has_order c.order) t.3 f))
-jobs_take c machines shared names jobs d p read x bound fit same (jobs_end _ e _ q _ step ends) is =
-    let t = job_line_of c machines shared names jobs d p (end_read e q) bound same step in
-    subst (λ (y : Draft × Place). AddsLines c shared names jobs p y.0 y.1) (sym (last_is (draft_of names jobs) e q read x t.0 ends is))
-    (only_arcs c shared names jobs p q (draft_of names jobs) (record { more = []; added = refl; text = t.1; fit = no_arc names }) fit (λ f. refl))
-jobs_take c machines shared names jobs d p read x bound fit same (jobs_fault _ _ _ fault step fails) is = absurd (no_answer read x fault fails is)
+abbrev Lines : Class → ℕ → Draft → Place → Draft × Place → Type 0
+Lines c shared d p x = (names : List (List ℕ)) (jobs : List Job) → AreJobs c shared names jobs → d ≡ draft_of names jobs → AddsLines c shared names jobs p x.0 x.1
+
+jobs_on : (c : Class) (machines shared : ℕ) → machines ≤ MOST_MACHINES → (d : Draft) (p : Place) (line : LineRead Draft) (x : Draft × Place)
+    → job_step c machines shared d p ≡ Ok line → Follows (Some arcs_from) (Lines c shared) line x → Lines c shared d p x
+jobs_on c machines shared bound d p line x e k names jobs fit same = by line (job_line_of c machines shared names jobs d p line bound same e) k
+  where
+    by : (line : LineRead Draft) → TakesLine c shared (draft_of names jobs) p line → Follows (Some arcs_from) (Lines c shared) line x → AddsLines c shared names jobs p x.0 x.1
+    by (job_read e q) t k = then_job c shared names jobs t.0 e p t.1 q x t.2 t.3 fit (λ ns js also good. k ns js good also)
+    by (more_read e q) t k =
+        let a = then_arcs (draft_of names jobs) t.0 e p q x t.1 t.2 (no_arc names) (λ good. arcs_take e q x good k) in
+        only_arcs c shared names jobs p x.1 x.0 a fit (λ f. absurd (not_both (has_order c.order) t.3 f))
+    by (end_read e q) t k = subst (λ (y : Draft × Place). AddsLines c shared names jobs p y.0 y.1) (sym (k ∙ ap (λ (y : Draft). (y, q)) t.0))
+        (only_arcs c shared names jobs p q (draft_of names jobs) (record { more = []; added = refl; text = t.1; fit = no_arc names }) fit (λ f. refl))
+
+pub jobs_take : (c : Class) (machines shared : ℕ) (names : List (List ℕ)) (jobs : List Job) (d : Draft) (p : Place) (x : Draft × Place)
+    → machines ≤ MOST_MACHINES → AreJobs c shared names jobs → d ≡ draft_of names jobs → jobs_from c machines shared d p ≡ Ok x → AddsLines c shared names jobs p x.0 x.1
+jobs_take c machines shared names jobs d p x bound fit same e =
+    lines_take (job_step c machines shared) (Some arcs_from) (Lines c shared) (jobs_on c machines shared bound) _ d p x e names jobs fit same
 
 -- ---- what was written
 
@@ -190,7 +196,7 @@ has_some false a more h = let e = h refl in absurd cc
 -- the arcs, after the last job
 arcs_then : (i : Instance) (shared : ℕ) (names : List (List ℕ)) (jobs : List Job) (arcs : List Arc) (at : ℕ) (rest : List ℕ)
     → AreDistinct names → All IsJobName names → AreArcs names arcs → (has_order i.class.order ≡ false → arcs ≡ [])
-    → GetsBy (ReadsJobs i.class i.machines shared (draft_of names jobs) (record { at = at; rest = (arcs_text names arcs ++ end_text) ++ rest }))
+    → GetsLines (job_step i.class i.machines shared) (Some arcs_from) (draft_of names jobs) (record { at = at; rest = (arcs_text names arcs ++ end_text) ++ rest })
     (record { names = names; jobs = jobs; arcs = arcs }) rest
 unfolding job_step
 arcs_then i shared names jobs [] at rest apart spelled fit ordered =
@@ -198,7 +204,7 @@ arcs_then i shared names jobs [] at rest apart spelled fit ordered =
     let q : Place = record { at = l.0; rest = rest } in
     let last : job_next i.class i.machines shared at (draft_of names jobs) (codes "end" ∷ []) q ≡ Ok (end_read (draft_of names jobs) q) =
     neither (has_order i.class.order) (arc_line_at at (draft_of names jobs) [] >>= λ e. Ok (more_read e q)) (Ok (end_read (draft_of names jobs) q)) in
-    (l.0, jobs_end (draft_of names jobs) (draft_of names jobs) _ q _ (l.1 ∙ last) refl)
+    line_gets (job_step i.class i.machines shared) (Some arcs_from) (draft_of names jobs) _ (end_read (draft_of names jobs) q) (draft_of names jobs) rest (l.1 ∙ last) (λ n enough. (l.0, refl))
 arcs_then i shared names jobs (a ∷ more) at rest apart spelled fit ordered =
     let d : Draft = draft_of names jobs in
     let in_range = arc_in names [] a more fit in
@@ -214,7 +220,7 @@ arcs_then i shared names jobs (a ∷ more) at rest apart spelled fit ordered =
     ≡ Ok (more_read (with_arc (draft_of names jobs) a.before a.after) q) = ap (λ (b : List ℕ). job_step i.class i.machines shared (draft_of names jobs) (record { at = at; rest = b }))
     (regroup (line_text (arc_fields names a)) (arcs_text names more) end_text rest) ∙ l.1 ∙ first ∙ ap (λ r. r >>= λ e. Ok (more_read e q)) one in
     let g = arcs_again more (with_arc (draft_of names jobs) a.before a.after) l.0 rest apart spelled in_range.4 in
-    (g.0, arc_after (draft_of names jobs) (with_arc (draft_of names jobs) a.before a.after) _ q _ step g.1)
+    line_gets (job_step i.class i.machines shared) (Some arcs_from) (draft_of names jobs) _ (more_read (with_arc (draft_of names jobs) a.before a.after) q) _ rest step (λ n enough. g _ (omega arith))
 
 -- a name and a job at their places among others
 record AreIn (i : Instance) (shared : ℕ) (names : List (List ℕ)) (jobs : List Job) (name : List ℕ) (j : Job) : Type 0 where
@@ -252,18 +258,17 @@ job_then_again : (i : Instance) (shared : ℕ) (name : List ℕ) (more_names : L
     (j : Job) (more : List Job) (arcs : List Arc) (names : List (List ℕ)) (jobs : List Job) (at : ℕ) (rest : List ℕ) → i.machines ≤ MOST_MACHINES
     → AreTextJobs i shared (names ++ (name ∷ more_names)) (jobs ++ (j ∷ more)) → AreArcs (names ++ (name ∷ more_names)) arcs
     → ((next : ℕ) → AreTextJobs i shared ((names ++ name ∷ []) ++ more_names) ((jobs ++ j ∷ []) ++ more) → AreArcs ((names ++ name ∷ []) ++ more_names) arcs
-    → GetsBy (ReadsJobs i.class i.machines shared (draft_of (names ++ name ∷ []) (jobs ++ j ∷ []))
-    (record { at = next; rest = (jobs_text i.class more_names more ++ arcs_text ((names ++ name ∷ []) ++ more_names) arcs ++ end_text) ++ rest }))
+    → GetsLines (job_step i.class i.machines shared) (Some arcs_from) (draft_of (names ++ name ∷ []) (jobs ++ j ∷ []))
+    (record { at = next; rest = (jobs_text i.class more_names more ++ arcs_text ((names ++ name ∷ []) ++ more_names) arcs ++ end_text) ++ rest })
     (record { names = (names ++ name ∷ []) ++ more_names; jobs = (jobs ++ j ∷ []) ++ more; arcs = arcs }) rest)
-    → GetsBy (ReadsJobs i.class i.machines shared (draft_of names jobs)
-    (record { at = at; rest = (jobs_text i.class (name ∷ more_names) (j ∷ more) ++ arcs_text (names ++ (name ∷ more_names)) arcs ++ end_text) ++ rest }))
+    → GetsLines (job_step i.class i.machines shared) (Some arcs_from) (draft_of names jobs)
+    (record { at = at; rest = (jobs_text i.class (name ∷ more_names) (j ∷ more) ++ arcs_text (names ++ (name ∷ more_names)) arcs ++ end_text) ++ rest })
     (record { names = names ++ (name ∷ more_names); jobs = jobs ++ (j ∷ more); arcs = arcs }) rest
 unfolding job_step
-job_then_again i shared name more_names j more arcs names jobs at rest machines fit arcs_fit again = (
-  g.0,
-  job_then (draft_of names jobs) (draft_of (names ++ name ∷ []) (jobs ++ j ∷ [])) _ (record { at = one.0; rest = left })
-      _ (ap (λ (b : List ℕ). job_step i.class i.machines shared (draft_of names jobs) (record { at = at; rest = b })) text ∙ l.1 ∙ ap (λ r. r >>= λ e. Ok (job_read e.0 e.1)) one.1) g.1,
-)
+job_then_again i shared name more_names j more arcs names jobs at rest machines fit arcs_fit again =
+    line_gets (job_step i.class i.machines shared) (Some arcs_from) (draft_of names jobs) _ (job_read (draft_of (names ++ name ∷ []) (jobs ++ j ∷ [])) (record { at = one.0; rest = left })) _ rest
+    (ap (λ (b : List ℕ). job_step i.class i.machines shared (draft_of names jobs) (record { at = at; rest = b })) text ∙ l.1 ∙ ap (λ r. r >>= λ e. Ok (job_read e.0 e.1)) one.1)
+    (λ n enough. g n (omega (arith, less)))
   where
     all_names : List (List ℕ)
     all_names = names ++ (name ∷ more_names)
@@ -308,34 +313,39 @@ job_then_again i shared name more_names j more arcs names jobs at rest machines 
     fit_on : AreTextJobs i shared ((names ++ name ∷ []) ++ more_names) ((jobs ++ j ∷ []) ++ more)
     fit_on = subst (λ (js : List Job). AreTextJobs i shared ((names ++ name ∷ []) ++ more_names) js) (sym j_is) (subst (λ (ns : List (List ℕ)). AreTextJobs i shared ns all_jobs) (sym n_is) fit)
 
-    read : Place → Result (Draft × Place) FileFault → Type 0
-    read = ReadsJobs i.class i.machines shared (draft_of (names ++ name ∷ []) (jobs ++ j ∷ []))
+    less : length left < length ((jobs_text i.class (name ∷ more_names) (j ∷ more) ++ arcs_text all_names arcs ++ end_text) ++ rest)
+    less =
+        let more_left = line_less (job_fields i.class name j) (record { at = at; rest = line ++ (job_rest i.class j ++ left) }) (record { at = at; rest = job_rest i.class j ++ left }) refl in
+        let k = ap length text in
+        omega (arith, length-append (job_rest i.class j) left)
 
-    before : GetsBy (read (record { at = one.0; rest = (jobs_text i.class more_names more ++ arcs_text ((names ++ name ∷ []) ++ more_names) arcs ++ end_text) ++ rest }))
-        (record { names = (names ++ name ∷ []) ++ more_names; jobs = (jobs ++ j ∷ []) ++ more; arcs = arcs }) rest
+    Reads : List ℕ → Draft → Type 0
+    Reads text d = GetsLines (job_step i.class i.machines shared) (Some arcs_from) (draft_of (names ++ name ∷ []) (jobs ++ j ∷ [])) (record { at = one.0; rest = text }) d rest
+
+    before : Reads ((jobs_text i.class more_names more ++ arcs_text ((names ++ name ∷ []) ++ more_names) arcs ++ end_text) ++ rest)
+        (record { names = (names ++ name ∷ []) ++ more_names; jobs = (jobs ++ j ∷ []) ++ more; arcs = arcs })
     before = again one.0 fit_on (subst (λ (ns : List (List ℕ)). AreArcs ns arcs) (sym n_is) arcs_fit)
 
-    g : GetsBy (read (record { at = one.0; rest = left })) (record { names = all_names; jobs = all_jobs; arcs = arcs }) rest
-    g = subst (λ (js : List Job). GetsBy (read (record { at = one.0; rest = left })) (record { names = all_names; jobs = js; arcs = arcs }) rest) j_is
-        (subst (λ (ns : List (List ℕ)). GetsBy (read (record { at = one.0; rest = (jobs_text i.class more_names more ++ arcs_text ns arcs ++ end_text) ++ rest }))
-        (record { names = ns; jobs = (jobs ++ j ∷ []) ++ more; arcs = arcs }) rest) n_is before)
+    g : Reads left (record { names = all_names; jobs = all_jobs; arcs = arcs })
+    g = subst (λ (js : List Job). Reads left (record { names = all_names; jobs = js; arcs = arcs })) j_is
+        (subst (λ (ns : List (List ℕ)). Reads ((jobs_text i.class more_names more ++ arcs_text ns arcs ++ end_text) ++ rest)
+        (record { names = ns; jobs = (jobs ++ j ∷ []) ++ more; arcs = arcs })) n_is before)
 
 pub jobs_again : (i : Instance) (shared : ℕ) (more_names : List (List ℕ)) (more : List Job) (arcs : List Arc) (names : List (List ℕ)) (jobs : List Job) (at : ℕ) (rest : List ℕ)
     → i.machines ≤ MOST_MACHINES → length more_names ≡ length more
     → AreTextJobs i shared (names ++ more_names) (jobs ++ more) → AreArcs (names ++ more_names) arcs → (has_order i.class.order ≡ false → arcs ≡ [])
-    → GetsBy (ReadsJobs i.class i.machines shared (draft_of names jobs) (record { at = at; rest = (jobs_text i.class more_names more ++ arcs_text (names ++ more_names) arcs ++ end_text) ++ rest }))
+    → GetsLines (job_step i.class i.machines shared) (Some arcs_from) (draft_of names jobs)
+    (record { at = at; rest = (jobs_text i.class more_names more ++ arcs_text (names ++ more_names) arcs ++ end_text) ++ rest })
     (record { names = names ++ more_names; jobs = jobs ++ more; arcs = arcs }) rest
 jobs_again i shared [] (j ∷ more) arcs names jobs at rest machines even fit arcs_fit ordered = absurd (omega (arith, even))
 jobs_again i shared (name ∷ more_names) [] arcs names jobs at rest machines even fit arcs_fit ordered = absurd (omega (arith, even))
 jobs_again i shared [] [] arcs names jobs at rest machines even fit arcs_fit ordered =
-    let read = ReadsJobs i.class i.machines shared (draft_of names jobs) in
-    let here : GetsBy (read (record { at = at; rest = (arcs_text names arcs ++ end_text) ++ rest })) (record { names = names; jobs = jobs; arcs = arcs }) rest =
+    let Reads : List ℕ → Draft → Type 0 = λ text d. GetsLines (job_step i.class i.machines shared) (Some arcs_from) (draft_of names jobs) (record { at = at; rest = text }) d rest in
+    let here : Reads ((arcs_text names arcs ++ end_text) ++ rest) (record { names = names; jobs = jobs; arcs = arcs }) =
     arcs_then i shared names jobs arcs at rest (subst AreDistinct (append-nil names) fit.distinct)
     (subst (All IsJobName) (append-nil names) fit.spelled) (subst (λ (ns : List (List ℕ)). AreArcs ns arcs) (append-nil names) arcs_fit) ordered in
-    let named = subst (λ (ns : List (List ℕ)). GetsBy (read (record { at = at; rest = (arcs_text ns arcs ++ end_text) ++ rest })) (record { names = ns; jobs = jobs; arcs = arcs }) rest)
-    (sym (append-nil names)) here in
-    subst (λ (js : List Job). GetsBy (read (record { at = at; rest = (arcs_text (names ++ []) arcs ++ end_text) ++ rest })) (record { names = names ++ []; jobs = js; arcs = arcs }) rest)
-    (sym (append-nil jobs)) named
+    let named = subst (λ (ns : List (List ℕ)). Reads ((arcs_text ns arcs ++ end_text) ++ rest) (record { names = ns; jobs = jobs; arcs = arcs })) (sym (append-nil names)) here in
+    subst (λ (js : List Job). Reads ((arcs_text (names ++ []) arcs ++ end_text) ++ rest) (record { names = names ++ []; jobs = js; arcs = arcs })) (sym (append-nil jobs)) named
 jobs_again i shared (name ∷ more_names) (j ∷ more) arcs names jobs at rest machines even fit arcs_fit ordered =
     job_then_again i shared name more_names j more arcs names jobs at rest machines fit arcs_fit
     (λ next fit_on arcs_on. jobs_again i shared more_names more arcs (names ++ name ∷ []) (jobs ++ j ∷ []) next rest machines (omega (arith, even)) fit_on arcs_on ordered)

@@ -39,9 +39,6 @@ IsKeyedInteger false greatest x = x ≡ pos 0
 
 -- the field of a key, which comes first
 keyed_takes : (at letter : ℕ) (fields : List (List ℕ)) (w : List ℕ) → keyed_at at letter (first_of fields) ≡ Ok w → fields ≡ (letter ∷ 61 ∷ w) ∷ others_of fields
-keyed_takes at letter [] w e = absurd cc
-keyed_takes at letter ([] ∷ fs) w e = absurd cc
-keyed_takes at letter ((k ∷ []) ∷ fs) w e = absurd cc
 keyed_takes at letter ((k ∷ s ∷ v) ∷ fs) w e =
     let t = provided_ok ((k == letter) && (s == 61)) (Key at) (Ok v) w e in
     let both = and_parts (k == letter) (s == 61) t.0 in
@@ -49,6 +46,7 @@ keyed_takes at letter ((k ∷ s ∷ v) ∷ fs) w e =
     let b : s ≡ 61 = eqb-true s 61 both.1 in
     let c : v ≡ w = ok_is v w t.1 in
     cc
+keyed_takes at letter _ w e = absurd cc
 
 keyed_again : (at letter : ℕ) (w : List ℕ) → keyed_at at letter (letter ∷ 61 ∷ w) ≡ Ok w
 keyed_again at letter w = rw (eq-eqb letter letter refl) refl

@@ -1,18 +1,17 @@
 -- Reading counts the lines that it takes.
-use Rattle.std.proofs.Common.{◌≡◌, ℕ, ◌+◌, ◌*◌, nat_le, Bool, true, false, ◌&&◌, ◌==◌, List, ◌∷◌, [], ◌++◌, length, take, drop, Option, Some, None, inl, inr, Result, Ok, Err}
+use Rattle.std.proofs.Common.{◌≡◌, ℕ, zero, suc, ◌+◌, ◌*◌, nat_le, Bool, true, false, ◌&&◌, ◌==◌, List, ◌∷◌, [], ◌++◌, length, take, drop, Option, Some, None, Result, Ok, Err}
 use Rattle.std.proofs.Common.{count_by, cond, ap, ◌∙◌, position, bytes_eq, codes, refl, sym, subst, arith, if◌then◌else◌}
 use Rattle.std.proofs.lemmas.List.{take_rest}
 use Rattle.std.proofs.lemmas.List.Sums.{sum_by-append}
 use Rattle.std.proofs.lemmas.List.Splits.{length-slice_split}
 use Rattle.std.specs.List.{slice_split}
-use Rattle.msp_class.specs.declared.sizes.TheConstants.{MOST_OPERATIONS, MOST_STEPS}
+use Rattle.msp_class.specs.declared.sizes.TheConstants.{MOST_OPERATIONS, MOST_STEPS, GREATEST_MULTIPLE}
 use Rattle.msp_class.specs.Env.{fixed_machines}
 use Rattle.msp_class.specs.declared.class.Class.{Class}
 use Rattle.msp_class.specs.declared.class.Env.{Env}
 use Rattle.msp_class.specs.declared.class.Times.{Times}
 use Rattle.msp_class.specs.declared.class.Crit.{Crit}
 use Rattle.msp_name.proofs.Parts.{cut-slices}
-use Rattle.msp_instance.specs.Conditions.{HasSmallMultiple}
 use Rattle.msp_grammar.specs.declared.filed.Filed.{Filed}
 use Rattle.msp_grammar.specs.Layout.{has_order}
 use Rattle.msp_grammar.specs.declared.lines.fault.FileFault.{FileFault}
@@ -20,10 +19,10 @@ use Rattle.msp_grammar.specs.declared.lines.fault.FileFault.TheVariants.{Limit, 
 use Rattle.msp_grammar.specs.declared.lines.fault.What.{What}
 use Rattle.msp_grammar.specs.declared.lines.fault.What.TheVariants as what
 use Rattle.msp_file.specs.declared.instance.draft.Draft.{Draft}
-use Rattle.msp_grammar.specs.lines.Reading.{◌>>=◌, provided, Place, line_at, fields_of, first_of, others_of, worded_at, LineRead, job_read, more_read, end_read, more_then}
-use Rattle.msp_grammar.specs.lines.Reading.{more_end, more_fault, Then, number_line_at}
+use Rattle.msp_grammar.specs.lines.Reading.{◌>>=◌, provided, Place, line_at, fields_of, first_of, others_of, worded_at, LineRead, job_read, more_read, end_read, goes_on, lines_by}
+use Rattle.msp_grammar.specs.lines.Reading.{number_line_at}
 use Rattle.msp_file.specs.instance.Reading.{times_line_at, operations_in, is_route_count, route_line_at, steps_in, needs_at, curve_line_at, curve_at, job_at_line, arc_line_at}
-use Rattle.msp_file.specs.instance.Reading.{arc_or_end, arc_step, job_step, ReadsArcs, ReadsJobs, job_then, arc_after, jobs_end, jobs_fault, OnlyWhere, ReadsRest, ReadsLines}
+use Rattle.msp_file.specs.instance.Reading.{arc_or_end, arc_step, job_step, arcs_from, jobs_from, has_multiple, timed_from, speeds_from, lines_at}
 use Rattle.msp_file.specs.instance.Reading.{no_draft, version_at, class_at, machines_line_at, machines_at, speeds_line_at, speeds_at, time_at}
 
 -- The lines in what is left of a text.
@@ -150,28 +149,32 @@ after_job c machines shared d p =
     either after_line l.1 (bytes_eq (first_of fields) (codes "job")) _ _ (goes after after_line l.1 (job_at_line c machines shared d p.at (others_of fields) l.1)
     _ (job c machines shared d p.at (others_of fields) l.1) (λ e. stays after_line e.1 _ refl)) (arc_or_last (has_order c.order) p.at d fields l.1))
 
--- ---- relations
+-- ---- lines up to the end
 
--- what is left counts the same from another place on
-along : {A : Type 0} (left : A → Place) (p q : Place) (r : Result A FileFault) → lines q ≡ lines p → Counts left q r → Counts left p r
-along left p q r e h = record { same = λ x is. let there = h.same x is in omega arith }
+abbrev Reader : Type 0
+Reader = Draft → Place → Result (Draft × Place) FileFault
 
-ends : {A : Type 0} (left : A → Place) (p : Place) (r : Result A FileFault) (x : A) → r ≡ Ok x → lines (left x) ≡ lines p → Counts left p r
-ends left p r x is e = record { same = λ y h. let same : x ≡ y = cc in subst (λ z. lines (left z) ≡ lines p) same e }
+after_one : (other : Option Reader) (next : Reader) → ((d : Draft) (p : Place) → Counts {A = Draft × Place} after p (elim other [ None ↦ next d p | Some last ↦ last d p ]))
+    → ((d : Draft) (p : Place) → Counts after p (next d p)) → (l : LineRead Draft) → Counts after (after_line l) (goes_on other next l)
+after_one other next k h (job_read d p) = h d p
+after_one None next k h (more_read d p) = h d p
+after_one (Some last) next k h (more_read d p) = k d p
+after_one other next k h (end_read d p) = stays after p _ refl
 
-fails : {A : Type 0} (left : A → Place) (p : Place) (r : Result A FileFault) (e : FileFault) → r ≡ Err e → Counts left p r
-fails left p r e is = record { same = λ y h. absurd cc }
+each_line : (step : Draft → Place → Result (LineRead Draft) FileFault) (other : Option Reader)
+    → ((next : Reader) → ((d : Draft) (p : Place) → Counts after p (next d p)) → (d : Draft) (p : Place) → Counts {A = Draft × Place} after p (elim other [ None ↦ next d p | Some last ↦ last d p ]))
+    → ((d : Draft) (p : Place) → Counts after_line p (step d p)) → (n : ℕ) (d : Draft) (p : Place) → Counts after p (lines_by step other n d p)
+unfolding lines_by
+each_line step other k h zero d p = stops after p _
+each_line step other k h (suc n) d p =
+    let next = each_line step other k h n in
+    goes after_line after p (step d p) _ (h d p) (after_one other (lines_by step other n) (k (lines_by step other n) next) next)
 
-arcs : (d : Draft) (p : Place) (r : Result (Draft × Place) FileFault) → ReadsArcs d p r → Counts after p r
-arcs d p r (more_then _ e _ q _ step rest) = along after p q r ((after_arc d p).same (more_read e q) step) (arcs e q r rest)
-arcs d p r (more_end _ e _ q _ step is) = ends after p r (e, q) is ((after_arc d p).same (end_read e q) step)
-arcs d p r (more_fault _ _ _ fault step is) = fails after p r fault is
+arcs : (d : Draft) (p : Place) → Counts after p (arcs_from d p)
+arcs d p = each_line arc_step None (λ next h. h) after_arc _ d p
 
-jobs : (c : Class) (machines shared : ℕ) (d : Draft) (p : Place) (r : Result (Draft × Place) FileFault) → ReadsJobs c machines shared d p r → Counts after p r
-jobs c machines shared d p r (job_then _ e _ q _ step rest) = along after p q r ((after_job c machines shared d p).same (job_read e q) step) (jobs c machines shared e q r rest)
-jobs c machines shared d p r (arc_after _ e _ q _ step rest) = along after p q r ((after_job c machines shared d p).same (more_read e q) step) (arcs e q r rest)
-jobs c machines shared d p r (jobs_end _ e _ q _ step is) = ends after p r (e, q) is ((after_job c machines shared d p).same (end_read e q) step)
-jobs c machines shared d p r (jobs_fault _ _ _ fault step is) = fails after p r fault is
+jobs : (c : Class) (machines shared : ℕ) (d : Draft) (p : Place) → Counts after p (jobs_from c machines shared d p)
+jobs c machines shared d p = each_line (job_step c machines shared) (Some arcs_from) (λ next h. arcs) (after_job c machines shared) _ d p
 
 -- ---- the head
 
@@ -207,30 +210,24 @@ time : (t : Times) (p : Place) → Counts after p (time_at t p)
 unfolding time_at
 time t p = either after p _ _ _ (number_line _ _ _ p) (stays after p _ refl)
 
-then_counts : {A B : Type 0} (left : A → Place) (last : B → Place) (p : Place) (first : Result A FileFault) (next : A → Result B FileFault → Type 0) (r : Result B FileFault)
-    → Counts left p first → ((x : A) → next x r → Counts last (left x) r) → Then first next r → Counts last p r
-then_counts left last p (Ok x) next r h k t = along last p (left x) r (h.same x refl) (k x t)
-then_counts left last p (Err e) next r h k t = fails last p r e t
+timed_lines : (c : Class) (machines : ℕ) (p : Place) → Counts after p (timed_from c machines p)
+unfolding timed_from
+timed_lines c m p = goes after after p (time_at c.times p) _ (time c.times p) (λ t. jobs c m t.0 no_draft t.1)
 
-only_counts : {B : Type 0} (last : B → Place) (p : Place) (condition : Type 0) (fault : FileFault) (next : Result B FileFault → Type 0) (r : Result B FileFault)
-    → (next r → Counts last p r) → OnlyWhere condition fault next r → Counts last p r
-only_counts last p condition fault next r k (inl t) = k t.1
-only_counts last p condition fault next r k (inr t) = fails last p r fault t.1
-
-rest : (c : Class) (machines : ℕ) (speeds : List ℕ) (shared : ℕ) (p : Place) (r : Result (Filed × Place) FileFault) → ReadsRest c machines speeds shared p r → Counts after p r
-rest c m s shared p r h = subst (Counts after p) (sym h.filed) (goes after after p h.lines _ (jobs c m shared no_draft p h.lines h.reads) (λ l. stays after l.1 _ refl))
+speeds_lines : (c : Class) (machines : ℕ) (p : Place) → Counts after p (speeds_from c machines p)
+unfolding speeds_from
+speeds_lines c m p =
+    goes after after p (speeds_at c.env m p) _ (speeds c.env m p) (λ s.
+    given after s.1 (has_multiple GREATEST_MULTIPLE s.0) (Limit p.at what.Multiple) _ (
+    goes after after s.1 (timed_from c m s.1) _ (timed_lines c m s.1) (λ l. stays after l.1 _ refl)))
 
 -- the lines of an instance are counted
-lines_counted : (p : Place) (r : Result (Filed × Place) FileFault) → ReadsLines p r → Counts after p r
-unfolding ReadsLines
-lines_counted p r h =
-    then_counts place after p (version_at p) _ r (version p) (λ (p : Place).
-    then_counts after after p (class_at p) _ r (class_line p) (λ (c : Class × Place).
-    then_counts after after c.1 (machines_at c.0.env c.1) _ r (machines c.0.env c.1) (λ (m : ℕ × Place).
-    then_counts after after m.1 (speeds_at c.0.env m.0 m.1) _ r (speeds c.0.env m.0 m.1) (λ (s : List ℕ × Place).
-    only_counts after s.1 (HasSmallMultiple s.0) (Limit m.1.at what.Multiple) (Then (time_at c.0.times s.1) (λ (t : ℕ × Place). ReadsRest c.0 m.0 s.0 t.0 t.1)) r (
-    then_counts after after s.1 (time_at c.0.times s.1) (λ (t : ℕ × Place). ReadsRest c.0 m.0 s.0 t.0 t.1) r (time c.0.times s.1) (λ (t : ℕ × Place).
-    rest c.0 m.0 s.0 t.0 t.1 r)))))) h
+lines_counted : (p : Place) → Counts after p (lines_at p)
+unfolding lines_at
+lines_counted p =
+    goes place after p (version_at p) _ (version p) (λ q.
+    goes after after q (class_at q) _ (class_line q) (λ c.
+    goes after after c.1 (machines_at c.0.env c.1) _ (machines c.0.env c.1) (λ m. speeds_lines c.0 m.0 m.1)))
 
-pub line_after : (b : List ℕ) (x : Filed × Place) → ReadsLines (record { at = 1; rest = b }) (Ok x) → x.1.at + feeds x.1.rest ≡ 1 + feeds b
-line_after b x h = (lines_counted (record { at = 1; rest = b }) (Ok x) h).same x refl
+pub line_after : (b : List ℕ) (x : Filed × Place) → lines_at (record { at = 1; rest = b }) ≡ Ok x → x.1.at + feeds x.1.rest ≡ 1 + feeds b
+line_after b x h = (lines_counted (record { at = 1; rest = b })).same x h

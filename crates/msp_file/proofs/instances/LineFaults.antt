@@ -8,24 +8,23 @@ use Rattle.msp_class.specs.declared.class.Times.{Times}
 use Rattle.msp_instance.specs.declared.Need.{Need}
 use Rattle.msp_instance.specs.declared.Step.{Step}
 use Rattle.msp_name.specs.Reading.{reading_of}
-use Rattle.msp_class.specs.declared.sizes.TheConstants.{GREATEST, GREATEST_SPEED}
+use Rattle.msp_class.specs.declared.sizes.TheConstants.{GREATEST, GREATEST_SPEED, GREATEST_MULTIPLE}
 use Rattle.msp_grammar.specs.declared.lines.fault.What.{What}
 use Rattle.msp_grammar.specs.declared.lines.fault.FileFault.{FileFault}
 use Rattle.msp_grammar.specs.declared.lines.fault.FileFault.TheVariants.{Class as ClassBroken, Cycle, Memory, After, Head, Missing, Cut, Line, Count, Key, Name, Number, Limit}
 use Rattle.msp_grammar.specs.declared.lines.fault.FileFault.TheVariants.{Again, ArcAgain, Unknown}
 use Rattle.msp_grammar.specs.declared.lines.fault.What.TheVariants as what
-use Rattle.msp_instance.specs.Conditions.{HasSmallMultiple}
 use Rattle.msp_file.specs.declared.instance.draft.Draft.{Draft}
 use Rattle.msp_grammar.specs.declared.filed.Filed.{Filed}
 use Rattle.msp_grammar.specs.Layout.{has_order}
-use Rattle.msp_grammar.specs.lines.Reading.{first_of, others_of, ◌>>=◌, Place, line_at, fields_of, worded_at, natural_at, integer_at, job_name_at, known_at, machine_at, end_at, Then, front_of}
+use Rattle.msp_grammar.specs.lines.Reading.{first_of, others_of, ◌>>=◌, Place, line_at, fields_of, worded_at, natural_at, integer_at, job_name_at, known_at, machine_at, end_at, front_of}
 use Rattle.msp_file.specs.instance.Reading.{keyed_at, natural_key_at, integer_key_at, keys_at, job_line_at, with_need, times_at, times_line_at, timed_route_at, machine_route_at}
 use Rattle.msp_file.specs.instance.Reading.{operations_at, route_line_at, needs_at, with_step, steps_at, curve_fields_at, curve_line_at, curve_at, job_at_line, arc_line_at}
-use Rattle.msp_file.specs.instance.Reading.{arc_or_end, arc_step, job_step, ReadsArcs, ReadsJobs, job_then, arc_after, jobs_end, jobs_fault, OnlyWhere, ReadsRest, ReadsLines}
+use Rattle.msp_file.specs.instance.Reading.{arc_or_end, arc_step, job_step, arcs_from, jobs_from, has_multiple, timed_from, speeds_from, lines_at}
 use Rattle.msp_file.specs.instance.Reading.{ReadsFront, start_of, Reads, no_draft, version_at, class_in, spelled_class, class_at, machines_line_at, machines_at, speeds_in}
 use Rattle.msp_file.specs.instance.Reading.{speeds_line_at, speeds_at, time_line_at, time_at}
 use Rattle.msp_grammar.proofs.reading.LineFaults.{IsPlainFault, InBy, IsPlain, fine, bad, chain, given, either, line_plain, worded_plain, natural_plain, ordinal_plain}
-use Rattle.msp_grammar.proofs.reading.LineFaults.{number_line_plain, integer_plain, named_plain, known_plain, end_plain, is_fine, is_bad, more, then_in, whole_in}
+use Rattle.msp_grammar.proofs.reading.LineFaults.{number_line_plain, integer_plain, named_plain, known_plain, end_plain, lines_each, whole_in}
 
 -- The fault is one of a line.
 abbrev pub IsLineFault : FileFault → Type 0
@@ -43,18 +42,7 @@ plain_is (ClassBroken fault name) h = h
 plain_is (Cycle job name) h = h
 plain_is Memory h = h
 plain_is (After at) h = h
-plain_is (Head at) h = tt
-plain_is (Missing at) h = tt
-plain_is (Cut at) h = tt
-plain_is (Line at) h = tt
-plain_is (Count at) h = tt
-plain_is (Key at) h = tt
-plain_is (Name at) h = tt
-plain_is (Number at) h = tt
-plain_is (Limit at quantity) h = tt
-plain_is (Again at) h = tt
-plain_is (ArcAgain at) h = tt
-plain_is (Unknown at) h = tt
+plain_is _ h = tt
 
 widen : {A : Type 0} (r : Result A FileFault) → IsPlain r → InLines r
 widen r h = record { fault = λ e k. plain_is e (h.fault e k) }
@@ -78,9 +66,8 @@ known : (at : ℕ) (names : List (List ℕ)) (w : List ℕ) → InLines (known_a
 known at names w = widen _ (known_plain at names w)
 
 keyed : (at letter : ℕ) (w : List ℕ) → InLines (keyed_at at letter w)
-keyed at letter [] = bad _ tt
-keyed at letter (k ∷ []) = bad _ tt
 keyed at letter (k ∷ e ∷ w) = given _ _ _ tt (fine w)
+keyed at letter _ = bad _ tt
 
 natural_key : (at : ℕ) (b : Bool) (letter : ℕ) (q : What) (least greatest : ℕ) (fields : List (List ℕ)) → InLines (natural_key_at at b letter q least greatest fields)
 unfolding natural_key_at
@@ -184,14 +171,11 @@ after_job c machines shared d p =
     either (bytes_eq (first_of fields) (codes "job")) _ _ (chain (job_at_line c machines shared d p.at (others_of fields) l.1) _ (job c machines shared d p.at (others_of fields) l.1) (λ e. fine _))
     (arc_or_last (has_order c.order) p.at d fields l.1))
 
-arcs : (d : Draft) (p : Place) (r : Result (Draft × Place) FileFault) → ReadsArcs d p r → InLines r
-arcs d p r h = more arc_step after_arc d p r h
+arcs : (d : Draft) (p : Place) → InLines (arcs_from d p)
+arcs d p = lines_each arc_step None (λ at. tt) (λ next h. h) after_arc _ d p
 
-jobs : (c : Class) (machines shared : ℕ) (d : Draft) (p : Place) (r : Result (Draft × Place) FileFault) → ReadsJobs c machines shared d p r → InLines r
-jobs c machines shared d p r (job_then _ e _ q _ step rest) = jobs c machines shared e q r rest
-jobs c machines shared d p r (arc_after _ e _ q _ step rest) = arcs e q r rest
-jobs c machines shared d p r (jobs_end _ e _ q _ step is) = is_fine r (e, q) is
-jobs c machines shared d p r (jobs_fault _ _ _ fault step is) = is_bad r (job_step c machines shared d p) fault (after_job c machines shared d p) step is
+jobs : (c : Class) (machines shared : ℕ) (d : Draft) (p : Place) → InLines (jobs_from c machines shared d p)
+jobs c machines shared d p = lines_each (job_step c machines shared) (Some arcs_from) (λ at. tt) (λ next h. arcs) (after_job c machines shared) _ d p
 
 version : (p : Place) → InLines (version_at p)
 unfolding version_at
@@ -202,10 +186,8 @@ spelled at (Ok c) = fine c
 spelled at (Err e) = bad _ tt
 
 class_fields : (at : ℕ) (fields : List (List ℕ)) → InLines (class_in at fields)
-class_fields at [] = bad _ tt
-class_fields at (w ∷ []) = bad _ tt
 class_fields at (w ∷ name ∷ []) = given _ _ _ tt (spelled at (reading_of name))
-class_fields at (w ∷ name ∷ v ∷ ws) = bad _ tt
+class_fields at _ = bad _ tt
 
 class_line : (p : Place) → InLines (class_at p)
 unfolding class_at
@@ -242,32 +224,30 @@ time_read : (t : Times) (p : Place) → InLines (time_at t p)
 unfolding time_at
 time_read t p = either _ _ _ (time_line p) (fine _)
 
-only_in : {B : Type 0} (condition : Type 0) (fault : FileFault) (next : Result B FileFault → Type 0) (r : Result B FileFault)
-    → IsLineFault fault → (next r → InLines r) → OnlyWhere condition fault next r → InLines r
-only_in condition fault next r h k (inl t) = k t.1
-only_in condition fault next r h k (inr t) = subst InLines (sym t.1) (bad fault h)
+timed_lines : (c : Class) (machines : ℕ) (p : Place) → InLines (timed_from c machines p)
+unfolding timed_from
+timed_lines c machines p = chain (time_at c.times p) _ (time_read c.times p) (λ t. jobs c machines t.0 no_draft t.1)
 
-rest : (c : Class) (machines : ℕ) (speeds : List ℕ) (shared : ℕ) (p : Place) (r : Result (Filed × Place) FileFault) → ReadsRest c machines speeds shared p r → InLines r
-rest c machines speeds shared p r h = subst InLines (sym h.filed) (chain h.lines _ (jobs c machines shared no_draft p h.lines h.reads) (λ l. fine _))
+speeds_lines : (c : Class) (machines : ℕ) (p : Place) → InLines (speeds_from c machines p)
+unfolding speeds_from
+speeds_lines c machines p =
+    chain (speeds_at c.env machines p) _ (speeds_read c.env machines p) (λ s.
+    given (has_multiple GREATEST_MULTIPLE s.0) (Limit p.at what.Multiple) _ tt (chain (timed_from c machines s.1) _ (timed_lines c machines s.1) (λ l. fine _)))
 
 -- the reading of the lines of an instance
-pub lines_in : (p : Place) (r : Result (Filed × Place) FileFault) → ReadsLines p r → InLines r
-unfolding ReadsLines
-lines_in p r h =
-    then_in (version_at p) _ r (version p) (λ (p : Place).
-    then_in (class_at p) _ r (class_line p) (λ (c : Class × Place).
-    then_in (machines_at c.0.env c.1) _ r (machines_read c.0.env c.1) (λ (m : ℕ × Place).
-    then_in (speeds_at c.0.env m.0 m.1) _ r (speeds_read c.0.env m.0 m.1) (λ (s : List ℕ × Place).
-    only_in (HasSmallMultiple s.0) (Limit m.1.at what.Multiple) (Then (time_at c.0.times s.1) (λ (t : ℕ × Place). ReadsRest c.0 m.0 s.0 t.0 t.1)) r tt (
-    then_in (time_at c.0.times s.1) (λ (t : ℕ × Place). ReadsRest c.0 m.0 s.0 t.0 t.1) r (time_read c.0.times s.1) (λ (t : ℕ × Place).
-    rest c.0 m.0 s.0 t.0 t.1 r)))))) h
+pub lines_in : (p : Place) → InLines (lines_at p)
+unfolding lines_at
+lines_in p =
+    chain (version_at p) _ (version p) (λ q.
+    chain (class_at q) _ (class_line q) (λ c.
+    chain (machines_at c.0.env c.1) _ (machines_read c.0.env c.1) (λ m. speeds_lines c.0 m.0 m.1)))
 
 -- what follows the lines is the one fault of a text beside those of its lines
 pub whole : (b : List ℕ) (e : FileFault) → Reads b (Err e) → IsLineFault e ⊎ ((at : ℕ) × (e ≡ After at))
-whole b e h = whole_in h.lines e (lines_in (start_of b) h.lines h.reads) h.is
+whole b e h = whole_in (lines_at (start_of b)) e (lines_in (start_of b)) (sym h)
 
 pub front : (b : List ℕ) (e : FileFault) → ReadsFront b (Err e) → IsLineFault e
-front b e h = by h.lines (lines_in (start_of b) h.lines h.reads) h.is
+front b e h = by (lines_at (start_of b)) (lines_in (start_of b)) (sym h)
   where
     by : (lines : Result (Filed × Place) FileFault) → InLines lines → Err e ≡ (lines >>= front_of) → IsLineFault e
     by (Err d) k is = let same : d ≡ e = cc in k.fault e (ap Err same)

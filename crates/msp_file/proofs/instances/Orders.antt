@@ -18,7 +18,7 @@ use Rattle.msp_instance.proofs.OrderLemmas.{Contains-from_waiting, waiting-some}
 use Rattle.msp_instance.proofs.SearchLemmas.{HasPath-push, HasPath-closed}
 use Rattle.msp_instance.proofs.CycleLemmas.{IsSequence-from_longest, GoesForward-from_longest, cycle_from_short}
 use Rattle.msp_file.proofs.instances.Apart.{apart_push}
-use Rattle.msp_file.proofs.instances.Deciding.{Told, both, unless, equal_told, true_told, false_told, first_broken, some_below}
+use Rattle.msp_file.proofs.instances.Deciding.{Told, both, unless, equal_told, true_told, false_told, first_broken, some_below, or_right, or_left}
 
 not_in : (xs : List ℕ) (k : ℕ) → list_any (λ x. x == k) xs ≡ false → ¬ Contains xs k
 not_in xs k e c = false≢true (sym e ∙ list_any-from_Contains xs k c)
@@ -120,14 +120,6 @@ module _ (arcs : List Arc) (n : ℕ) (ends : All (λ a. (a.before < n) × (a.aft
     | inl e ↦ Contains-from_list_any xs k e
     | inr e ↦ absurd (none k (All-contains (λ a. (a.before < n) × (a.after < n)) arcs (record { before = j; after = k }) ends step).1 (e, leads_here xs j k from step))
   ]
-
-  or_right : (a b : Bool) → b ≡ true → (a || b) ≡ true
-  or_right true b h = refl
-  or_right false b h = h
-
-  or_left : (a b : Bool) → a ≡ true → (a || b) ≡ true
-  or_left true b h = refl
-  or_left false b h = absurd cc
 
   path_told_from : (fuel : ℕ) (xs : List ℕ) → IsReached xs → n < fuel + length xs → (k : ℕ) → Told (HasPath arcs start k)
   unfolding IsMore

@@ -1,5 +1,5 @@
 -- Whole texts: what is read is an instance text, and an instance text is read as its instance.
-use Rattle.std.proofs.Common.{◌≡◌, ◌≢◌, inl, inr, ℕ, ◌<◌, ◌≤◌, false, List, [], ◌∷◌, ◌++◌, length, All, AllPairs, Result, Ok, refl, sym, ap, subst, ◌∙◌, append_assoc, append-nil}
+use Rattle.std.proofs.Common.{◌≡◌, ◌≢◌, ℕ, ◌<◌, ◌≤◌, false, List, [], ◌∷◌, ◌++◌, length, All, AllPairs, Result, Ok, refl, sym, ap, subst, ◌∙◌, append_assoc, append-nil}
 use Rattle.std.proofs.Common.{arith, eqb-true, codes}
 use Rattle.std.specs.Prelude.{slice_index_or, true, if◌then◌else◌, decimal}
 use Rattle.std.proofs.lemmas.List.{nil_from_length}
@@ -18,7 +18,7 @@ use Rattle.msp_instance.specs.declared.Arc.{Arc}
 use Rattle.msp_instance.specs.declared.Need.{Need}
 use Rattle.msp_instance.specs.Instance.{no_need, no_job, job_at, common_time}
 use Rattle.msp_instance.specs.Conditions.{text_limits, least_time, greatest_time, HasNeeds, HasSameTimes, HasMachines, HasSpeeds, HasSmallMultiple, HasArcs, MeetsConditions}
-use Rattle.msp_class.specs.declared.sizes.TheConstants.{MOST_JOBS, MOST_ARCS}
+use Rattle.msp_class.specs.declared.sizes.TheConstants.{MOST_JOBS, MOST_ARCS, GREATEST_MULTIPLE}
 use Rattle.msp_grammar.specs.declared.lines.fault.FileFault.{FileFault}
 use Rattle.msp_grammar.specs.declared.lines.fault.FileFault.TheVariants.{Limit}
 use Rattle.msp_grammar.specs.declared.lines.fault.What.TheVariants as what
@@ -27,16 +27,17 @@ use Rattle.msp_file.specs.declared.instance.draft.Draft.{Draft}
 use Rattle.msp_job_name.specs.JobName.{IsJobName, AreDistinct}
 use Rattle.msp_grammar.specs.Layout.{has_order, has_times, has_time_line}
 use Rattle.msp_grammar.specs.InstanceText.{line_text, class_text, machines_text, speeds_text, time_text, head_text, jobs_text, arcs_text, instance_text, AreNamesOf, IsInstanceText}
-use Rattle.msp_grammar.specs.lines.Reading.{Place, Then, all_of, front_of}
-use Rattle.msp_file.specs.instance.Reading.{version_at, class_at, machines_at, speeds_at, time_at, no_draft, filed_of, ReadsJobs, OnlyWhere, ReadsRest, ReadsLines, start_of, Reads, ReadsFront}
-use Rattle.msp_grammar.proofs.reading.LineLaws.{bind_ok, provided_ok, ok_is, Takes, Gets, Takes-then, end_text, GetsBy, spread}
+use Rattle.msp_grammar.specs.lines.Reading.{Place, all_of, front_of}
+use Rattle.msp_file.specs.instance.Reading.{version_at, class_at, machines_at, speeds_at, time_at, no_draft, filed_of, jobs_from}
+use Rattle.msp_file.specs.instance.Reading.{has_multiple, timed_from, speeds_from, lines_at, start_of, Reads, ReadsFront}
+use Rattle.msp_grammar.proofs.reading.LineLaws.{bind_ok, provided_ok, bind_again, provided_again, ok_is, Takes, Gets, Takes-then, end_text, spread}
 use Rattle.msp_file.proofs.instances.HeadLaws.{AreMachines, IsShared, version_takes, version_again, class_takes, class_again, machines_takes, machines_again, speeds_takes}
 use Rattle.msp_file.proofs.instances.HeadLaws.{speeds_again, time_takes, time_again}
 use Rattle.msp_file.proofs.instances.NeedLaws.{HaveTime}
 use Rattle.msp_file.proofs.instances.JobLaws.{IsReadJob}
 use Rattle.msp_file.proofs.instances.ArcLaws.{AreArcs}
 use Rattle.msp_file.proofs.instances.JobsLaws.{AreJobs, AddsLines, AreTextJobs, jobs_take, jobs_again, regroup}
-use Rattle.msp_grammar.proofs.reading.Readings.{then_ok, then_again}
+use Rattle.msp_file.proofs.instances.Deciding.{small_found, small_there}
 
 -- The lines before those of the jobs, with the time that all operations share.
 abbrev pub shared_head : List ℕ → Class → ℕ → List ℕ → ℕ → List ℕ
@@ -72,10 +73,7 @@ version_text = line_text (codes "msp" ∷ codes "1" ∷ [])
 
 has_arcs : (o : Order) (arcs : List Arc) → (has_order o ≡ false → arcs ≡ []) → length arcs ≤ MOST_ARCS → HasArcs o arcs
 has_arcs Free arcs h few = h refl
-has_arcs Chains arcs h few = few
-has_arcs Intree arcs h few = few
-has_arcs Outtree arcs h few = few
-has_arcs Prec arcs h few = few
+has_arcs _ arcs h few = few
 
 no_jobs : (c : Class) (shared : ℕ) → AreJobs c shared [] []
 no_jobs c shared = record {
@@ -133,32 +131,28 @@ together b spelling c machines speeds shared p q r d is spells good_machines goo
       },
     )
 
-only_ok : {B : Type 0} (condition : Type 0) (fault : FileFault) (next : Result B FileFault → Type 0) (y : B) → OnlyWhere condition fault next (Ok y) → condition × next (Ok y)
-only_ok condition fault next y (inl h) = h
-only_ok condition fault next y (inr h) = let e = h.1 in absurd cc
-
-pub lines_take : (start : Place) (f : Filed × Place) → ReadsLines start (Ok f) → IsFront start.rest f
-unfolding ReadsLines
+pub lines_take : (start : Place) (f : Filed × Place) → lines_at start ≡ Ok f → IsFront start.rest f
+unfolding lines_at speeds_from timed_from
 lines_take start f h =
-    let v = then_ok (version_at start) _ f h in
-    let c = then_ok (class_at v.0) _ f v.2 in
-    let m = then_ok (machines_at c.0.0.env c.0.1) _ f c.2 in
-    let s = then_ok (speeds_at c.0.0.env m.0.0 m.0.1) _ f m.2 in
-    let multiple = only_ok (HasSmallMultiple s.0.0) (Limit m.0.1.at what.Multiple) (Then (time_at c.0.0.times s.0.1) (λ (t : ℕ × Place). ReadsRest c.0.0 m.0.0 s.0.0 t.0 t.1)) f s.2 in
-    let t = then_ok (time_at c.0.0.times s.0.1) (λ (t : ℕ × Place). ReadsRest c.0.0 m.0.0 s.0.0 t.0 t.1) f multiple.1 in
-    let rest : ReadsRest c.0.0 m.0.0 s.0.0 t.0.0 t.0.1 (Ok f) = t.2 in
-    let d = bind_ok rest.lines _ f (sym rest.filed) in
+    let v = bind_ok (version_at start) _ f h in
+    let c = bind_ok (class_at v.0) _ f v.2 in
+    let m = bind_ok (machines_at c.0.0.env c.0.1) _ f c.2 in
+    let s = bind_ok (speeds_at c.0.0.env m.0.0 m.0.1) _ f m.2 in
+    let multiple = provided_ok (has_multiple GREATEST_MULTIPLE s.0.0) (Limit m.0.1.at what.Multiple) _ f s.2 in
+    let d = bind_ok (timed_from c.0.0 m.0.0 s.0.1) _ f multiple.1 in
+    let t = bind_ok (time_at c.0.0.times s.0.1) _ d.0 d.1 in
     let class_taken = class_takes v.0 c.0 c.1 in
     let machines_taken = machines_takes c.0.0.env c.0.1 m.0 m.1 in
     let speeds_taken = speeds_takes c.0.0.env m.0.0 m.0.1 s.0 s.1 in
     let time_taken = time_takes c.0.0.times s.0.1 t.0 t.1 in
-    let lines = jobs_take c.0.0 m.0.0 t.0.0 [] [] no_draft t.0.1 rest.lines d.0 machines_taken.1.1 (no_jobs c.0.0 t.0.0) refl rest.reads d.1 in
+    let lines = jobs_take c.0.0 m.0.0 t.0.0 [] [] no_draft t.0.1 d.0 machines_taken.1.1 (no_jobs c.0.0 t.0.0) refl t.2 in
     let two = Takes-then start v.0 c.0.1 version_text (class_text class_taken.0) (version_takes start v.0 v.1) class_taken.2 in
     let three = Takes-then start c.0.1 m.0.1 (version_text ++ class_text class_taken.0) (machines_text c.0.0.env m.0.0) two machines_taken.0 in
     let four = Takes-then start m.0.1 s.0.1 (version_text ++ class_text class_taken.0 ++ machines_text c.0.0.env m.0.0) (speeds_text c.0.0.env s.0.0) three speeds_taken.0 in
     let head = Takes-then start s.0.1 t.0.1 (version_text ++ class_text class_taken.0 ++ machines_text c.0.0.env m.0.0 ++ speeds_text c.0.0.env s.0.0)
     (time_text c.0.0.times t.0.0) four time_taken.0 in
-    let found = together start.rest class_taken.0 c.0.0 m.0.0 s.0.0 t.0.0 start t.0.1 d.0.1 d.0.0 refl class_taken.1 machines_taken.1 speeds_taken.1 multiple.0 time_taken.1 head lines in
+    let found = together start.rest class_taken.0 c.0.0 m.0.0 s.0.0 t.0.0 start t.0.1 d.0.1 d.0.0 refl class_taken.1 machines_taken.1 speeds_taken.1
+    (small_found s.0.0 multiple.0) time_taken.1 head lines in
     subst (IsFront start.rest) (ok_is (filed_of c.0.0 m.0.0 s.0.0 d.0.0, d.0.1) f d.2) found
 
 -- the text ends where the lines do
@@ -171,13 +165,13 @@ whole_of b x f t e =
 
 pub whole_takes : (b : List ℕ) (f : Filed) → Reads b (Ok f) → IsReadText b f
 whole_takes b f h =
-    let x = bind_ok h.lines all_of f (sym h.is) in
-    whole_of b x.0 f (lines_take (start_of b) x.0 (subst (ReadsLines (start_of b)) x.1 h.reads)) x.2
+    let x = bind_ok (lines_at (start_of b)) all_of f h in
+    whole_of b x.0 f (lines_take (start_of b) x.0 x.1) x.2
 
 pub front_takes : (b : List ℕ) (f : Filed) → ReadsFront b (Ok f) → (front : List ℕ) × IsReadText front f
 front_takes b f h =
-    let x = bind_ok h.lines front_of f (sym h.is) in
-    let t = lines_take (start_of b) x.0 (subst (ReadsLines (start_of b)) x.1 h.reads) in
+    let x = bind_ok (lines_at (start_of b)) front_of f h in
+    let t = lines_take (start_of b) x.0 x.1 in
     (t.0, subst (IsReadText t.0) (ok_is x.0.0 f x.2) t.2)
 
 -- ---- the time that all operations share
@@ -188,25 +182,19 @@ first_need i some h = omega (arith, h.some.2)
 
 least_equal : (k : EnvKind) → 1 ≤ least_time k Equal
 least_equal Identical = omega arith
-least_equal Uniform = omega arith
-least_equal Unrelated = omega arith
-least_equal OpenShop = omega arith
-least_equal FlowShop = omega arith
-least_equal JobShop = omega arith
+least_equal _ = omega arith
 
 -- The time that is read of the text of an instance whose operations share this one.
 abbrev shared_time_of : Times → ℕ → ℕ
 shared_time_of t common = if has_time_line t then common else 1
 
 shared_is : (t : Times) (common : ℕ) → has_time_line t ≡ true → common ≡ shared_time_of t common
-shared_is General common e = absurd cc
-shared_is UnitTimes common e = absurd cc
 shared_is Equal common e = refl
+shared_is _ common e = absurd cc
 
 sharing_of : (t : Times) (k : EnvKind) (common : ℕ) → (least_time k t ≤ common) × (common ≤ greatest_time text_limits t) → IsShared t (shared_time_of t common)
-sharing_of General k common h = refl
-sharing_of UnitTimes k common h = refl
 sharing_of Equal k common h = (omega (arith, least_equal k, h.0), h.1)
+sharing_of _ k common h = refl
 
 shared_in : (i : Instance) → MeetsConditions text_limits i → IsShared i.class.times (shared_time_of i.class.times (common_time i))
 shared_in i h =
@@ -215,8 +203,7 @@ shared_in i h =
 
 all_same : (t : Times) (common : ℕ) (needs : List Need) → HasSameTimes t common needs → HaveTime (has_times t) (shared_time_of t common) needs
 all_same General common needs h = tt
-all_same UnitTimes common needs h = h
-all_same Equal common needs h = h
+all_same _ common needs h = h
 
 -- what was read has the conditions on times
 same_times : (t : Times) (shared common : ℕ) (needs : List Need) → IsShared t shared → (t ≡ Equal → common ≡ shared) → HaveTime (has_times t) shared needs → HasSameTimes t common needs
@@ -240,9 +227,8 @@ times_read b f t j within h = same_times f.instance.class.times t.shared (common
 
 time_text_is : (t : Times) (shared common : ℕ) → (t ≡ Equal → common ≡ shared) → time_text t shared ≡ time_text t common
 unfolding time_text
-time_text_is General shared common is = refl
-time_text_is UnitTimes shared common is = refl
 time_text_is Equal shared common is = ap (λ (n : ℕ). line_text (codes "time" ∷ decimal n ∷ [])) (sym (is refl))
+time_text_is _ shared common is = refl
 
 pub text_read : (b : List ℕ) (f : Filed) (t : IsReadText b f)
     → 1 ≤ length f.instance.jobs → HasNeeds text_limits f.instance (job_at f.instance 0).needs → b ≡ instance_text t.spelling f.names f.instance
@@ -256,24 +242,18 @@ text_read b f t some h =
 
 arcs_few : (o : Order) (arcs : List Arc) → HasArcs o arcs → (has_order o ≡ false → arcs ≡ []) × (length arcs ≤ MOST_ARCS)
 arcs_few Free arcs h = (λ e. h, omega (arith, ap length h))
-arcs_few Chains arcs h = (λ e. absurd cc, h)
-arcs_few Intree arcs h = (λ e. absurd cc, h)
-arcs_few Outtree arcs h = (λ e. absurd cc, h)
-arcs_few Prec arcs h = (λ e. absurd cc, h)
+arcs_few _ arcs h = (λ e. absurd cc, h)
 
 lines_again : (spelling : List ℕ) (i : Instance) (names : List (List ℕ)) (rest : List ℕ) → NameOf spelling i.class → AreNamesOf names i
-    → MeetsConditions text_limits i → GetsBy (ReadsLines (start_of (instance_text spelling names i ++ rest))) (record { instance = i; names = names }) rest
-unfolding ReadsLines instance_text head_text
+    → MeetsConditions text_limits i → Gets (lines_at (start_of (instance_text spelling names i ++ rest))) (record { instance = i; names = names }) rest
+unfolding lines_at speeds_from timed_from instance_text head_text
 lines_again spelling i names rest spells named h = (
   d.0,
-  then_again _ _ _ _ (ap (λ (b : List ℕ). version_at (record { at = 1; rest = b })) text ∙ v.1) (
-      then_again _ _ _ _ c.1 (
-      then_again _ _ _ _ m.1 (
-      then_again _ _ _ _ s.1 (inl (
-        h.multiple,
-        (
-            then_again _ _ _ _ t.1 (record { lines = Ok (record { names = names; jobs = i.jobs; arcs = i.arcs }, record { at = d.0; rest = rest }); reads = d.1; filed = refl })),
-      ))))),
+  bind_again _ _ _ _ (ap (λ (b : List ℕ). version_at (record { at = 1; rest = b })) text ∙ v.1) (
+      bind_again _ _ _ _ c.1 (
+      bind_again _ _ _ _ m.1 (
+      bind_again _ _ _ _ s.1 (
+      provided_again _ _ _ _ (small_there i.speeds h.multiple) (bind_again _ _ _ _ (bind_again _ _ _ _ t.1 d.1) refl))))),
 )
   where
     shared : ℕ
@@ -328,16 +308,15 @@ lines_again spelling i names rest spells named h = (
     arcs_fit : AreArcs names i.arcs
     arcs_fit = record { ends = subst (λ (n : ℕ). All (λ a. (a.before < n) × (a.after < n)) i.arcs) (sym named.one_each) h.ends; once = h.once; few = few.1 }
 
-    d : GetsBy (ReadsJobs i.class i.machines shared no_draft (record { at = t.0; rest = lines })) (record { names = names; jobs = i.jobs; arcs = i.arcs }) rest
-    d = jobs_again i shared names i.jobs i.arcs [] [] t.0 rest h.machines.1 named.one_each fit arcs_fit few.0
+    d : Gets (jobs_from i.class i.machines shared no_draft (record { at = t.0; rest = lines })) (record { names = names; jobs = i.jobs; arcs = i.arcs }) rest
+    d = jobs_again i shared names i.jobs i.arcs [] [] t.0 rest h.machines.1 named.one_each fit arcs_fit few.0 _ (omega arith)
 
 pub front_again : (b text rest : List ℕ) (i : Instance) (names : List (List ℕ))
-    → b ≡ text ++ rest → IsInstanceText text i names → GetsBy (ReadsLines (start_of b)) (record { instance = i; names = names }) rest
+    → b ≡ text ++ rest → IsInstanceText text i names → Gets (lines_at (start_of b)) (record { instance = i; names = names }) rest
 front_again b text rest i names whole h =
     let same : b ≡ instance_text h.spelling names i ++ rest = whole ∙ ap (λ (t : List ℕ). t ++ rest) h.text in
-    subst (λ (t : List ℕ). GetsBy (ReadsLines (start_of t)) (record { instance = i; names = names }) rest) (sym same) (lines_again h.spelling i names rest h.spells h.named h.in_class.conditions)
+    subst (λ (t : List ℕ). Gets (lines_at (start_of t)) (record { instance = i; names = names }) rest) (sym same) (lines_again h.spelling i names rest h.spells h.named h.in_class.conditions)
 
 pub whole_again : (b : List ℕ) (i : Instance) (names : List (List ℕ)) → IsInstanceText b i names → Reads b (Ok (record { instance = i; names = names }))
 whole_again b i names h =
-    let g = front_again b b [] i names (sym (append-nil b)) h in
-    record { lines = Ok (record { instance = i; names = names }, record { at = g.0; rest = [] }); reads = g.1; is = refl }
+    let g = front_again b b [] i names (sym (append-nil b)) h in bind_again (lines_at (start_of b)) all_of _ _ g.1 refl

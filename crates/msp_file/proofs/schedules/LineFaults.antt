@@ -1,17 +1,17 @@
 -- The faults of the lines of a schedule.
-use Rattle.std.proofs.Common.{◌≡◌, ◌⊎◌, inl, inr, ℕ, ap, sym, ◌==◌, List, [], length, Result, Ok, Err, bytes_eq, codes, ℤ, nat_lt, subst}
+use Rattle.std.proofs.Common.{◌≡◌, ◌⊎◌, inl, inr, ℕ, ap, sym, ◌==◌, List, [], length, None, Result, Ok, Err, bytes_eq, codes, ℤ, nat_lt, subst}
 use Rattle.msp_class.specs.declared.sizes.TheConstants.{MOST_MACHINES, MOST_OPERATIONS, MOST_PIECES}
 use Rattle.msp_pieces.specs.declared.Piece.{Piece}
 use Rattle.msp_grammar.specs.declared.filed.Stated.{Stated}
-use Rattle.msp_file.specs.schedule.Reading.{title_at, cost_at, unit_at, moment_at, span_at, place_at, piece_at, piece_line_at, piece_step, IsStatedAs, ReadsPieces, ReadsStated, ReadsSchedule}
+use Rattle.msp_file.specs.schedule.Reading.{title_at, cost_at, unit_at, moment_at, span_at, place_at, piece_at, piece_line_at, piece_step, stated_at, ReadsSchedule}
 use Rattle.msp_file.specs.schedule.Answers.{IsScheduleFault}
 use Rattle.msp_grammar.specs.declared.lines.fault.FileFault.{FileFault}
 use Rattle.msp_grammar.specs.declared.lines.fault.FileFault.TheVariants.{Class as ClassBroken, Cycle, Memory, After, Head, Missing, Cut, Line, Count, Key, Name, Number, Limit}
 use Rattle.msp_grammar.specs.declared.lines.fault.FileFault.TheVariants.{Again, ArcAgain, Unknown}
 use Rattle.msp_grammar.specs.declared.lines.fault.What.TheVariants as what
-use Rattle.msp_grammar.specs.lines.Reading.{first_of, others_of, Place, line_at, fields_of}
+use Rattle.msp_grammar.specs.lines.Reading.{first_of, others_of, Place, line_at, fields_of, lines_from}
 use Rattle.msp_grammar.proofs.reading.LineFaults.{IsPlainFault, IsPlain, fine, bad, chain, given, either, line_plain, word_plain, natural_plain, ordinal_plain, number_line_plain}
-use Rattle.msp_grammar.proofs.reading.LineFaults.{known_plain, end_plain, more, then_in, whole_in, whole_remembers, cost_plain}
+use Rattle.msp_grammar.proofs.reading.LineFaults.{known_plain, end_plain, lines_each, whole_in, whole_remembers, cost_plain}
 
 unit : (p : Place) → IsPlain (unit_at p)
 unfolding unit_at
@@ -47,44 +47,26 @@ after_piece names pieces p =
     either (bytes_eq (first_of fields) (codes "piece"))
     _ _ (chain (piece_line_at names p.at pieces (others_of fields)) _ (piece_line names p.at pieces (others_of fields)) (λ e. fine _)) (end_plain p.at pieces fields l.1))
 
-stated_in : (x : ℤ × ℤ) (unit : ℤ) (lines : Result (List Piece × Place) FileFault) (r : Result (Stated × Place) FileFault) → IsPlain lines → IsStatedAs x unit lines r → IsPlain r
-stated_in x unit (Ok line) (Ok s) h k = fine s
-stated_in x unit (Err e) (Err d) h k = bad d (h.fault d (ap Err (sym k)))
-stated_in x unit (Ok line) (Err d) h k = absurd k
-stated_in x unit (Err e) (Ok s) h k = absurd k
-
-pieces_in : (names : List (List ℕ)) (x : ℤ × ℤ) (unit : ℤ) (p : Place) (r : Result (Stated × Place) FileFault) → ReadsPieces names x unit p r → IsPlain r
-pieces_in names x unit p r h = stated_in x unit h.lines r (more (piece_step names) (after_piece names) [] p h.lines h.reads) h.stated
-
-stated : (names : List (List ℕ)) (p : Place) (r : Result (Stated × Place) FileFault) → ReadsStated names p r → IsPlain r
-unfolding ReadsStated
-stated names p r h =
-    then_in (title_at p) _ r (word_plain _ p) (λ (p : Place).
-    then_in (cost_at p) _ r (cost_plain _ _ p) (λ (x : (ℤ × ℤ) × Place).
-    then_in (unit_at x.1) _ r (unit x.1) (λ (u : ℤ × Place).
-    pieces_in names x.0 u.0 u.1 r))) h
+stated : (names : List (List ℕ)) (p : Place) → IsPlain (stated_at names p)
+unfolding stated_at
+stated names p =
+    chain (title_at p) _ (word_plain _ p) (λ q.
+    chain (cost_at q) _ (cost_plain _ _ q) (λ x.
+    chain (unit_at x.1) _ (unit x.1) (λ u.
+    chain (lines_from (piece_step names) [] u.1) _ (lines_each (piece_step names) None (λ at. tt) (λ next h. h) (after_piece names) _ [] u.1) (λ l. fine _))))
 
 plain_schedule : (e : FileFault) → IsPlainFault e → IsScheduleFault e
 plain_schedule (ClassBroken fault name) h = h
 plain_schedule (Cycle job name) h = h
-plain_schedule Memory h = tt
-plain_schedule (After at) h = tt
 plain_schedule (Head at) h = h
-plain_schedule (Missing at) h = tt
-plain_schedule (Cut at) h = tt
-plain_schedule (Line at) h = tt
-plain_schedule (Count at) h = tt
 plain_schedule (Key at) h = h
-plain_schedule (Name at) h = tt
-plain_schedule (Number at) h = tt
-plain_schedule (Limit at quantity) h = tt
 plain_schedule (Again at) h = h
 plain_schedule (ArcAgain at) h = h
-plain_schedule (Unknown at) h = tt
+plain_schedule _ h = tt
 
 -- the faults of a schedule text
 pub schedule_faults : (names : List (List ℕ)) (line : ℕ) (b : List ℕ) (e : FileFault) → ReadsSchedule names line b (Err e) → IsScheduleFault e
-schedule_faults names line b e h = by (whole_in h.lines e (stated names (record { at = line; rest = b }) h.lines h.reads) h.is)
+schedule_faults names line b e h = by (whole_in _ e (stated names (record { at = line; rest = b })) (sym h))
   where
     by : IsPlainFault e ⊎ ((at : ℕ) × (e ≡ After at)) → IsScheduleFault e
     by (inl k) = plain_schedule e k
@@ -92,4 +74,4 @@ schedule_faults names line b e h = by (whole_in h.lines e (stated names (record 
 
 -- reading gives no out of memory
 pub schedule_remembers : (names : List (List ℕ)) (line : ℕ) (b : List ℕ) → ¬ ReadsSchedule names line b (Err Memory)
-schedule_remembers names line b h = whole_remembers h.lines (stated names (record { at = line; rest = b }) h.lines h.reads) (λ k. k) h.is
+schedule_remembers names line b h = whole_remembers _ (stated names (record { at = line; rest = b })) (λ k. k) (sym h)

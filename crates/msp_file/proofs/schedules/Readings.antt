@@ -1,52 +1,49 @@
--- The lines of a schedule are read in one way.
+-- The lines of a schedule are read in one way, and always to an end.
 use Rattle.std.proofs.Common.{◌≡◌, ℕ, List, [], ℤ, Result, Ok, Err, refl, sym, ap, ◌∙◌, subst}
+use Rattle.msp_grammar.specs.declared.limits.TheConstants.{GREATEST_COST}
 use Rattle.msp_grammar.specs.declared.lines.fault.FileFault.{FileFault}
-use Rattle.msp_grammar.specs.declared.lines.fault.FileFault.TheVariants.{Memory}
-use Rattle.msp_grammar.specs.lines.Reading.{Place, ReadsMore, all_of}
-use Rattle.msp_pieces.specs.declared.Piece.{Piece}
+use Rattle.msp_grammar.specs.lines.Reading.{◌>>=◌, Place, lines_from, all_of}
 use Rattle.msp_pieces.specs.declared.Frac.{Frac}
 use Rattle.msp_pieces.specs.declared.Schedule.{Schedule}
+use Rattle.std.proofs.Common.{codes}
 use Rattle.msp_grammar.specs.declared.filed.Stated.{Stated}
-use Rattle.msp_file.specs.schedule.Reading.{title_at, cost_at, unit_at, piece_step, IsStatedAs, ReadsPieces, ReadsStated, ReadsSchedule}
-use Rattle.msp_grammar.specs.lines.Steps.{FailsBy, parts_of}
-use Rattle.msp_grammar.proofs.reading.Readings.{more_same, then_same, by_same, fraction_is}
+use Rattle.msp_file.specs.schedule.Reading.{title_at, cost_at, unit_at, piece_step, said_of, stated_at, schedule_at, ReadsSchedule}
+use Rattle.msp_grammar.proofs.reading.LineLaws.{bind_ok, provided_ok, ok_is}
+use Rattle.msp_grammar.proofs.reading.Readings.{seen_is}
+use Rattle.msp_grammar.proofs.reading.Fractions.{fraction_is, IsOfFraction, cost_is}
 
-abbrev read_as : Schedule → Frac → Place → Result (Stated × Place) FileFault
-read_as s x q = Ok (record { schedule = s; cost = x }, q)
+abbrev pub Said : Type 0
+Said = (ℤ × ℤ) × Schedule
 
-stated_as : (cost : ℤ × ℤ) (unit : ℤ) (lines : Result (List Piece × Place) FileFault) (r s : Result (Stated × Place) FileFault) → IsStatedAs cost unit lines r → IsStatedAs cost unit lines s → r ≡ s
-stated_as cost unit (Ok line) (Ok r) (Ok s) h k =
-    ap (λ x. read_as x r.0.cost r.1) (h.0 ∙ sym k.0)
-    ∙ ap (λ x. read_as s.0.schedule x r.1) (fraction_is r.0.cost s.0.cost (h.1 ∙ sym k.1) (h.2 ∙ sym k.2))
-    ∙ ap (read_as s.0.schedule s.0.cost) (h.3 ∙ sym k.3)
-stated_as cost unit (Err e) (Err r) (Err s) h k = ap Err (h ∙ sym k)
-stated_as cost unit (Ok line) (Err r) s h k = absurd h
-stated_as cost unit (Ok line) (Ok r) (Err s) h k = absurd k
-stated_as cost unit (Err e) (Ok r) s h k = absurd h
-stated_as cost unit (Err e) (Err r) (Ok s) h k = absurd k
+abbrev pub stated_by : Schedule → Frac → Stated
+stated_by s x = record { schedule = s; cost = x }
 
-pieces_same : (names : List (List ℕ)) (cost : ℤ × ℤ) (unit : ℤ) (p : Place) (r s : Result (Stated × Place) FileFault) → ReadsPieces names cost unit p r → ReadsPieces names cost unit p s → r ≡ s
-pieces_same names cost unit p r s h k =
-    let same = more_same (piece_step names) [] p h.lines k.lines h.reads k.reads in
-    stated_as cost unit k.lines r s (subst (λ (lines : Result (List Piece × Place) FileFault). IsStatedAs cost unit lines r) same h.stated) k.stated
-
-pub stated_same : (names : List (List ℕ)) (start : Place) (r s : Result (Stated × Place) FileFault) → ReadsStated names start r → ReadsStated names start s → r ≡ s
-unfolding ReadsStated
-stated_same names start r s h k =
-    then_same (title_at start) _ r s (λ (p : Place).
-    then_same (cost_at p) _ r s (λ (x : (ℤ × ℤ) × Place).
-    then_same (unit_at x.1) _ r s (λ (u : ℤ × Place). pieces_same names x.0 u.0 u.1 r s))) h k
+stated_is : (s t : Stated) → said_of s ≡ said_of t → s ≡ t
+stated_is s t e =
+    ap (stated_by s.schedule) (fraction_is s.cost t.cost (ap (λ (y : Said). y.0.0) e) (ap (λ (y : Said). y.0.1) e))
+    ∙ ap (λ (x : Schedule). stated_by x t.cost) (ap (λ (y : Said). y.1) e)
 
 pub schedule_same : (names : List (List ℕ)) (line : ℕ) (b : List ℕ) (r s : Result Stated FileFault) → ReadsSchedule names line b r → ReadsSchedule names line b s → r ≡ s
-schedule_same names line b r s h k = by_same all_of (ReadsStated names (record { at = line; rest = b })) (stated_same names (record { at = line; rest = b })) r s h k
+schedule_same names line b r s h k = seen_is said_of stated_is r s (sym h ∙ k)
 
--- the pieces of a schedule
-pub pieces_fail : (names : List (List ℕ)) (cost : ℤ × ℤ) (unit : ℤ) (p : Place) (e : FileFault) → FailsBy e (ReadsMore (piece_step names) [] p) → FailsBy e (ReadsPieces names cost unit p)
-pieces_fail names cost unit p Memory h = tt
-pieces_fail names cost unit p e h = record { lines = Err e; reads = h; stated = refl }
+-- a cost that was read is a fraction
+cost_read : (names : List (List ℕ)) (start : Place) (y : Said × Place) → stated_at names start ≡ Ok y → IsOfFraction y.0.0
+unfolding stated_at
+cost_read names start y e =
+    let t = bind_ok (title_at start) _ y e in
+    let c = bind_ok (cost_at t.0) _ y t.2 in
+    let u = bind_ok (unit_at c.0.1) _ y c.2 in
+    let p = bind_ok (lines_from (piece_step names) [] u.0.1) _ y u.2 in
+    subst (λ (z : Said × Place). IsOfFraction z.0.0) (ok_is _ y p.2) (cost_is (codes "cost") GREATEST_COST t.0 c.0 c.1)
 
-pub pieces_done : (names : List (List ℕ)) (cost : Frac) (unit : ℤ) (p q : Place) (pieces : List Piece) → ReadsMore (piece_step names) [] p (Ok (pieces, q))
-    → ReadsPieces names (parts_of cost) unit p (Ok (record { schedule = record { unit = unit; pieces = pieces }; cost = cost }, q))
-pieces_done names cost unit p q pieces h = record { lines = Ok (pieces, q); reads = h; stated = (refl, refl, refl, refl) }
-
-pub ruleset pieces_rules = (pieces_fail, pieces_done)
+pub schedule_ends : (names : List (List ℕ)) (line : ℕ) (b : List ℕ) → (r : Result Stated FileFault) × ReadsSchedule names line b r
+unfolding IsOfFraction
+schedule_ends names line b = by (schedule_at names line b) refl
+  where
+    by : (r : Result Said FileFault) → schedule_at names line b ≡ r → (s : Result Stated FileFault) × ReadsSchedule names line b s
+    by (Err e) is = (Err e, is)
+    by (Ok y) is =
+        let x = bind_ok (stated_at names (record { at = line; rest = b })) all_of y is in
+        let f = cost_read names (record { at = line; rest = b }) x.0 x.1 in
+        let same = ok_is x.0.0 y (provided_ok _ _ _ y x.2).1 in
+        (Ok (stated_by x.0.0.1 f.0), is ∙ ap Ok (sym same ∙ ap (λ (c : ℤ × ℤ). (c, x.0.0.1)) (sym f.1)))

@@ -1,7 +1,7 @@
 -- How the text of an instance is read: line by line, and in a line from left to right, up to the first fault.
-use Rattle.std.specs.Prelude.{◌≡◌, ◌⊎◌, ℕ, ◌+◌, ◌-◌, ◌*◌, ◌/◌, Bool, true, false, ◌&&◌, not, ◌==◌, nat_le, nat_lt, if◌then◌else◌, List, [], ◌∷◌, ◌++◌, length, map, Some, None}
+use Rattle.std.specs.Prelude.{◌≡◌, ℕ, zero, suc, ◌+◌, ◌-◌, ◌*◌, ◌/◌, ◌%◌, ◌||◌, Bool, true, false, ◌&&◌, not, ◌==◌, nat_le, nat_lt, if◌then◌else◌, List, [], ◌∷◌, ◌++◌, length, map, Some, None}
 use Rattle.std.specs.Prelude.{Result, Ok, Err, codes, bytes_eq, ℤ, pos}
-use Rattle.std.specs.List.{list_any, range_with_len}
+use Rattle.std.specs.List.{list_any, list_all, range_with_len}
 use Rattle.msp_class.specs.declared.environments.EnvKind.{EnvKind}
 use Rattle.msp_class.specs.declared.sizes.TheConstants.{MOST_JOBS, MOST_MACHINES, MOST_ARCS, MOST_OPERATIONS, MOST_STEPS, GREATEST, GREATEST_SPEED, GREATEST_EQUAL_TIME}
 use Rattle.msp_class.specs.Crit.{uses_due, uses_weight, uses_curve}
@@ -17,7 +17,8 @@ use Rattle.msp_instance.specs.declared.Step.{Step}
 use Rattle.msp_instance.specs.declared.Curve.{Curve}
 use Rattle.msp_instance.specs.declared.Job.{Job}
 use Rattle.msp_instance.specs.Instance.{no_curve}
-use Rattle.msp_instance.specs.Conditions.{HasSmallMultiple, least_time}
+use Rattle.msp_instance.specs.Conditions.{least_time}
+use Rattle.msp_class.specs.declared.sizes.TheConstants.{GREATEST_MULTIPLE}
 use Rattle.msp_grammar.specs.declared.lines.fault.What.{What}
 use Rattle.msp_grammar.specs.declared.lines.fault.What.TheVariants as what
 use Rattle.msp_grammar.specs.declared.lines.fault.FileFault.{FileFault}
@@ -29,7 +30,7 @@ use Rattle.msp_grammar.specs.declared.filed.Filed.{Filed}
 use Rattle.msp_grammar.specs.Layout.{has_times, has_time_line, has_one_time, has_route, has_speeds, has_order, has_time_key, has_times_line}
 use Rattle.msp_text.specs.Bytes.{equals_byte}
 use Rattle.msp_grammar.specs.lines.Reading.{◌>>=◌, provided, Place, line_at, fields_of, first_of, others_of, worded_at, natural_at, integer_at, job_name_at, known_at, machine_at}
-use Rattle.msp_grammar.specs.lines.Reading.{LineRead, job_read, more_read, end_read, end_at, ReadsMore, number_line_at, Then, ReadsBy, all_of, front_of}
+use Rattle.msp_grammar.specs.lines.Reading.{LineRead, job_read, more_read, end_at, lines_by, lines_from, number_line_at, all_of, front_of}
 
 -- The letters of the keys.
 abbrev pub time_letter : ℕ
@@ -259,19 +260,12 @@ job_step class machines shared draft place = do
       else arc_or_end (has_order class.order) place.at draft (fields_of line.0) line.1
 
 -- The lines after an arc: each is an arc.
-abbrev pub ReadsArcs : Draft → Place → Result (Draft × Place) FileFault → Type 0
-ReadsArcs draft place read = ReadsMore arc_step draft place read
+abbrev pub arcs_from : Draft → Place → Result (Draft × Place) FileFault
+arcs_from draft place = lines_from arc_step draft place
 
--- The lines after the head or after a job are read so: jobs, then arcs, up to the end or a fault.
-pub data ReadsJobs (class : Class) (machines shared : ℕ) : Draft → Place → Result (Draft × Place) FileFault → Type 0 where
-  job_then : (draft more : Draft) (place next : Place) (read : Result (Draft × Place) FileFault) → job_step class machines shared draft place ≡ Ok (job_read more next)
-      → ReadsJobs class machines shared more next read → ReadsJobs class machines shared draft place read
-  arc_after : (draft more : Draft) (place next : Place) (read : Result (Draft × Place) FileFault)
-      → job_step class machines shared draft place ≡ Ok (more_read more next) → ReadsArcs more next read → ReadsJobs class machines shared draft place read
-  jobs_end : (draft all : Draft) (place next : Place) (read : Result (Draft × Place) FileFault)
-      → job_step class machines shared draft place ≡ Ok (end_read all next) → read ≡ Ok (all, next) → ReadsJobs class machines shared draft place read
-  jobs_fault : (draft : Draft) (place : Place) (read : Result (Draft × Place) FileFault) (fault : FileFault)
-      → job_step class machines shared draft place ≡ Err fault → read ≡ Err fault → ReadsJobs class machines shared draft place read
+-- The lines after the head or after a job: jobs, then arcs, up to the end or a fault.
+abbrev pub jobs_from : Class → ℕ → ℕ → Draft → Place → Result (Draft × Place) FileFault
+jobs_from class machines shared draft place = lines_by (job_step class machines shared) (Some arcs_from) (suc (length place.rest)) draft place
 
 -- ---- the head
 
@@ -333,38 +327,48 @@ no_draft = record { names = []; jobs = []; arcs = [] }
 abbrev pub filed_of : Class → ℕ → List ℕ → Draft → Filed
 filed_of class machines speeds draft = record { instance = record { class = class; machines = machines; speeds = speeds; jobs = draft.jobs; arcs = draft.arcs }; names = draft.names }
 
--- What is read is what comes next where the condition holds, or else the fault.
-abbrev pub OnlyWhere : {B : Type 0} → Type 0 → FileFault → (Result B FileFault → Type 0) → Result B FileFault → Type 0
-OnlyWhere condition fault next read = (condition × next read) ⊎ ((¬ condition) × (read ≡ Err fault))
+-- Some number from 1 to this one is a multiple of all speeds.
+unfoldable pub has_multiple : ℕ → List ℕ → Bool
+has_multiple zero speeds = false
+has_multiple (suc greatest) speeds = list_all (λ speed. suc greatest % speed == 0) speeds || has_multiple greatest speeds
 
--- The lines after the head.
-pub record ReadsRest (class : Class) (machines : ℕ) (speeds : List ℕ) (shared : ℕ) (place : Place) (read : Result (Filed × Place) FileFault) : Type 0 where
-  pub lines : Result (Draft × Place) FileFault
-  pub reads : ReadsJobs class machines shared no_draft place lines
-  pub filed : read ≡ (lines >>= λ line. Ok (filed_of class machines speeds line.0, line.1))
+-- The lines after those of the speeds.
+unfoldable pub timed_from : Class → ℕ → Place → Result (Draft × Place) FileFault
+timed_from class machines place = do
+  shared ← time_at class.times place
+  jobs_from class machines shared.0 no_draft shared.1
 
--- The lines after those of the machines are read so. The speeds have a common multiple that is not too great.
-abbrev pub ReadsSpeeds : Class → ℕ → Place → Result (Filed × Place) FileFault → Type 0
-ReadsSpeeds class machines place read =
-    Then (speeds_at class.env machines place) (λ speeds.
-    OnlyWhere (HasSmallMultiple speeds.0) (Limit place.at what.Multiple) (
-    Then (time_at class.times speeds.1) (λ shared. ReadsRest class machines speeds.0 shared.0 shared.1))) read
+-- The lines after those of the machines. The speeds have a common multiple that is not too great.
+unfoldable pub speeds_from : Class → ℕ → Place → Result (Filed × Place) FileFault
+speeds_from class machines place = do
+  speeds ← speeds_at class.env machines place
+  provided (has_multiple GREATEST_MULTIPLE speeds.0) (Limit place.at what.Multiple) (do
+    line ← timed_from class machines speeds.1
+    Ok (filed_of class machines speeds.0 line.0, line.1))
 
--- The lines from a place on are read so: as those of one instance, up to the place after them, or up to the first fault.
-unfoldable pub ReadsLines : Place → Result (Filed × Place) FileFault → Type 0
-ReadsLines place read =
-    Then (version_at place) (λ place.
-    Then (class_at place) (λ class.
-    Then (machines_at class.0.env class.1) (λ machines. ReadsSpeeds class.0 machines.0 machines.1))) read
+-- The lines from a place on: those of one instance, up to the place after them, or up to the first fault.
+unfoldable pub lines_at : Place → Result (Filed × Place) FileFault
+lines_at place = do
+  place ← version_at place
+  class ← class_at place
+  machines ← machines_at class.0.env class.1
+  speeds_from class.0 machines.0 machines.1
 
 -- The place before the first line of a text.
 abbrev pub start_of : List ℕ → Place
 start_of bytes = record { at = 1; rest = bytes }
 
--- The lines of a text are read so: as those of one instance and no more, or up to the first fault.
-abbrev pub Reads : List ℕ → Result Filed FileFault → Type 0
-Reads bytes read = ReadsBy all_of (ReadsLines (start_of bytes)) read
+-- The lines of a text: those of one instance and no more, or up to the first fault.
+abbrev pub filed_at : List ℕ → Result Filed FileFault
+filed_at bytes = lines_at (start_of bytes) >>= all_of
 
--- The lines at the front of a text are read so: as those of one instance, or up to the first fault.
+-- The lines at the front of a text: those of one instance, or up to the first fault.
+abbrev pub front_at : List ℕ → Result Filed FileFault
+front_at bytes = lines_at (start_of bytes) >>= front_of
+
+-- They are read so.
+abbrev pub Reads : List ℕ → Result Filed FileFault → Type 0
+Reads bytes read = filed_at bytes ≡ read
+
 abbrev pub ReadsFront : List ℕ → Result Filed FileFault → Type 0
-ReadsFront bytes read = ReadsBy front_of (ReadsLines (start_of bytes)) read
+ReadsFront bytes read = front_at bytes ≡ read

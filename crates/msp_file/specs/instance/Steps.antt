@@ -12,8 +12,8 @@ use Rattle.msp_file.specs.declared.instance.draft.Draft.{Draft}
 use Rattle.msp_file.specs.declared.instance.draft.Next.{Next}
 use Rattle.msp_file.specs.declared.instance.draft.Next.TheVariants.{Job, Arc, End}
 use Rattle.msp_class.specs.declared.class.Class.{Class}
-use Rattle.msp_grammar.specs.lines.Reading.{◌>>=◌, Place, LineRead, job_read, more_read, end_read, first_of, others_of, Then}
-use Rattle.msp_file.specs.instance.Reading.{job_step, job_at_line, arc_or_end, time_at, ReadsJobs, no_draft}
+use Rattle.msp_grammar.specs.lines.Reading.{◌>>=◌, Place, LineRead, job_read, more_read, end_read, first_of, others_of}
+use Rattle.msp_file.specs.instance.Reading.{job_step, job_at_line, arc_or_end}
 use Rattle.msp_grammar.specs.Layout.{has_order}
 use Rattle.msp_grammar.specs.lines.Steps.{AfterLine}
 
@@ -37,10 +37,6 @@ next_of class machines shared at draft fields place =
 -- The same of an arc or the last line, wherever the lines after it begin.
 abbrev pub AfterWords : Bool → ℕ → List (List ℕ) → Result Bool FileFault → Draft → Draft → Type 0
 AfterWords may at fields result d e = (p : Place) → AfterLine (λ draft place. arc_or_end may at draft fields place) result d p e p
-
--- The lines after those of the speeds are read so.
-abbrev pub ReadsTimed : Class → ℕ → Place → Result (Draft × Place) FileFault → Type 0
-ReadsTimed class machines place read = Then (time_at class.times place) (λ shared. ReadsJobs class machines shared.0 no_draft shared.1) read
 
 -- The fault is one of the instance that was read: the first broken condition of its class, or a cycle.
 abbrev pub IsFaultOfFiled : Filed → FileFault → Type 0

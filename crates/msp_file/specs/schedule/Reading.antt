@@ -3,13 +3,16 @@ use Rattle.std.specs.Prelude.{◌≡◌, ℕ, ◌==◌, nat_lt, if◌then◌else
 use Rattle.msp_class.specs.declared.sizes.TheConstants.{MOST_MACHINES, MOST_OPERATIONS, MOST_PIECES, GREATEST_UNIT}
 use Rattle.msp_pieces.specs.declared.limits.TheConstants.{GREATEST_MOMENT}
 use Rattle.msp_pieces.specs.declared.Piece.{Piece}
+use Rattle.msp_pieces.specs.declared.Schedule.{Schedule}
 use Rattle.msp_grammar.specs.declared.limits.TheConstants.{GREATEST_COST}
 use Rattle.msp_grammar.specs.declared.lines.fault.What.TheVariants as what
 use Rattle.msp_grammar.specs.declared.lines.fault.FileFault.{FileFault}
 use Rattle.msp_grammar.specs.declared.lines.fault.FileFault.TheVariants.{Count, Limit}
 use Rattle.msp_grammar.specs.declared.filed.Stated.{Stated}
 use Rattle.msp_grammar.specs.lines.Reading.{◌>>=◌, provided, Place, line_at, fields_of, first_of, others_of, word_line_at, natural_at, ordinal_at, known_at, number_line_at}
-use Rattle.msp_grammar.specs.lines.Reading.{LineRead, more_read, end_at, ReadsMore, Then, ReadsBy, all_of}
+use Rattle.msp_grammar.specs.lines.Reading.{LineRead, more_read, end_at, lines_from, all_of}
+use Rattle.msp_grammar.specs.lines.Answers.{seen}
+use Rattle.msp_grammar.specs.lines.Steps.{parts_of}
 use Rattle.msp_grammar.specs.lines.Costs.{cost_line_at}
 
 -- The first line.
@@ -71,26 +74,24 @@ piece_step names pieces place = do
 
 -- ---- the whole
 
--- What is read is the schedule of these pieces with this cost, or the fault of its lines.
-abbrev pub IsStatedAs : ℤ × ℤ → ℤ → Result (List Piece × Place) FileFault → Result (Stated × Place) FileFault → Type 0
-IsStatedAs cost unit (Ok line) (Ok read) = (read.0.schedule ≡ record { unit = unit; pieces = line.0 }) × (read.0.cost.num ≡ cost.0) × (read.0.cost.den ≡ cost.1) × (read.1 ≡ line.1)
-IsStatedAs cost unit (Err fault) (Err read) = read ≡ fault
-IsStatedAs cost unit _ _ = ⊥
+-- What a schedule and its cost say: the numbers of the cost, and the schedule.
+abbrev pub said_of : Stated → (ℤ × ℤ) × Schedule
+said_of s = (parts_of s.cost, s.schedule)
 
--- The lines after the unit: each is a piece.
-pub record ReadsPieces (names : List (List ℕ)) (cost : ℤ × ℤ) (unit : ℤ) (place : Place) (read : Result (Stated × Place) FileFault) : Type 0 where
-  pub lines : Result (List Piece × Place) FileFault
-  pub reads : ReadsMore (piece_step names) [] place lines
-  pub stated : IsStatedAs cost unit lines read
+-- The lines from a place on: those of one schedule, up to the place after them, or up to the first fault.
+unfoldable pub stated_at : List (List ℕ) → Place → Result (((ℤ × ℤ) × Schedule) × Place) FileFault
+stated_at names place = do
+  place ← title_at place
+  cost ← cost_at place
+  unit ← unit_at cost.1
+  pieces ← lines_from (piece_step names) [] unit.1
+  Ok ((cost.0, record { unit = unit.0; pieces = pieces.0 }), pieces.1)
 
--- The lines from a place on are read so: as those of one schedule, up to the place after them, or up to the first fault.
-unfoldable pub ReadsStated : List (List ℕ) → Place → Result (Stated × Place) FileFault → Type 0
-ReadsStated names place read =
-    Then (title_at place) (λ place.
-    Then (cost_at place) (λ cost.
-    Then (unit_at cost.1) (λ unit. ReadsPieces names cost.0 unit.0 unit.1))) read
+-- The lines of a text, the first of which has this number: those of one schedule of the named jobs and no more, or up to the first
+-- fault.
+abbrev pub schedule_at : List (List ℕ) → ℕ → List ℕ → Result ((ℤ × ℤ) × Schedule) FileFault
+schedule_at names line bytes = stated_at names (record { at = line; rest = bytes }) >>= all_of
 
--- The lines of a text, the first of which has this number, are read so: as those of one schedule of the named jobs and no more, or up
--- to the first fault.
+-- The lines are read so.
 abbrev pub ReadsSchedule : List (List ℕ) → ℕ → List ℕ → Result Stated FileFault → Type 0
-ReadsSchedule names line bytes read = ReadsBy all_of (ReadsStated names (record { at = line; rest = bytes })) read
+ReadsSchedule names line bytes read = schedule_at names line bytes ≡ seen said_of read

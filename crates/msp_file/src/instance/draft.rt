@@ -5,8 +5,8 @@ ghost use Rattle.msp_class.specs.declared.sizes.TheConstants.{MOST_JOBS};
 ghost use Rattle.msp_grammar.specs.lines.Answers.{Gives};
 ghost use Rattle.msp_file.specs.instance.ArcFlags.{is_arc_among};
 ghost use Rattle.msp_grammar.specs.lines.Reading.{provided};
-ghost use Rattle.msp_file.specs.instance.Reading.{with_arc, arc_line_at, time_in, job_at_line, arc_step, ReadsArcs, ReadsJobs};
-ghost use Rattle.msp_grammar.specs.lines.Steps.{Moves, MovesBy, AfterLine, place_of, fields_after};
+ghost use Rattle.msp_file.specs.instance.Reading.{with_arc, arc_line_at, time_in, job_at_line, arc_step, arcs_from, jobs_from};
+ghost use Rattle.msp_grammar.specs.lines.Steps.{Moves, AfterLine, place_of, fields_after};
 ghost use Rattle.msp_file.specs.instance.Steps.{AfterJob, AfterNext, AfterWords, next_of};
 
 use crate::instance::arcs::Arcs;
@@ -187,7 +187,7 @@ fn arcs_at(draft: &mut Draft, lines: &mut Lines<'_>) -> Result<(), FileFault>
     requires { length draft.old.names ≤ MOST_JOBS }
     ensures names { OnOk result (draft.new.names ≡ draft.old.names) }
     ensures jobs { OnOk result (draft.new.jobs ≡ draft.old.jobs) }
-    ensures moves { MovesBy (λ _. draft.new) result (place_of lines.new) (ReadsArcs draft.old (place_of lines.old)) }
+    ensures moves { Moves (λ _. draft.new) result (place_of lines.new) (arcs_from draft.old (place_of lines.old)) }
 {
     'lines: loop {
         match arc_step(draft, lines) {
@@ -262,7 +262,7 @@ pub(crate) fn jobs_at(
     requires even { length draft.old.names ≡ length draft.old.jobs }
     requires few { length draft.old.names ≤ MOST_JOBS }
     ensures even { OnOk result (length draft.new.names ≡ length draft.new.jobs) }
-    ensures moves { MovesBy (λ _. draft.new) result (place_of lines.new) (ReadsJobs frame.class frame.machines frame.time draft.old (place_of lines.old)) }
+    ensures moves { Moves (λ _. draft.new) result (place_of lines.new) (jobs_from frame.class frame.machines frame.time draft.old (place_of lines.old)) }
 {
     'lines: loop {
         match job_step(alloc, frame, draft, lines) {

@@ -6,9 +6,9 @@ ghost use Rattle.msp_grammar.specs.declared.lines.limits.TheConstants.{MOST_BYTE
 ghost use Rattle.msp_file.specs.instance.Answers.{faulty_name, IsTextFault, IsFrontFault, IsFaultOf, IsFrontFaultOf, IsFrontText, ReadsOneWay};
 ghost use Rattle.msp_grammar.specs.lines.Answers.{Gives};
 ghost use Rattle.msp_grammar.specs.InstanceText.{IsInstanceText};
-ghost use Rattle.msp_file.specs.instance.Reading.{Reads, ReadsLines, ReadsJobs, ReadsSpeeds, filed_of, no_draft};
-ghost use Rattle.msp_grammar.specs.lines.Steps.{GivesBy, MovesBy, place_of};
-ghost use Rattle.msp_file.specs.instance.Steps.{IsFaultOfFiled, ReadsTimed};
+ghost use Rattle.msp_file.specs.instance.Reading.{jobs_from, timed_from, speeds_from, lines_at, filed_at, filed_of, no_draft};
+ghost use Rattle.msp_grammar.specs.lines.Steps.{Moves, place_of};
+ghost use Rattle.msp_file.specs.instance.Steps.{IsFaultOfFiled};
 
 use crate::instance::arcs::Arcs;
 use crate::instance::draft::{Draft, Frame, jobs_at};
@@ -50,7 +50,7 @@ fn filed_of(class: Class, machines: u32, speeds: List<u64>, draft: Draft) -> Fil
 /// Reads the lines after the head.
 fn rest_at(alloc: Global, frame: Frame, lines: &mut Lines<'_>) -> Result<Draft, FileFault>
     ensures even { IfOk result (λ d. length d.names ≡ length d.jobs) }
-    ensures moves { MovesBy (λ d. d) result (place_of lines.new) (ReadsJobs frame.class frame.machines frame.time no_draft (place_of lines.old)) }
+    ensures moves { Moves (λ d. d) result (place_of lines.new) (jobs_from frame.class frame.machines frame.time no_draft (place_of lines.old)) }
 {
     let mut draft = no_draft(alloc);
     match jobs_at(alloc, frame, &mut draft, lines) {
@@ -63,7 +63,7 @@ fn rest_at(alloc: Global, frame: Frame, lines: &mut Lines<'_>) -> Result<Draft, 
 }
 
 /// Reads the lines after those of the speeds.
-#[tactic(auto, using(msp_grammar::proofs::reading::Readings::then_rules))]
+#[tactic(auto, unfolding(crate::specs::instance::Reading::timed_from))]
 fn timed_at(
     alloc: Global,
     class: Class,
@@ -71,7 +71,7 @@ fn timed_at(
     lines: &mut Lines<'_>,
 ) -> Result<Draft, FileFault>
     ensures even { IfOk result (λ d. length d.names ≡ length d.jobs) }
-    ensures moves { MovesBy (λ d. d) result (place_of lines.new) (ReadsTimed class machines (place_of lines.old)) }
+    ensures moves { Moves (λ d. d) result (place_of lines.new) (timed_from class machines (place_of lines.old)) }
 {
     match time_at(class.times, lines) {
         Ok(time) => {
@@ -87,7 +87,7 @@ fn timed_at(
 }
 
 /// Reads the lines after those of the machines.
-#[tactic(auto, using(crate::proofs::instances::Readings::speeds_rules))]
+#[tactic(auto, unfolding(crate::specs::instance::Reading::speeds_from))]
 fn speeds_on(
     alloc: Global,
     class: Class,
@@ -95,7 +95,7 @@ fn speeds_on(
     lines: &mut Lines<'_>,
 ) -> Result<Filed, FileFault>
     ensures even { IfOk result (λ f. length f.names ≡ length f.instance.jobs) }
-    ensures moves { MovesBy (λ f. f) result (place_of lines.new) (ReadsSpeeds class machines (place_of lines.old)) }
+    ensures moves { Moves (λ f. f) result (place_of lines.new) (speeds_from class machines (place_of lines.old)) }
 {
     let at = lines.at;
     let speeds = speeds_at(alloc, class.env, machines, lines)?;
@@ -112,10 +112,10 @@ fn speeds_on(
 }
 
 /// Reads the lines of one instance.
-#[tactic(auto, unfolding(crate::specs::instance::Reading::ReadsLines), using(msp_grammar::proofs::reading::Readings::then_rules))]
+#[tactic(auto, unfolding(crate::specs::instance::Reading::lines_at))]
 fn lines_at(alloc: Global, lines: &mut Lines<'_>) -> Result<Filed, FileFault>
     ensures even { IfOk result (λ f. length f.names ≡ length f.instance.jobs) }
-    ensures moves { MovesBy (λ f. f) result (place_of lines.new) (ReadsLines (place_of lines.old)) }
+    ensures moves { Moves (λ f. f) result (place_of lines.new) (lines_at (place_of lines.old)) }
 {
     version_at(lines)?;
     let class = class_at(lines)?;
@@ -124,11 +124,10 @@ fn lines_at(alloc: Global, lines: &mut Lines<'_>) -> Result<Filed, FileFault>
 }
 
 /// Reads the lines of a text, which are those of one instance and no more.
-#[tactic(auto, using(msp_grammar::proofs::reading::Readings::whole_rules))]
 fn filed_at(alloc: Global, bytes: &[u8]) -> Result<Filed, FileFault>
     requires { length bytes.now ≤ MOST_BYTES }
     ensures even { IfOk result (λ f. length f.names ≡ length f.instance.jobs) }
-    ensures gives { GivesBy result (Reads bytes.now) }
+    ensures gives { Gives (λ f. f) result (filed_at bytes.now) }
 {
     let mut lines = Lines { at: 1, rest: bytes };
     let filed = lines_at(alloc, &mut lines)?;
@@ -256,7 +255,7 @@ pub fn read_front(alloc: Global, bytes: &[u8]) -> Result<Front, FileFault>
     })
 }
 
-/// Each text is read in one way: the definition of reading by relations gives one instance or one first fault.
+/// Each text is read in one way: reading gives one instance or one first fault.
 pub fn texts_are_read_one_way()
     ensures { ReadsOneWay }
 {}

@@ -5,11 +5,11 @@ ghost use Rattle.msp_pieces.specs.declared.Schedule.{Schedule as ScheduleValue};
 ghost use Rattle.msp_pieces.specs.declared.Frac.{Frac as FracValue};
 ghost use Rattle.msp_grammar.specs.ScheduleText.{IsScheduleText};
 ghost use Rattle.msp_grammar.specs.declared.lines.limits.TheConstants.{MOST_BYTES, LAST_LINE};
-ghost use Rattle.msp_grammar.specs.lines.Reading.{ReadsMore};
-ghost use Rattle.msp_file.specs.schedule.Reading.{unit_at, moment_at, span_at, place_at, piece_at, piece_line_at, piece_step, ReadsStated, ReadsSchedule};
+ghost use Rattle.msp_grammar.specs.lines.Reading.{lines_from};
+ghost use Rattle.msp_file.specs.schedule.Reading.{unit_at, moment_at, span_at, place_at, piece_at, piece_line_at, piece_step, said_of, stated_at, schedule_at};
 ghost use Rattle.msp_grammar.specs.lines.Answers.{Gives};
 ghost use Rattle.msp_file.specs.schedule.Answers.{IsScheduleFaultOf, IsScheduleFault, SchedulesReadOneWay, PrintedReadAgain};
-ghost use Rattle.msp_grammar.specs.lines.Steps.{GivesBy, Moves, MovesBy, AfterLine, place_of, fields_after};
+ghost use Rattle.msp_grammar.specs.lines.Steps.{Moves, AfterLine, place_of, fields_after};
 
 use msp_class::{List, MOST_OPERATIONS};
 use msp_grammar::{
@@ -143,7 +143,7 @@ fn piece_step(
 /// Reads the lines after the unit, up to the last one.
 fn pieces_at(alloc: Global, names: &Names, lines: &mut Lines<'_>) -> Result<List<Piece>, FileFault>
     requires { length names.now < PLACES }
-    ensures { MovesBy (λ x. x) result (place_of lines.new) (ReadsMore (piece_step names.now) [] (place_of lines.old)) }
+    ensures { Moves (λ x. x) result (place_of lines.new) (lines_from (piece_step names.now) [] (place_of lines.old)) }
 {
     let mut pieces = List::new(alloc);
     'lines: while piece_step(names, &mut pieces, lines)? {}
@@ -151,10 +151,10 @@ fn pieces_at(alloc: Global, names: &Names, lines: &mut Lines<'_>) -> Result<List
 }
 
 /// Reads the lines of one schedule.
-#[tactic(auto, unfolding(crate::specs::schedule::Reading::ReadsStated), using(msp_grammar::proofs::reading::Readings::then_rules, crate::proofs::schedules::Readings::pieces_rules))]
+#[tactic(auto, unfolding(crate::specs::schedule::Reading::stated_at))]
 fn stated_at(alloc: Global, names: &Names, lines: &mut Lines<'_>) -> Result<Stated, FileFault>
     requires { length names.now < PLACES }
-    ensures { MovesBy (λ s. s) result (place_of lines.new) (ReadsStated names.now (place_of lines.old)) }
+    ensures { Moves said_of result (place_of lines.new) (stated_at names.now (place_of lines.old)) }
 {
     word_line_at(lines, b"schedule")?;
     let cost = cost_line_at(lines, b"cost", GREATEST_COST)?;
@@ -167,12 +167,11 @@ fn stated_at(alloc: Global, names: &Names, lines: &mut Lines<'_>) -> Result<Stat
 }
 
 /// Reads the lines of a text, which are those of one schedule and no more.
-#[tactic(auto, using(msp_grammar::proofs::reading::Readings::whole_rules))]
 fn schedule_at(alloc: Global, names: &Names, bytes: &[u8], line: u32) -> Result<Stated, FileFault>
     requires names { length names.now < PLACES }
     requires bytes { length bytes.now ≤ MOST_BYTES }
     requires line { line ≤ LAST_LINE }
-    ensures { GivesBy result (ReadsSchedule names.now line bytes.now) }
+    ensures { Gives said_of result (schedule_at names.now line bytes.now) }
 {
     let mut lines = Lines {
         at: line,
@@ -210,7 +209,7 @@ pub fn read_schedule(
     schedule_at(alloc, names, bytes, line)
 }
 
-/// Each schedule text is read in one way: the definition of reading by relations gives one schedule or one first fault.
+/// Each schedule text is read in one way: reading gives one schedule or one first fault.
 pub fn schedules_are_read_one_way()
     ensures { SchedulesReadOneWay }
 {}

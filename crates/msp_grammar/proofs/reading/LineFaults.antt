@@ -1,5 +1,5 @@
 -- Reading lines gives plain faults alone, which texts of every kind can have.
-use Rattle.std.proofs.Common.{◌≡◌, ◌⊎◌, inl, inr, ℕ, sym, ◌+◌, nat_le, Bool, true, false, ◌==◌, List, [], ◌∷◌, length, Option, None, Some, Result, Ok, Err, ok_or, position}
+use Rattle.std.proofs.Common.{◌≡◌, ◌⊎◌, inl, inr, ℕ, zero, suc, sym, ◌+◌, nat_le, Bool, true, false, ◌==◌, List, [], ◌∷◌, length, Option, None, Some, Result, Ok, Err, ok_or, position}
 use Rattle.std.proofs.Common.{bytes_eq, codes, ℤ, pos, negsuc, unsigned_abs, refl, ap, subst, take, drop, if◌then◌else◌}
 use Rattle.msp_grammar.specs.declared.limits.TheConstants.{GREATEST_DENOMINATOR}
 use Rattle.msp_grammar.specs.lines.Costs.{denominator_at, cost_in, cost_line_at}
@@ -10,7 +10,7 @@ use Rattle.msp_grammar.specs.declared.lines.fault.What.TheVariants as what
 use Rattle.msp_job_name.specs.declared.job_name.TheConstants.{LONGEST_NAME}
 use Rattle.msp_text.specs.Numbers.{number_of}
 use Rattle.msp_grammar.specs.lines.Reading.{first_of, ◌>>=◌, provided, Place, line_at, worded_at, word_line_at, field_line_at, natural_in, natural_at, ordinal_at, number_line_at}
-use Rattle.msp_grammar.specs.lines.Reading.{integer_at, is_name_text, job_name_at, known_at, end_at, LineRead, end_read, ReadsMore, more_then, more_end, more_fault, Then, all_of}
+use Rattle.msp_grammar.specs.lines.Reading.{integer_at, is_name_text, job_name_at, known_at, end_at, LineRead, job_read, more_read, end_read, goes_on, lines_by, all_of}
 
 -- A fault of a line that texts of every kind can have.
 abbrev pub IsPlainFault : FileFault → Type 0
@@ -107,23 +107,22 @@ known_plain at names w = chain _ _ (named_plain at w) (λ name. or_fault (positi
 pub end_plain : {A : Type 0} (at : ℕ) (d : A) (fields : List (List ℕ)) (p : Place) → IsPlain (end_at at d fields p)
 end_plain at d fields p = given (bytes_eq (first_of fields) (codes "end")) (Line at) _ tt (given (length fields == 1) (Count at) _ tt (fine (end_read d p)))
 
--- what was read is a value, or a fault of a line
-pub is_fine : {P : FileFault → Type 0} {A : Type 0} (r : Result A FileFault) (x : A) → r ≡ Ok x → InBy P r
-is_fine {P} r x e = subst (InBy P) (sym e) (fine x)
+-- lines that are read one by one
+pub goes_on_in : {P : FileFault → Type 0} {A : Type 0} (other : Option (A → Place → Result (A × Place) FileFault)) (next : A → Place → Result (A × Place) FileFault)
+    → ((d : A) (p : Place) → InBy P (elim other [ None ↦ next d p | Some last ↦ last d p ])) → ((d : A) (p : Place) → InBy P (next d p)) → (line : LineRead A) → InBy P (goes_on other next line)
+goes_on_in other next k h (job_read d p) = h d p
+goes_on_in None next k h (more_read d p) = h d p
+goes_on_in (Some last) next k h (more_read d p) = k d p
+goes_on_in other next k h (end_read d p) = fine (d, p)
 
-pub is_bad : {P : FileFault → Type 0} {A B : Type 0} (r : Result A FileFault) (step : Result B FileFault) (e : FileFault) → InBy P step → step ≡ Err e → r ≡ Err e → InBy P r
-is_bad {P} r step e h k is = subst (InBy P) (sym is) (bad e (h.fault e k))
-
-pub more : {P : FileFault → Type 0} {A : Type 0} (step : A → Place → Result (LineRead A) FileFault)
-    → ((d : A) (p : Place) → InBy P (step d p)) → (d : A) (p : Place) (r : Result (A × Place) FileFault) → ReadsMore step d p r → InBy P r
-more step h d p r (more_then _ e _ q _ one rest) = more step h e q r rest
-more step h d p r (more_end _ e _ q _ one is) = is_fine r (e, q) is
-more step h d p r (more_fault _ _ _ fault one is) = is_bad r (step d p) fault (h d p) one is
-
-pub then_in : {P : FileFault → Type 0} {A B : Type 0} (first : Result A FileFault) (next : A → Result B FileFault → Type 0) (r : Result B FileFault)
-    → InBy P first → ((x : A) → next x r → InBy P r) → Then first next r → InBy P r
-then_in (Ok x) next r h k t = k x t
-then_in (Err e) next r h k t = is_bad r (Err e) e h refl t
+pub lines_each : {P : FileFault → Type 0} {A : Type 0} (step : A → Place → Result (LineRead A) FileFault) (other : Option (A → Place → Result (A × Place) FileFault)) → ((at : ℕ) → P (Missing at))
+    → ((next : A → Place → Result (A × Place) FileFault) → ((d : A) (p : Place) → InBy P (next d p)) → (d : A) (p : Place) → InBy P (elim other [ None ↦ next d p | Some last ↦ last d p ]))
+    → ((d : A) (p : Place) → InBy P (step d p)) → (n : ℕ) (d : A) (p : Place) → InBy P (lines_by step other n d p)
+unfolding lines_by
+lines_each step other m k h zero d p = bad _ (m p.at)
+lines_each step other m k h (suc n) d p =
+    let next = lines_each step other m k h n in
+    chain (step d p) _ (h d p) (λ l. goes_on_in other (lines_by step other n) (k (lines_by step other n) next) next l)
 
 -- the fault of a whole text is one of its lines, or that more follows them
 pub whole_in : {P : FileFault → Type 0} {A : Type 0} (lines : Result (A × Place) FileFault) (e : FileFault) → InBy P lines → Err e ≡ (lines >>= all_of) → P e ⊎ ((at : ℕ) × (e ≡ After at))

@@ -195,10 +195,9 @@ line_then f at w ws rest h =
     (g.0, ap (λ r. r >>= λ l. f (fields_of l.0) l.1) g.1 ∙ ap (λ fields. f fields (record { at = g.0; rest = rest })) (fields_again w ws h))
 
 pub two_fields : (fields : List (List ℕ)) → (length fields == 2) ≡ true → fields ≡ first_of fields ∷ first_of (others_of fields) ∷ []
-two_fields [] h = absurd cc
-two_fields (w ∷ []) h = absurd cc
 two_fields (w ∷ v ∷ []) h = refl
 two_fields (w ∷ v ∷ u ∷ ws) h = absurd (omega (arith, eqb-true _ _ h))
+two_fields _ h = absurd cc
 
 -- ---- the last line
 
@@ -218,17 +217,6 @@ end_takes at d fields p q next t e =
       sym (ok_is (end_read d q) next b.1),
       subst (λ (ws : List (List ℕ)). Takes p (line_text (codes "end" ∷ ws)) q) others (subst (λ (w : List ℕ). Takes p (line_text (w ∷ others_of fields)) q) first t),
     )
-
--- what is read last
-pub last_is : {A : Type 0} (d e : A) (q : Place) (read : Result (A × Place) FileFault) (x : A × Place) → e ≡ d → read ≡ Ok (e, q) → read ≡ Ok x → x ≡ (d, q)
-last_is {A} d e q read x same ends is = let last : A × Place = (e, q) in ok_is x last (sym is ∙ ends) ∙ ap (λ (y : A). (y, q)) same
-
-pub no_answer : {A : Type 0} (read : Result A FileFault) (x : A) (fault : FileFault) → read ≡ Err fault → read ≡ Ok x → ⊥
-no_answer read x fault e f = cc
-
--- Reading gives the value and leaves the rest.
-abbrev pub GetsBy : {A : Type 0} → (Result (A × Place) FileFault → Type 0) → A → List ℕ → Type 0
-GetsBy Reading x rest = (at : ℕ) × Reading (Ok (x, record { at = at; rest = rest }))
 
 pub spread : (a b c d e f : List ℕ) → a ++ b ++ c ++ d ++ e ++ f ≡ a ++ (b ++ (c ++ (d ++ (e ++ f))))
 spread a b c d e f = append_assoc (a ++ b ++ c ++ d) e f ∙ append_assoc (a ++ b ++ c) d (e ++ f) ∙ append_assoc (a ++ b) c (d ++ (e ++ f)) ∙ append_assoc a b (c ++ (d ++ (e ++ f)))

@@ -12,3 +12,8 @@ Fails e due = due ≡ Err e
 abbrev pub Gives : {X Y : Type 0} → (X → Y) → Result X FileFault → Result Y FileFault → Type 0
 Gives view (Ok x) due = due ≡ Ok (view x)
 Gives view (Err e) due = Fails e due
+
+-- What was read, seen by view.
+abbrev pub seen : {X Y : Type 0} → (X → Y) → Result X FileFault → Result Y FileFault
+seen view (Ok x) = Ok (view x)
+seen view (Err e) = Err e

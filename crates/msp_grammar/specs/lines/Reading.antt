@@ -1,5 +1,5 @@
 -- How the lines of a text and their fields are read, from left to right, up to the first fault.
-use Rattle.std.specs.Prelude.{◌≡◌, ℕ, ◌+◌, ◌-◌, Bool, true, false, ◌&&◌, ◌==◌, nat_le, List, [], ◌∷◌, length, take, drop, Some, None, Result, Ok, Err, ok_or, position, codes}
+use Rattle.std.specs.Prelude.{◌≡◌, ℕ, zero, suc, ◌+◌, ◌-◌, Bool, true, false, ◌&&◌, ◌==◌, nat_le, List, [], ◌∷◌, length, take, drop, Option, Some, None, Result, Ok, Err, ok_or, position, codes}
 use Rattle.std.specs.Prelude.{bytes_eq, ℤ, pos, negsuc, unsigned_abs}
 use Rattle.std.specs.List.{slice_split, list_all}
 use Rattle.msp_job_name.specs.declared.job_name.TheConstants.{LONGEST_NAME}
@@ -122,12 +122,21 @@ last_at at fields = provided (bytes_eq (first_of fields) (codes "end")) (Line at
 abbrev pub end_at : {A : Type 0} → ℕ → A → List (List ℕ) → Place → Result (LineRead A) FileFault
 end_at at draft fields place = provided (bytes_eq (first_of fields) (codes "end")) (Line at) (provided (length fields == 1) (Count at) (Ok (end_read draft place)))
 
--- Lines are read so by one step each, up to the end or a fault.
-pub data ReadsMore {A : Type 0} (step : A → Place → Result (LineRead A) FileFault) : A → Place → Result (A × Place) FileFault → Type 0 where
-  more_then : (draft more : A) (place next : Place) (read : Result (A × Place) FileFault)
-      → step draft place ≡ Ok (more_read more next) → ReadsMore step more next read → ReadsMore step draft place read
-  more_end : (draft all : A) (place next : Place) (read : Result (A × Place) FileFault) → step draft place ≡ Ok (end_read all next) → read ≡ Ok (all, next) → ReadsMore step draft place read
-  more_fault : (draft : A) (place : Place) (read : Result (A × Place) FileFault) (fault : FileFault) → step draft place ≡ Err fault → read ≡ Err fault → ReadsMore step draft place read
+-- What comes after a line: lines that may follow each other up to the end are read in the other way, where there is one.
+abbrev pub goes_on : {A : Type 0} → Option (A → Place → Result (A × Place) FileFault) → (A → Place → Result (A × Place) FileFault) → LineRead A → Result (A × Place) FileFault
+goes_on other next (job_read more place) = next more place
+goes_on None next (more_read more place) = next more place
+goes_on (Some last) next (more_read more place) = last more place
+goes_on other next (end_read all place) = Ok (all, place)
+
+-- Lines by one step each, up to the end or a fault: at most so many.
+unfoldable pub lines_by : {A : Type 0} → (A → Place → Result (LineRead A) FileFault) → Option (A → Place → Result (A × Place) FileFault) → ℕ → A → Place → Result (A × Place) FileFault
+lines_by step other zero draft place = Err (Missing place.at)
+lines_by step other (suc most) draft place = step draft place >>= goes_on other (lines_by step other most)
+
+-- All of them: each has a byte.
+abbrev pub lines_from : {A : Type 0} → (A → Place → Result (LineRead A) FileFault) → A → Place → Result (A × Place) FileFault
+lines_from step draft place = lines_by step None (suc (length place.rest)) draft place
 
 -- A line with one number of at least 1 behind its word.
 unfoldable pub number_line_at : List ℕ → What → ℕ → Place → Result (ℕ × Place) FileFault
@@ -136,17 +145,6 @@ number_line_at word quantity greatest place = do
   provided (length line.0 == 1) (Count place.at) (do
     number ← natural_at place.at quantity 1 greatest (first_of line.0)
     Ok (number, line.1))
-
--- What is read is the fault of what comes first, or what comes next.
-abbrev pub Then : {A B : Type 0} → Result A FileFault → (A → Result B FileFault → Type 0) → Result B FileFault → Type 0
-Then (Ok value) next read = next value read
-Then (Err fault) next read = read ≡ Err fault
-
--- What is read is the last step after lines that are read so.
-pub record ReadsBy {A B : Type 0} (last : A → Result B FileFault) (Lines : Result A FileFault → Type 0) (read : Result B FileFault) : Type 0 where
-  pub lines : Result A FileFault
-  pub reads : Lines lines
-  pub is : read ≡ (lines >>= last)
 
 -- What was read is all, if nothing follows it.
 abbrev pub all_of : {A : Type 0} → A × Place → Result A FileFault

@@ -46,19 +46,6 @@ parts_after separator (first ∷ bytes) = slice_split (λ byte. byte == separato
 abbrev pub fields_after : List ℕ → List (List ℕ)
 fields_after bytes = parts_after space_byte bytes
 
--- The same by a relation: where memory runs out nothing is said, and another fault is one that is read.
-abbrev pub FailsBy : {Y : Type 0} → FileFault → (Result Y FileFault → Type 0) → Type 0
-FailsBy Memory Reading = Unit {0}
-FailsBy e Reading = Reading (Err e)
-
-abbrev pub GivesBy : {Y : Type 0} → Result Y FileFault → (Result Y FileFault → Type 0) → Type 0
-GivesBy (Ok x) Reading = Reading (Ok x)
-GivesBy (Err e) Reading = FailsBy e Reading
-
-abbrev pub MovesBy : {X Y : Type 0} → (X → Y) → Result X FileFault → Place → (Result (Y × Place) FileFault → Type 0) → Type 0
-MovesBy view (Ok x) after Reading = Reading (Ok (view x, after))
-MovesBy view (Err e) after Reading = FailsBy e Reading
-
 -- What a line was that is one more or the end, and what one after the head or a job was.
 abbrev pub AfterLine : {A : Type 0} → (A → Place → Result (LineRead A) FileFault) → Result Bool FileFault → A → Place → A → Place → Type 0
 AfterLine step (Ok true) d p e q = step d p ≡ Ok (more_read e q)

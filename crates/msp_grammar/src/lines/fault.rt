@@ -154,15 +154,6 @@ impl What {
     }
 }
 
-fn plain(bytes: &[u8]) -> ShortText<FAULT_ROOM>
-    requires { length bytes.now ≤ FAULT_ROOM }
-    ensures { result ≡ bytes.now }
-{
-    let mut text = ShortText::new();
-    text.put(bytes);
-    text
-}
-
 /// The number of a line, which has at most 10 digits, and what is said of it.
 fn at_line(at: u32, what: &[u8]) -> ShortText<FAULT_ROOM>
     requires { length what.now + longest_line_head ≤ FAULT_ROOM }
@@ -170,7 +161,7 @@ fn at_line(at: u32, what: &[u8]) -> ShortText<FAULT_ROOM>
     ensures short { length result ≤ length what.now + longest_line_head }
 {
     let mut digits = itoa::Buffer::new();
-    let mut text = plain(b"line ");
+    let mut text = ShortText::of(b"line ");
     text.put(digits.format(at).as_bytes());
     text.put(b": ");
     text.put(what);
@@ -191,7 +182,7 @@ fn headed(head: &[u8], name: &JobName) -> ShortText<FAULT_ROOM>
     ensures text { result ≡ head.now ++ name.now }
     ensures short { length result ≤ length head.now + LONGEST_NAME }
 {
-    let mut text = plain(head);
+    let mut text = ShortText::of(head);
     text.put(name.bytes());
     text
 }
@@ -210,7 +201,7 @@ fn broken(fault: ClassFault, name: &Option<JobName>) -> ShortText<FAULT_ROOM>
     ensures { result ≡ broken_text fault name.now }
 {
     match (fault, name) {
-        (ClassFault::Jobs, _) => plain(b"no jobs"),
+        (ClassFault::Jobs, _) => ShortText::of(b"no jobs"),
         (ClassFault::Need { .. }, Some(name)) => of_job(name, b": needs"),
         (ClassFault::Degree { .. }, Some(name)) => of_job(name, b": degree"),
         _ => ShortText::new(),
@@ -238,7 +229,7 @@ impl FileFault {
             FileFault::After { at } => at_line(*at, b"after the end"),
             FileFault::Class { fault, name } => broken(*fault, name),
             FileFault::Cycle { name, .. } => headed(b"cycle at ", name),
-            FileFault::Memory => plain(b"out of memory"),
+            FileFault::Memory => ShortText::of(b"out of memory"),
         }
     }
 }

@@ -192,7 +192,7 @@ pub fn field_line_at<'a>(lines: &mut Lines<'a>, word: &[u8]) -> Result<&'a [u8],
 }
 
 /// A line with one number of at least 1 behind its word.
-#[tactic(auto, unfolding(crate::specs::lines::Reading::number_line_at))]
+#[tactic(auto, unfolding(crate::specs::lines::Reading::number_line_at, crate::specs::lines::Reading::field_line_at))]
 pub fn number_line_at(
     lines: &mut Lines<'_>,
     word: &[u8],
@@ -204,11 +204,7 @@ pub fn number_line_at(
     ensures range { IfOk result (λ n. (1 ≤ n) × (n ≤ greatest)) }
 {
     let at = lines.at;
-    let fields = worded_at(lines, word)?;
-    if count_fields(fields) != 1 {
-        return Err(FileFault::Count { at });
-    }
-    let (field, _) = next_field(fields);
+    let field = field_line_at(lines, word)?;
     natural_at(at, what, 1, greatest, field)
 }
 

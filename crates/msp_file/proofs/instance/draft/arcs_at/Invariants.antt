@@ -1,10 +1,8 @@
 -- What holds in the loop of `arcs_at`: what is left gives the answer of the whole.
-use Rattle.std.proofs.Common.{◌≡◌, ◌≤◌, length, Result}
+use Rattle.std.proofs.Common.{◌≡◌, ◌≤◌, None, length}
 use Rattle.msp_class.specs.declared.sizes.TheConstants.{MOST_JOBS}
-use Rattle.msp_grammar.specs.declared.lines.fault.FileFault.{FileFault}
-use Rattle.msp_file.specs.declared.instance.draft.Draft.{Draft}
-use Rattle.msp_grammar.specs.lines.Reading.{Place}
-use Rattle.msp_file.specs.instance.Reading.{ReadsArcs}
+use Rattle.msp_grammar.proofs.reading.Lines.{Leaves}
+use Rattle.msp_file.specs.instance.Reading.{arc_step, arcs_from}
 use Rattle.msp_grammar.specs.lines.Steps.{place_of}
 use Rattle.msp_file.proofs.instance.draft.arcs_at.Given as goal
 
@@ -13,7 +11,7 @@ invariant-lines l =
     (length l.draft.names ≤ MOST_JOBS)
     × (l.draft.names ≡ l.fn.draft.names)
     × (l.draft.jobs ≡ l.fn.draft.jobs)
-    × ((read : Result (Draft × Place) FileFault) → ReadsArcs l.draft (place_of l.lines) read → ReadsArcs l.fn.draft (place_of l.fn.lines) read)
+    × Leaves arc_step None l.draft (place_of l.lines) (arcs_from l.fn.draft (place_of l.fn.lines))
 
 abbrev pub decreases-lines : goal.decreases-lines
 decreases-lines l = length l.lines.rest.now

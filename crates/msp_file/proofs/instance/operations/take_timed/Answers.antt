@@ -1,26 +1,10 @@
 -- The goals of `take_timed` that are proved by lemmas.
 use Rattle.std.proofs.Common.{◌<◌, ◌∷◌, ap, ◌∙◌, length, rules}
 use Rattle.msp_file.proofs.instances.Pairs.{timed_next}
-use Rattle.msp_grammar.specs.lines.Steps.{fields_after}
 use Rattle.msp_file.proofs.instance.operations.take_timed.Goals as goal
 
 pub returns-clause-leads : goal.returns-clause-leads
 returns-clause-leads c =
-    let w = c.next_field.result.0.now in
-    let v = c.next_field-2.result.0.now in
     let some : 0 < length c.next_field.result.1.now = search rules in
-    timed_next
-    c.args.at
-    c.args.machines
-    c.args.needs.now
-    c.push_need.new.needs
-    (fields_after c.args.rest.now)
-    w
-    v
-    (fields_after c.next_field-2.result.1.now)
-    c.in_ok-machine.machine
-    c.in_ok-time.time
-    (c.next_field.ensures.whole c.requires ∙ ap (λ ws. w ∷ ws) (c.next_field-2.ensures.whole some))
-    c.in_ok-machine.ensures
-    c.in_ok-time.ensures.value
-    c.in_ok-push_need.ensures
+    let both = c.next_field.ensures.whole c.requires ∙ ap (λ ws. c.next_field.result.0.now ∷ ws) (c.next_field-2.ensures.whole some) in
+    timed_next _ _ _ _ _ _ _ _ _ _ both c.in_ok-machine.ensures c.in_ok-time.ensures.value c.in_ok-push_need.ensures
