@@ -1,4 +1,5 @@
 // What the page knows: the problem and its plan with their history, the instance, and what the program says of both.
+import { labelIn } from '../atlas/words.js';
 import { run } from '../engine.js';
 import { nameOf, rankOf } from '../names.js';
 import { clockOf } from './clock.js';
@@ -29,7 +30,7 @@ const KEPT = 30;
 export class App {
   /**
    * @param {State} state
-   * @param {import('./words.js').Words} words
+   * @param {import('../words.js').Words} words
    */
   constructor(state, words) {
     this.store = new Store(state);
@@ -249,7 +250,7 @@ export class App {
    * @param {string} note
    */
   why(status, note) {
-    if (status === 5) return this.words.say('notBest', this.name, this.label || '?');
+    if (status === 5) return this.words.say('notBest', this.name, labelIn(this.words, this.label) || '?');
     if (/limit of the solver/.test(note)) return this.words.say('solverLimit', note.replace(/^msp: /, '').trim());
     return this.tell(note) ? '' : this.words.say('line', note.replace(/^msp: /, '').trim());
   }

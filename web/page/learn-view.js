@@ -15,7 +15,7 @@ import { WhyView } from './why-view.js';
 
 /** @typedef {import('../lessons/lessons.js').Lesson} Lesson */
 /** @typedef {import('./state.js').Plan} Plan */
-/** @typedef {import('./words.js').Words} Words */
+/** @typedef {import('../words.js').Words} Words */
 
 /** What is told of an answer; all else stands in the verdict already. */
 const TOLD = ['solved', 'changed', 'dearer', 'moved', 'refused', 'kind', 'less'];

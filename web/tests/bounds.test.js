@@ -14,7 +14,7 @@ import { built } from '../page/instance.js';
 import { plainOf, plainText } from '../page/plain.js';
 import { boundOf, chains } from '../page/relaxations.js';
 import { problemOf } from '../page/texts.js';
-import { Words } from '../page/words.js';
+import { Words } from '../words.js';
 import { Draw, drawn } from './drawn.js';
 
 /** @typedef {import('../page/relaxations.js').Chain} Chain */
