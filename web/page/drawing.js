@@ -105,33 +105,65 @@ export async function pngOf(chart, title) {
   }
 }
 
-/** Signs that mean something in LaTeX.
+/** Signs that mean something in LaTeX, or look like something else in its first fonts.
  * @type {Object<string, string>} */
-const SIGNS = { '\\': '\\textbackslash{}', '~': '\\textasciitilde{}', '^': '\\textasciicircum{}',
+const SIGNS = { '\\': '\\textbackslash{}', '~': '\\textasciitilde{}', '^': '\\textasciicircum{}', '<': '\\textless{}', '>': '\\textgreater{}',
+  '|': '\\textbar{}', '"': '{\\ttfamily\\char34}', '-': '{-}', '\u2212': '$-$', '\u2009': '\\,', '\u202f': '\\,',
   ...Object.fromEntries(Array.from('#$%&_{}', it => [it, `\\${it}`])) };
+/** Signs that are not seen. */
+const UNSEEN = /[\u200b-\u200f\u2028-\u202e\u2060-\u2069\ufeff]/g;
+/** Signs that pdflatex knows without a further package. */
+const LATIN = /^[\n -~\u00a0\u00a1-\u017f\u2009\u202f\u2013\u2014\u2018-\u201a\u201c-\u201e\u2022\u2026\u20ac\u2212]*$/;
 
 /**
  * A text of LaTeX.
  * @param {string} text
  */
-function latex(text) { return Array.from(text, it => SIGNS[it] || it).join(''); }
+export function latex(text) { return Array.from(text.replace(UNSEEN, ''), it => SIGNS[it] || it).join(''); }
+
+/**
+ * A place of the chart in centimetres.
+ * @param {number} x
+ * @param {number} y
+ */
+function at(x, y) { return `(${(x / 40).toFixed(3)},${(-y / 40).toFixed(3)})`; }
+
+/**
+ * A bar in TikZ, with its label.
+ * @param {Bar} bar
+ */
+function tikzBar({ x, y, width, label, late, broken, marked, colour }) {
+  const edge = broken ? 'mspred,very thick' : late ? 'mspred,thick' : marked ? 'black,very thick' : 'gray,thin';
+  const text = latex(label), middle = at(x + width / 2, y + BAR / 2);
+  return [`\\draw[fill=msp${'abcdefgh'[colour]},draw=${edge}] ${at(x, y)} rectangle ${at(x + width, y + BAR)};`,
+    ...(text ? [`\\node[font=\\scriptsize] at ${middle} {\\strut ${text}};`] : [])];
+}
+
+/**
+ * The mark of a date in TikZ, in the form that it has in the page.
+ * @param {Mark} mark
+ */
+function tikzMark({ kind, x, y, late, short }) {
+  const top = y + 2, foot = y + LINE - 2, middle = y + LINE / 2, colour = late ? 'mspred' : 'mspgreen';
+  if (kind === 'release') return `\\draw[mspblue,thick] ${at(x, top)} -- ${at(x, foot)} ${at(x, middle)} -- ${at(x + 6, middle)};`;
+  if (short) return `\\fill[${colour}] ${at(x - 5, top - 1)} -- ${at(x + 5, top - 1)} -- ${at(x, top + 7)} -- cycle;`;
+  return `\\filldraw[${colour}] ${at(x, foot)} -- ${at(x, top)} -- ${at(x - 8, top)} -- ${at(x - 4, top + 4)} -- ${at(x - 8, top + 8)} -- `
+    + `${at(x, top + 8)};`;
+}
 
 /**
  * A chart as a picture of TikZ, in centimetres.
  * @param {Chart} chart
  */
 export function tikzText(chart) {
-  const at = (/** @type {number} */ x, /** @type {number} */ y) => `(${(x / 40).toFixed(3)},${(-y / 40).toFixed(3)})`;
   const foot = TOP + chart.lines.length * LINE;
-  const lines = chart.lines.map(({ title, y }) => `\\node[anchor=west] at ${at(0, y + LINE / 2)} {${latex(title)}};`);
+  const lines = chart.lines.map(({ title, y }) => `\\node[anchor=west,font=\\small] at ${at(0, y + LINE / 2)} {\\strut ${latex(title)}};`);
   const ticks = chart.ticks.flatMap(({ x, text }) => [`\\draw[lightgray] ${at(x, TOP)} -- ${at(x, foot + 5)};`,
     `\\node[anchor=north,font=\\scriptsize] at ${at(x, foot + 4)} {${latex(text)}};`]);
-  const bars = chart.bars.flatMap(({ x, y, width, label, late, colour }) => [
-    `\\draw[fill=msp${'abcdefgh'[colour]}${late ? ',draw=red!70!black,thick' : ''}] ${at(x, y)} rectangle ${at(x + width, y + BAR)};`,
-    ...(label ? [`\\node[font=\\scriptsize] at ${at(x + width / 2, y + BAR / 2)} {${latex(label)}};`] : [])]);
-  const colourOf = (/** @type {Mark} */ { kind, late }) => kind === 'release' ? 'blue' : late ? 'red!70!black' : 'green!40!black';
-  const marks = chart.marks.map(it => `\\draw[thick,${colourOf(it)}] `
-    + `${at(it.x, it.y + 2)} -- ${at(it.x, it.y + (it.short ? LINE / 4 : LINE - 2))};`);
-  const colours = FILLS.map((it, place) => `\\definecolor{msp${'abcdefgh'[place]}}{HTML}{${it.slice(1).toUpperCase()}}`);
-  return ['% \\usepackage{tikz}', ...colours, '\\begin{tikzpicture}', ...ticks, ...lines, ...bars, ...marks, '\\end{tikzpicture}', ''].join('\n');
+  const colours = [...FILLS.map((it, place) => ['abcdefgh'[place], it]), ['red', '#a11d27'], ['green', '#2c5b34'], ['blue', '#1b4f9c']];
+  const defined = colours.map(([name, it]) => `\\definecolor{msp${name}}{HTML}{${it.slice(1).toUpperCase()}}`);
+  const body = [...defined, '\\begin{tikzpicture}', ...ticks, ...lines, ...chart.bars.flatMap(tikzBar), ...chart.marks.map(tikzMark),
+    '\\end{tikzpicture}', ''].join('\n');
+  const other = LATIN.test(body) ? '' : '% (some names have letters that pdflatex does not know: lualatex and xelatex do, with a font for them)\n';
+  return `% \\usepackage{tikz}; where it is too wide: \\resizebox{\\linewidth}{!}{\\input{plan}}\n${other}${body}`;
 }
