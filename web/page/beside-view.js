@@ -105,9 +105,8 @@ export class BesideView {
    * @param {App} other
    */
   chart(other) {
-    const svg = drawn(chartOf({ ...this.wanted(other), span: this.span() }), `${other.name}, ${this.title(other)}`);
+    const svg = drawn(chartOf({ ...this.wanted(other), span: this.span() }), `${other.name}, ${this.title(other)}`, 'beside-stripes');
     svg.setAttribute('role', 'img');
-    svg.querySelectorAll('defs').forEach(it => it.remove());
     return element('div', { class: 'scroll chart-room', tabindex: '0', role: 'group', 'aria-label': this.title(other) }, svg);
   }
 

@@ -15,6 +15,8 @@ import { momentText } from './clock.js';
 const MOST = 12800;
 const REACH = 8;
 
+let charts = 0;
+
 /** The chart of the plan. */
 export class ChartView {
   /**
@@ -26,6 +28,8 @@ export class ChartView {
     this.tell = say;
     this.root = element('div', { class: 'scroll chart-room', tabindex: '-1' });
     this.byJob = false;
+    /** The name of what fills bars that break a condition. */
+    this.stripes = `stripes-${++charts}`;
     /** Up to which moment the axis goes at least. */
     this.span = () => 0;
     this.zoom = 1;
@@ -105,7 +109,7 @@ export class ChartView {
     const now = chartOf(wanted);
     if (before && hasFrame(before, now)) this.again(before, now, wanted);
     else {
-      const svg = drawn(now, this.title);
+      const svg = drawn(now, this.title, this.stripes);
       this.shapes = new Map(Array.from(svg.querySelectorAll('.bar'), it => [Number(it.getAttribute('data-at')), it]));
       const jobs = new Map(wanted.built.jobs.map(it => [it.row.id, it]));
       this.shapes.forEach(bar => this.name(bar, wanted, jobs));
@@ -124,7 +128,7 @@ export class ChartView {
     const jobs = new Map(wanted.built.jobs.map(it => [it.row.id, it]));
     now.bars.forEach((bar, place) => {
       if (bar.at !== this.current && bar.at !== this.drawnAt && isBar(before.bars[place], bar)) return;
-      const old = this.shapes.get(bar.at), made = barShape(bar);
+      const old = this.shapes.get(bar.at), made = barShape(bar, this.stripes);
       this.name(made, wanted, jobs);
       if (old) old.replaceWith(made);
       this.shapes.set(bar.at, made);

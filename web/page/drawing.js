@@ -11,15 +11,19 @@ const MOST_LINES = 40;
 /** The colours of bars, each bright enough for dark letters. */
 export const FILLS = ['#a9c8f0', '#f3c98b', '#b5dcae', '#e3bce6', '#f0b6ab', '#a8dcdc', '#d8d39a', '#c9c4f2'];
 
+/** The name of what fills bars that break a condition, in a file; in a page each chart has its own. */
+const STRIPES = 'broken-stripes';
+
 /**
  * A bar with its label.
  * @param {Bar} bar
+ * @param {string} [fills] the name of what fills it where it breaks a condition
  */
-export function barShape(bar) {
+export function barShape(bar, fills = STRIPES) {
   const { x, y, width, broken } = bar;
   const classes = ['bar', bar.late ? 'late' : '', broken ? 'broken' : '', bar.marked ? 'marked' : ''].filter(Boolean).join(' ');
   const edge = broken || bar.late ? '#a11d27' : bar.marked ? '#1c232e' : '#5b6675';
-  const rect = shape('rect', { x, y, width, height: BAR, rx: 3, fill: broken ? 'url(#broken-stripes)' : FILLS[bar.colour], stroke: edge,
+  const rect = shape('rect', { x, y, width, height: BAR, rx: 3, fill: broken ? `url(#${fills})` : FILLS[bar.colour], stroke: edge,
     'stroke-width': broken || bar.marked ? 3 : bar.late ? 2 : 1 });
   const how = { x: x + width / 2, y: y + BAR / 2 + 4.5, 'text-anchor': 'middle', fill: '#1c232e', class: 'label' };
   return shape('g', { class: classes, 'data-at': bar.at }, rect, ...(bar.label ? [shape('text', how, bar.label)] : []));
@@ -39,9 +43,12 @@ export function markShape({ kind, x, y, late, short }) {
   return shape('path', { d, class: `due${late ? ' late' : ''}`, fill: colour, stroke: colour, 'stroke-width': 1.4 });
 }
 
-/** What fills a bar that breaks a condition: stripes, which are seen without colours too. */
-function stripes() {
-  const how = { id: 'broken-stripes', width: 8, height: 8, patternUnits: 'userSpaceOnUse', patternTransform: 'rotate(45)' };
+/**
+ * What fills a bar that breaks a condition: stripes, which are seen without colours too.
+ * @param {string} id
+ */
+function stripes(id) {
+  const how = { id, width: 8, height: 8, patternUnits: 'userSpaceOnUse', patternTransform: 'rotate(45)' };
   return shape('defs', {}, shape('pattern', how,
     shape('rect', { width: 8, height: 8, fill: '#ffd9d6' }), shape('rect', { width: 3, height: 8, fill: '#e0797c' })));
 }
@@ -64,11 +71,13 @@ function ground(chart) {
  * A chart as an element.
  * @param {Chart} chart
  * @param {string} title
+ * @param {string} [fills] the name of what fills bars that break a condition, which stands once in a page
  */
-export function drawn(chart, title) {
+export function drawn(chart, title, fills = STRIPES) {
   const { width, height } = chart, name = chart.lines.length > MOST_LINES ? 'chart long' : 'chart';
   return shape('svg', { viewBox: `0 0 ${width} ${height}`, width, height, class: name, role: 'group', 'aria-label': title, 'font-size': 12.5,
-    'font-family': 'system-ui, "Segoe UI", "DejaVu Sans", sans-serif' }, stripes(), ...ground(chart), ...chart.bars.map(barShape),
+    'font-family': 'system-ui, "Segoe UI", "DejaVu Sans", sans-serif' }, stripes(fills), ...ground(chart),
+  ...chart.bars.map(it => barShape(it, fills)),
   ...chart.marks.map(markShape));
 }
 

@@ -210,7 +210,8 @@ async function begin() {
   await route();
   prepare().catch(fault => {
     const isOld = typeof DecompressionStream === 'undefined';
-    app.said = isOld ? app.words.say('tooOld') : app.words.say('failed', fault instanceof Error ? fault.message : String(fault));
+    if (isOld) app.tells('tooOld');
+    else app.tells('failed', fault instanceof Error ? fault.message : String(fault));
     app.render();
   });
   if (!app.state.plan && !app.running) app.solve(true);
