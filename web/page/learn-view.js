@@ -147,10 +147,13 @@ export class LearnView {
     const again = () => app.plan(this.first(app, lesson)), move = () => {
       if (app.state.plan) app.plan({ pieces: early(app.state.plan.pieces, app.built), from: 'own' });
     };
-    return element('div', { class: 'buttons' }, button(this.say('early'), move, { title: this.say('earlySays'), id: 'lesson-early' }),
-      button(this.say('undo'), () => app.store.undo(), { id: 'lesson-undo' }),
-      button(this.say('redo'), () => app.store.redo(), { id: 'lesson-redo' }), button(this.say('again'), again, { id: 'lesson-again' }),
-      button(this.say('lessonTake'), () => this.take(instanceText(lesson))));
+    const undo = button(this.say('undo'), () => app.store.undo(), { id: 'lesson-undo' });
+    const redo = button(this.say('redo'), () => app.store.redo(), { id: 'lesson-redo' });
+    const able = () => { [undo.disabled, redo.disabled] = [!app.store.past.length, !app.store.future.length]; };
+    app.show(able);
+    able();
+    return element('div', { class: 'buttons' }, button(this.say('early'), move, { title: this.say('earlySays'), id: 'lesson-early' }), undo, redo,
+      button(this.say('again'), again, { id: 'lesson-again' }), button(this.say('lessonTake'), () => this.take(instanceText(lesson))));
   }
 
   /**
