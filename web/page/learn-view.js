@@ -149,7 +149,12 @@ export class LearnView {
     };
     const undo = button(this.say('undo'), () => app.store.undo(), { id: 'lesson-undo' });
     const redo = button(this.say('redo'), () => app.store.redo(), { id: 'lesson-redo' });
-    const able = () => { [undo.disabled, redo.disabled] = [!app.store.past.length, !app.store.future.length]; };
+    const able = () => {
+      const { activeElement: here } = document;
+      [undo.disabled, redo.disabled] = [!app.store.past.length, !app.store.future.length];
+      if (here === undo && undo.disabled) redo.focus();
+      if (here === redo && redo.disabled) undo.focus();
+    };
     app.show(able);
     able();
     return element('div', { class: 'buttons' }, button(this.say('early'), move, { title: this.say('earlySays'), id: 'lesson-early' }), undo, redo,

@@ -326,12 +326,7 @@
       .map(it => `a part without a name: ${it.id}`),
     ...each('svg.chart').filter(it => !it.getAttribute('aria-label')).map(() => 'a chart without a name'),
     ...document.documentElement.lang === language ? [] : ['the language is not said']];
-  /** Words of English in what is seen of the classes, but for what is marked as English. */
-  const english = () => Array.from(document.querySelectorAll('#part-classes *, #said, #class-known *'))
-    .flatMap(it => Array.from(it.childNodes).filter(node => node.nodeType === 3).map(node => ({ it, text: node.textContent || '' })))
-    .filter(({ it, text }) => /\b(the|of|is|are|with|that|this|to|and|which|from|by|no|here|all|any)\b/.test(text) && !it.closest('[lang=en], .name'))
-    .map(({ text }) => text);
-  Object.assign(window.trial, { roles, english });
+  Object.assign(window.trial, { roles });
 })();
 
 // Colours of charts.
