@@ -38,32 +38,8 @@ import { nameOf, NAMES, partsOf, rankOf } from './names.js';
  */
 /** @typedef {Facts & Told} Data */
 
-/**
- * What each label says.
- * @type {Object<string, string>}
- */
-export const MEANING = {
-  easy: 'A polynomial algorithm: a chain of reductions leads from it to a class that is listed easy.',
-  pseudo: 'A pseudopolynomial algorithm; whether it is NP-hard is not said.',
-  weak: 'NP-hard, with a pseudopolynomial algorithm.',
-  hard: 'NP-hard; whether it is so in the strong sense is not said.',
-  strong: 'NP-hard in the strong sense.',
-  open: 'The results are silent: no chain leads to an easy entry, and none from a hard one. It need not be open in the literature.',
-  both: 'The results clash: easy and hard.',
-  torn: 'The results clash: pseudopolynomial and hard in the strong sense.',
-};
-/** @type {Object<string, string>} */
-export const LETTER = { easy: 'E', pseudo: 'P', weak: 'W', hard: 'H', strong: 'S', open: 'O', both: '!', torn: '!' };
-/**
- * The lists of the frontier.
- * @type {Object<string, string>}
- */
-export const FRONTIER = {
-  'maximal easy': 'Easy, and every class that is harder by rows is not.',
-  'minimal hard': 'Hard, and every class that is easier by rows is not.',
-  'minimal open': 'Open, and every class that is easier by rows is settled: here an algorithm would settle least, and hardness most.',
-  'maximal open': 'Open, and every class that is harder by rows is settled: here hardness would settle least, and an algorithm most.',
-};
+/** The lists of the frontier. */
+export const FRONTIER = ['maximal easy', 'minimal hard', 'minimal open', 'maximal open'];
 
 /** What is known under one file of results. */
 class Knowledge {

@@ -5,7 +5,7 @@ import { ends } from './classes.js';
 /** @typedef {import('./classes.js').Atlas} Atlas */
 /** @typedef {{at: number, column: number, place: number}} Box a class, its column from the left, and its place there from above */
 /** @typedef {{from: number, to: number, row: number}} Line from an easier class to a harder one; the row is 0 where it stands for a chain */
-/** @typedef {{boxes: Box[], lines: Line[], heads: string[]}} Picture */
+/** @typedef {{boxes: Box[], lines: Line[], heads: string[]}} Picture the heads of its columns are keys of atlas/words.js, or empty */
 
 /**
  * Columns of classes as boxes: in each column but the first they stand in the order of the middle of those from which lines lead to them.
@@ -52,7 +52,7 @@ export function around(atlas, chains, at) {
   const lines = Array.from(column.keys()).flatMap(from => atlas.above(from)
     .filter(([, to]) => column.has(to) && (column.get(to) || 0) > (column.get(from) || 0)).map(([row, to]) => ({ from, to, row })));
   /** @type {Object<string, string>} */
-  const titles = { '-1': 'easier by a row', 0: 'this class', 1: 'harder by a row' }, heads = columns.map((_, it) => titles[it + least] || '');
+  const titles = { '-1': 'around -1', 0: 'around 0', 1: 'around 1' }, heads = columns.map((_, it) => titles[it + least] || '');
   return { boxes: boxesOf(columns, lines), lines, heads };
 }
 
@@ -70,7 +70,7 @@ export function frontier(atlas, labels, machines) {
   const open = ['open', 'pseudo'], easiest = ends(atlas, labels, among, open, false);
   const columns = [ends(atlas, labels, among, ['easy'], true), easiest,
     ends(atlas, labels, among, open, true).filter(at => !easiest.includes(at)), ends(atlas, labels, among, ['weak', 'hard', 'strong'], false)];
-  const heads = ['hardest easy', 'easiest open', 'hardest open', 'easiest hard'];
+  const heads = ['head hardest easy', 'head easiest open', 'head hardest open', 'head easiest hard'];
   const shown = columns.flat();
   const reached = new Map(shown.map(at => [at, atlas.reached(at)]));
   /** @type {(from: number, to: number) => boolean} */

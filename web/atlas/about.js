@@ -1,9 +1,10 @@
 // What the page is, how to cite it, and the proofs of our own.
-import { FRONTIER, MEANING } from '../classes.js';
+import { FRONTIER } from '../classes.js';
 import { element } from '../elements.js';
 import { NAMES } from '../names.js';
 import { ownBibtex } from '../results.js';
-import { dot, linkTo, named } from './parts.js';
+import { translated } from './german.js';
+import { dot, labelled, linkTo, named } from './parts.js';
 
 /** @typedef {import('./parts.js').View} View */
 
@@ -49,12 +50,11 @@ export function prose(text) {
  * @param {string} title
  */
 function proofList(view, title) {
-  const chapters = Object.entries(view.atlas.data.chapters || {}).flatMap(([chapter, those]) => [element('h4', {}, chapter),
-    element('ul', { class: 'columns' }, ...those.map(it => element('li', {}, linkTo(view, `proof=${it}`, it))))]);
+  const chapters = Object.entries(view.atlas.data.chapters || {}).flatMap(([chapter, those]) => [
+    element('h4', {}, translated(view.words, chapter).text),
+    element('ul', { class: 'columns', lang: 'en' }, ...those.map(it => element('li', {}, linkTo(view, `proof=${it}`, it))))]);
   return element('section', {}, element('h3', {}, title), ...chapters);
 }
-
-const ON_PAPER = 'This is a proof on paper. Where it stands for a result of our own, no journal has seen it. Nothing of it is proved by the program.';
 
 /**
  * A proof of our own.
@@ -64,40 +64,21 @@ const ON_PAPER = 'This is a proof on paper. Where it stands for a result of our 
  */
 export function proofView(view, heading) {
   const text = (view.atlas.data.sections || {})[heading];
-  const title = element('h2', { tabindex: '-1' }, text ? heading : heading ? `No proof has the name ${heading}` : 'Proofs of our own');
-  const box = element('section', { class: 'prose' }, title, ...prose(text || ''), element('p', { class: 'quiet' }, ON_PAPER));
-  return [box, proofList(view, 'All proofs')];
+  const { words } = view, said = text ? heading : heading ? words.say('proofNone', heading) : words.say('proofsOwn');
+  const title = element('h2', { tabindex: '-1', lang: text ? 'en' : null }, said);
+  const box = element('section', { class: 'prose' }, title, element('div', { lang: 'en' }, ...prose(text || '')),
+    element('p', { class: 'quiet' }, words.say('onPaper')));
+  return [box, proofList(view, words.say('proofsAll'))];
 }
-
-const ABOUT = `
-It shows all ${NAMES.length.toLocaleString('en')} classes of deterministic scheduling that \`msp\` knows, in the three-field notation. What it says
-is what the program prints: labels by \`msp label\`, chains and entries by \`msp why\`, the frontier by \`msp frontier\`, rows by \`msp rows\`;
-solvers are those of docs/solved-classes.md, with the chain that \`msp solve\` prints. Chains were worked out from the rows by the rule of
-\`why\`, and compared with it in two hundred classes.
-
-A chain of reductions leads from a class to one that is at least as hard. So a class is easy if a chain leads from it to a class that is listed
-easy, and hard if one leads to it from a class that is listed hard.
-
-The search takes names as other texts write them: \`Pm|r_j|sum w_jC_j\`, \`$1\\mid r_j,pmtn\\mid\\sum C_j$\`, \`1 / rj; pmtn / SumCi\`; or words in
-any order, as \`P2 pmtn sumT\` or \`flow shop open makespan\`; or authors and years, as \`Lawler 1973\`. A class is opened only where every part
-was understood. The address behind # is read in the same way.
-
-References were written from memory, and a note says so where a field was not certain. Times of rules are those of the literature, and not of
-\`msp solve\`.`;
-const CORRECTIONS = `
-Whoever finds a result to be false, published elsewhere or missing should say so with a source, as an issue where this program was found.
-CONTRIBUTING.md there says how an entry is changed.`;
 
 /**
  * Whose word the labels are.
  * @param {View} view
  */
 function trust(view) {
-  const { data, published, all } = view.atlas, own = (data.own || []).length, opened = (all.counts().open || 0).toLocaleString('en');
-  if (!published) return 'That the listed results are true is the word of those who list them.';
-  return `The listed results are the literature\u2019s word, but for ${own} entries that rest on proofs of our own, which no journal has seen. `
-    + `Without them ${(published.counts().open || 0).toLocaleString('en')} classes are open in place of ${opened}. The switch at the top shows what `
-    + 'follows from the published results alone; a label that rests on a proof of our own is marked.';
+  const { words, atlas: { data, published, all } } = view, own = (data.own || []).length;
+  if (!published) return words.say('trustListed');
+  return words.say('trust', own, words.number(published.counts().open || 0), words.number(all.counts().open || 0));
 }
 
 /**
@@ -106,11 +87,11 @@ function trust(view) {
  * @returns {Node[]}
  */
 function citing(view) {
-  const { data } = view.atlas, { citation } = data;
+  const { words, atlas: { data } } = view, { citation } = data;
   if (!citation) return [];
-  return [element('h3', {}, 'Version, and how to cite'),
-    element('p', {}, `Version ${citation.version} of ${citation.released}. ${citation.author}: ${citation.title}.`),
-    element('pre', {}, ownBibtex(data)), element('h3', {}, 'Corrections'), ...prose(CORRECTIONS)];
+  return [element('h3', {}, words.say('citeHead')), element('p', {}, ...words.parts('cite', citation.version, citation.released, citation.author,
+    element('span', { lang: 'en' }, citation.title))),
+    element('pre', { lang: 'en' }, ownBibtex(data)), element('h3', {}, words.say('correctionsHead')), ...prose(words.say('corrections'))];
 }
 
 /**
@@ -119,10 +100,12 @@ function citing(view) {
  * @returns {Node[]}
  */
 export function aboutView(view) {
-  const box = element('section', { class: 'prose' }, element('h2', { tabindex: '-1' }, 'About this page'), ...prose(ABOUT), element('p', {},
-    trust(view)));
-  const labels = view.atlas.data.label_names.map(it => element('p', {}, dot(it), `${it}: ${MEANING[it]}`));
-  const lists = Object.entries(FRONTIER).map(([it, text]) => element('p', {}, element('b', {}, it), `: ${text}`));
-  box.append(...citing(view), element('h3', {}, 'Labels'), ...labels, element('h3', {}, 'The frontier'), ...lists);
-  return Object.keys(view.atlas.data.sections || {}).length ? [box, proofList(view, 'Proofs of our own')] : [box];
+  const { words } = view;
+  const box = element('section', { class: 'prose' }, element('h2', { tabindex: '-1' }, words.say('aboutHead')),
+    ...prose(words.say('about', words.number(NAMES.length))), element('p', {}, trust(view)));
+  const labels = view.atlas.data.label_names.map(it => element('p', {}, dot(view, it), words.say('labelIs', labelled(view, it),
+    words.say(`meaning ${it}`))));
+  const lists = FRONTIER.map(it => element('p', {}, element('b', {}, words.say(`list ${it}`)), `: ${words.say(`says ${it}`)}`));
+  box.append(...citing(view), element('h3', {}, words.say('labelsHead')), ...labels, element('h3', {}, words.say('frontierHead')), ...lists);
+  return Object.keys(view.atlas.data.sections || {}).length ? [box, proofList(view, words.say('proofsOwn'))] : [box];
 }

@@ -4,8 +4,9 @@ import { element } from '../elements.js';
 import { ITEMS, nameOf, NAMES, partsOf, rankOf } from '../names.js';
 import { allowed, asked, near, read } from '../reading.js';
 import { entriesOf } from '../results.js';
+import { behindIn, noteIn } from './german.js';
+import { classList } from './lists.js';
 import { badge, classLink, speedsRemark, told } from './parts.js';
-import { classList, count } from './lists.js';
 
 /** @typedef {import('./parts.js').View} View */
 /** @typedef {import('../reading.js').Reading} Reading */
@@ -32,11 +33,12 @@ export function answer(view, text) {
 
 /**
  * What was not understood, word by word.
+ * @param {View} view
  * @param {Reading} reading
  * @returns {string[]}
  */
-export function notUnderstood(reading) {
-  return reading.unknown.map(({ word, note }) => `Not understood: ${word}.${note ? ` ${note}` : ''}`);
+export function notUnderstood({ words }, reading) {
+  return reading.unknown.map(({ word, note }) => `${words.say('notUnderstood', word)}${note ? ` ${noteIn(words, note)}` : ''}`);
 }
 
 /**
@@ -47,18 +49,21 @@ export function notUnderstood(reading) {
  * @param {number} at a class of the name with any machines
  */
 function fixedPart(view, reading, fixed, at) {
-  const { labels } = told(view), parts = partsOf(at), { kind, machines } = fixed, { verdict, by } = manyMachines(labels, parts, kind);
+  const { words } = view, { labels } = told(view), parts = partsOf(at), { kind, machines } = fixed;
+  const { verdict, by } = manyMachines(labels, parts, kind);
   const wide = rankOf(nameOf({ ...parts, environment: kind })), rest = NAMES[at].slice(NAMES[at].indexOf('|'));
   const named = (reading.wanted.environment || []).filter(it => it !== kind).map(environment => rankOf(nameOf({ ...parts, environment })));
   const most = Math.max(...named.map(it => Number(partsOf(it).environment.slice(1))));
-  const those = machines === null ? `Each number of machines above ${most}` : `${kind}${machines}${rest}`;
-  const line = element('p', { class: 'verdict' }, `${those}: `, verdict === 'unknown' ? element('b', {}, 'unknown here') : badge(verdict), '. ');
-  if (verdict === 'easy') line.append('The class that has the number of machines in the input is easy: ', classLink(view, by), '.');
-  else if (by >= 0) line.append('A class on fewer machines is hard, and further machines can stand idle: ', classLink(view, by), '.');
-  else line.append('This fixed number has no name in the notation, and no row leads to it. ', ...(machines === null ? [] : ['Its neighbours:']));
-  const list = element('ul', { class: 'plain' }, ...named.map(it => element('li', {},
-    `${most > 1 ? partsOf(it).environment.slice(1) : ''} machines: `, classLink(view, it))),
-    element('li', {}, 'the number of machines in the input: ', classLink(view, wide)));
+  const those = machines === null ? words.say('fixedAbove', most) : `${kind}${machines}${rest}`;
+  const line = element('p', { class: 'verdict' }, `${those}: `, verdict === 'unknown' ? element('b', {}, words.say('unknownHere'))
+    : badge(view, verdict), '. ');
+  if (verdict === 'easy') line.append(...words.parts('fixedEasy', classLink(view, by)));
+  else if (by >= 0) line.append(...words.parts('fixedHard', classLink(view, by)));
+  else line.append(words.say('fixedNameless'), ' ', machines === null ? '' : words.say('itsNeighbours'));
+  const on = (/** @type {number} */ it) => most > 1 ? words.parts('machinesAre', partsOf(it).environment.slice(1), classLink(view, it))
+    : words.parts('someMachines', classLink(view, it));
+  const list = element('ul', { class: 'plain' }, ...named.map(it => element('li', {}, ...on(it))),
+    element('li', {}, ...words.parts('machinesGiven', classLink(view, wide))));
   return element('div', { class: 'fixed' }, line, list, ...speedsRemark(view, wide));
 }
 
@@ -87,15 +92,11 @@ function fixedParts(view, reading, fixed) {
  * @returns {Node[]}
  */
 function understood(view, reading, many) {
-  const { fixed, wanted } = reading;
+  const { fixed, wanted } = reading, { words } = view;
   if (fixed && wanted.environment && wanted.criterion) return fixedParts(view, reading, fixed);
-  if (fixed && fixed.machines !== null) {
-    const name = `${fixed.kind}${fixed.machines}`;
-    return [element('p', {}, `${name} has no name in the notation: these are the classes beside it, on the nearest fixed number of machines and `
-      + `with their number in the input. With a criterion, as ${name}||Cmax, it is said what follows.`)];
-  }
-  if (!many) return [element('p', {}, 'No class has all of this.')];
-  return many > 1 ? [element('p', {}, `This stands for ${count(many, 'class', 'classes')}.`)] : [];
+  if (fixed && fixed.machines !== null) return [element('p', {}, words.say('fixedBeside', `${fixed.kind}${fixed.machines}`))];
+  if (!many) return [element('p', {}, words.say('noClass'))];
+  return many > 1 ? [element('p', {}, words.say('standsFor', words.count(many, 'class')))] : [];
 }
 
 /**
@@ -105,10 +106,10 @@ function understood(view, reading, many) {
  * @param {number[]} entries
  */
 function entryList(view, text, entries) {
-  const { data } = view.atlas;
-  return element('section', {}, element('h2', { tabindex: '-1' }, `${text}: ${count(entries.length, 'entry', 'entries')} of the results`),
-    element('ul', { class: 'plain' }, ...entries.map(it => element('li', {}, classLink(view, data.entries[it][0]), ` listed ${data.entries[it][1]}: `,
-      element('span', { class: 'step' }, data.entries[it][2])))));
+  const { words, atlas: { data } } = view;
+  return element('section', {}, element('h2', { tabindex: '-1' }, words.say('entriesOf', text, words.count(entries.length, 'entry'))),
+    element('ul', { class: 'plain' }, ...entries.map(it => element('li', {}, classLink(view, data.entries[it][0]),
+      ` ${words.say(`listed ${data.entries[it][1]}`)}: `, element('span', { class: 'step' }, behindIn(words, data.entries[it][2]))))));
 }
 
 /**
@@ -118,18 +119,17 @@ function entryList(view, text, entries) {
  * @returns {Node[]}
  */
 export function askedView(view, text) {
-  const { reading, entries, found } = answer(view, text), { fixed, unknown } = reading;
+  const { words } = view, { reading, entries, found } = answer(view, text), { fixed, unknown } = reading;
   if (entries.length) return [entryList(view, text, entries)];
   const head = element('section', {}, element('h2', { tabindex: '-1' }, element('span', { class: 'name' }, text)),
-    ...notUnderstood(reading).map(it => element('p', { class: 'warned' }, it)));
+    ...notUnderstood(view, reading).map(it => element('p', { class: 'warned' }, it)));
   if (unknown.length) {
     const those = near(reading);
-    head.append(element('p', {}, 'So no class is shown as the one that was asked.', those.length ? ' These are near:'
-      : ' The search takes names as P2|pmtn,r|sumC, words in any order, authors and years.'));
-    return those.length ? [head, classList(view, 'Near', those, 'They have what was understood, and differ in the rest.')] : [head];
+    head.append(element('p', {}, `${words.say('noneAsked')} ${words.say(those.length ? 'theseNear' : 'searchTakes')}`));
+    return those.length ? [head, classList(view, words.say('nearHead'), those, words.say('nearSays'))] : [head];
   }
   head.append(...understood(view, reading, found.length));
   if (!found.length || fixed && reading.whole) return [head];
-  return [head, fixed && fixed.machines !== null ? classList(view, 'Beside it', found, 'The classes on the numbers of machines that have names.')
-    : classList(view, 'All hits', found, 'The classes that have all that was understood.')];
+  const which = fixed && fixed.machines !== null ? 'beside' : 'all';
+  return [head, classList(view, words.say(`${which}Head`), found, words.say(`${which}Says`))];
 }

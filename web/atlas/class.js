@@ -1,11 +1,11 @@
 // The view of one class: its label and why, its solver, its neighbours.
-import { MEANING } from '../classes.js';
 import { element } from '../elements.js';
 import { NAMES } from '../names.js';
 import { decidedBy, isOwn } from '../results.js';
 import { around } from '../picture.js';
 import { drawn } from './drawing.js';
-import { address, badge, chainList, classLink, reasons, restsOnOwn, rowText, selected, speedsRemark, told } from './parts.js';
+import { translated } from './german.js';
+import { badge, chainList, classLink, labelled, linkTo, reasons, restsOnOwn, rowText, selected, speedsRemark, told } from './parts.js';
 
 /** @typedef {import('./parts.js').View} View */
 
@@ -15,10 +15,11 @@ import { address, badge, chainList, classLink, reasons, restsOnOwn, rowText, sel
  * @returns {Node[]}
  */
 export function clashes(view) {
-  return view.atlas.data.clashes.map(([kind, start, rows]) => element('section', {}, element('h2', {}, kind === 'clash' ? 'The results clash'
-    : 'The results clash strongly'),
-    element('p', {}, `The first class of this chain is listed ${kind === 'clash' ? 'hard, the last one easy' : 'strong, the last one pseudo'}.`),
-      chainList(view, start, rows)));
+  const { words } = view;
+  return view.atlas.data.clashes.map(([kind, start, rows]) => {
+    const key = kind === 'clash' ? 'clash' : 'clashStrong';
+    return element('section', {}, element('h2', {}, words.say(key)), element('p', {}, words.say(`${key}Says`)), chainList(view, start, rows));
+  });
 }
 
 /**
@@ -27,15 +28,13 @@ export function clashes(view) {
  * @param {number} at
  * @returns {string}
  */
-function ownRemark(view, at) {
-  const { all, published, data } = view.atlas;
+export function ownRemark(view, at) {
+  const { words, atlas: { all, published, data } } = view;
   if (!published) return '';
-  if (view.published) return restsOnOwn(view, at) ? `With the proofs of our own it is ${all.labels[at]}.` : '';
-  if (restsOnOwn(view, at)) {
-    return `This rests on a proof of our own, which no journal has seen. The published results alone say: ${published.labels[at]}.`;
-  }
+  if (view.published) return restsOnOwn(view, at) ? words.say('withOwn', labelled(view, all.labels[at])) : '';
+  if (restsOnOwn(view, at)) return words.say('restsOnOwn', labelled(view, published.labels[at]));
   const own = decidedBy(view.atlas, false, at).some(it => isOwn(data, it));
-  return own ? 'The chain shown here ends at a proof of our own; the published results alone give the same label, by another chain.' : '';
+  return own ? words.say('endsAtOwn') : '';
 }
 
 /**
@@ -45,18 +44,27 @@ function ownRemark(view, at) {
  * @returns {Node[]}
  */
 function remarks(view, at) {
-  const { atlas } = view, { labels } = told(view), found = [], opened = atlas.data.open[at];
-  if (opened && labels[at] === 'open') found.push(element('p', {}, element('b', {}, `${opened[0]}. `), opened[1]));
-  found.push(...speedsRemark(view, at));
+  const { atlas, words } = view, found = [...openRemark(view, at), ...speedsRemark(view, at)];
   const own = ownRemark(view, at), same = atlas.problem(at).filter(it => it !== at);
   if (own) found.push(element('p', { class: 'warned' }, own));
   if (same.length) {
-    const line = element('p', { class: 'quiet' }, 'One problem with ');
-    same.forEach((it, place) => line.append(place ? ', ' : '', classLink(view, it)));
-    line.append(': rows lead there and back.');
-    found.push(line);
+    const those = element('span', {}, ...same.flatMap((it, place) => [place ? ', ' : '', classLink(view, it)]));
+    found.push(element('p', { class: 'quiet' }, ...words.parts('sameProblem', those)));
   }
   return found;
+}
+
+/**
+ * Why a class is open, where something is known of that.
+ * @param {View} view
+ * @param {number} at
+ * @returns {Node[]}
+ */
+export function openRemark(view, at) {
+  const opened = view.atlas.data.open[at];
+  if (!opened || told(view).labels[at] !== 'open') return [];
+  const said = opened.map(it => translated(view.words, it)), lang = (/** @type {{known: boolean}} */ it) => it.known ? null : 'en';
+  return [element('p', {}, element('b', { lang: lang(said[0]) }, `${said[0].text}. `), element('span', { lang: lang(said[1]) }, said[1].text))];
 }
 
 /**
@@ -66,14 +74,11 @@ function remarks(view, at) {
  * @returns {Node[]}
  */
 function solverPart(view, at) {
-  const head = element('h3', {}, 'Solver'), { solvers } = view.atlas.data, solver = view.atlas.solver(at);
-  if (!solvers) {
-    return [head, element('p', {}, `The list of solved classes was not at hand when this page was built; msp trial '${NAMES[at]}' 1 1 says it.`)];
-  }
-  if (!solver) return [head, element('p', {}, 'None: msp solve says that there is no solver for it.')];
-  const [name, rows, chain] = solver;
-  const how = rows ? `, over ${rows} ${rows > 1 ? 'rows that carry' : 'row that carries'} schedules back` : ', for the class itself';
-  return [head, element('p', {}, element('b', {}, name), how), ...(rows && chain ? [chainList(view, at, chain)] : [])];
+  const { words, atlas } = view, head = element('h3', {}, words.say('solverHead')), { solvers } = atlas.data, solver = atlas.solver(at);
+  if (!solvers) return [head, element('p', {}, words.say('solversUnknown', `'${NAMES[at]}'`))];
+  if (!solver) return [head, element('p', {}, words.say('solverNone'))];
+  const [name, rows, chain] = solver, how = rows ? `solver ${rows > 1 ? 'n' : '1'} row` : 'solverItself';
+  return [head, element('p', {}, ...words.parts(how, element('b', {}, name), String(rows))), ...(rows && chain ? [chainList(view, at, chain)] : [])];
 }
 
 /**
@@ -84,8 +89,8 @@ function solverPart(view, at) {
  */
 function neighbourList(view, title, steps) {
   const lines = steps.map(([row, to]) => element('li', {}, classLink(view, to), ' ', element('span', { class: 'step' }, rowText(view, row))));
-  return element('div', {}, element('h3', {}, `${title} (${steps.length})`), lines.length ? element('ul', { class: 'plain' }, ...lines)
-    : element('p', { class: 'quiet' }, 'none'));
+  return element('div', {}, element('h3', {}, view.words.say('neighbours', title, steps.length)),
+    lines.length ? element('ul', { class: 'plain' }, ...lines) : element('p', { class: 'quiet' }, view.words.say('none')));
 }
 
 /**
@@ -95,11 +100,11 @@ function neighbourList(view, title, steps) {
  * @returns {Node[]}
  */
 export function aroundView(view, at) {
-  const { atlas } = view, chains = told(view).chainsOf(at);
-  const neighbours = element('section', { class: 'neighbours' }, neighbourList(view, 'Rows lead to', atlas.above(at)), neighbourList(view,
-    'Rows lead here from', atlas.below(at)));
-  const picture = drawn(view, around(atlas, chains.map(([, it]) => it), at), at, `The reductions around ${NAMES[at]}`);
-  return [element('section', {}, element('h3', {}, 'The reductions around it'), picture), neighbours];
+  const { atlas, words } = view, chains = told(view).chainsOf(at);
+  const neighbours = element('section', { class: 'neighbours' }, neighbourList(view, words.say('above'), atlas.above(at)),
+    neighbourList(view, words.say('below'), atlas.below(at)));
+  const picture = drawn(view, around(atlas, chains.map(([, it]) => it), at), at, words.say('aroundTitle', NAMES[at]));
+  return [element('section', {}, element('h3', {}, words.say('aroundHead')), picture), neighbours];
 }
 
 /**
@@ -109,14 +114,11 @@ export function aroundView(view, at) {
  * @returns {Node[]}
  */
 export function classView(view, at) {
-  const { atlas } = view, label = told(view).labels[at], chains = told(view).chainsOf(at);
-  const box = element('section', {}, element('h2', { tabindex: '-1' }, element('span', { class: 'name' }, NAMES[at]), ' ', badge(label)),
-    element('p', {}, MEANING[label]), ...remarks(view, at), ...reasons(view, chains));
-  if (chains.length) box.append(element('p', { class: 'quiet' }, 'What decides here need not be who showed it first.'));
-  else if (label !== 'open') {
-    box.append(element('p', { class: 'quiet' },
-      `This page was built with the chains of ${atlas.data.asked} classes alone; msp why '${NAMES[at]}' prints them.`));
-  }
+  const { atlas, words } = view, label = told(view).labels[at], chains = told(view).chainsOf(at);
+  const box = element('section', {}, element('h2', { tabindex: '-1' }, element('span', { class: 'name' }, NAMES[at]), ' ', badge(view, label)),
+    element('p', {}, words.say(`meaning ${label}`)), ...remarks(view, at), ...reasons(view, chains));
+  if (chains.length) box.append(element('p', { class: 'quiet' }, words.say('notFirst')));
+  else if (label !== 'open') box.append(element('p', { class: 'quiet' }, words.say('chainsOf', atlas.data.asked, `'${NAMES[at]}'`)));
   box.append(...solverPart(view, at), keeper(view, at));
   return [...clashes(view), box];
 }
@@ -127,9 +129,8 @@ export function classView(view, at) {
  * @param {number} at
  */
 function keeper(view, at) {
-  const text = view.selection.includes(at) ? 'Take out of the selection' : 'Add to the selection';
+  const { words } = view, text = words.say(view.selection.includes(at) ? 'unselect' : 'select');
   const line = element('p', {}, element('button', { type: 'button', class: 'act', 'data-select': String(at) }, text));
-  if (view.selection.length) {line.append(' ', element('a', { class: 'text', href: address(view, selected(view)) },
-    `Selection (${view.selection.length})`));}
+  if (view.selection.length) line.append(' ', linkTo(view, selected(view), words.say('selectionOf', view.selection.length)));
   return line;
 }

@@ -1,8 +1,7 @@
 // Pictures of reductions as SVG, with the same as a list for readers of screens.
-import { LETTER } from '../classes.js';
 import { element, shape } from '../elements.js';
 import { NAMES } from '../names.js';
-import { address, classLink, rowText, told } from './parts.js';
+import { address, classLink, labelled, letter, rowText, told } from './parts.js';
 import { saveButton } from './saving.js';
 
 /** @typedef {import('./parts.js').View} View */
@@ -38,12 +37,12 @@ function inside(view, at) { return NAMES[at] + (view.atlas.solver(at) ? ' \u2713
  * @param {boolean} here
  */
 function boxShape(view, box, where, wide, here) {
-  const label = told(view).labels[box.at], { x, y } = where, solver = view.atlas.solver(box.at) ? ', with a solver' : '';
-  return shape('a', { href: address(view, NAMES[box.at]), 'aria-label': `${NAMES[box.at]} ${label}${solver}`, 'data-at': box.at, class: here
-    ? 'here' : '' },
+  const label = told(view).labels[box.at], { x, y } = where, said = `${NAMES[box.at]} ${labelled(view, label)}`;
+  const name = view.atlas.solver(box.at) ? view.words.say('withSolver', said) : said;
+  return shape('a', { href: address(view, NAMES[box.at]), 'aria-label': name, 'data-at': box.at, class: here ? 'here' : '' },
     shape('rect', { x, y: y + 1, width: wide, height: ROW - 4, rx: 4, class: 'box' }),
     shape('rect', { x, y: y + 1, width: 20, height: ROW - 4, rx: 4, class: `fill ${label}` }),
-    shape('text', { x: x + 10, y: y + 17, 'text-anchor': 'middle', class: `letter ${label}` }, LETTER[label]),
+    shape('text', { x: x + 10, y: y + 17, 'text-anchor': 'middle', class: `letter ${label}` }, letter(view, label)),
     shape('text', { x: x + 26, y: y + 17, class: 'label' }, inside(view, box.at)));
 }
 
@@ -58,7 +57,7 @@ function lineShape(view, { from, to, row }, places, wide) {
   const [start, end] = [from, to].map(it => places.get(it) || { x: 0, y: 0 }), half = ROW / 2 - 1;
   const [x, y, u, v] = [start.x + wide, start.y + half, end.x, end.y + half];
   return shape('path', { d: `M${x} ${y}C${x + GAP / 2} ${y} ${u - GAP / 2} ${v} ${u} ${v}`, class: 'line', 'data-from': from, 'data-to': to },
-    shape('title', {}, row ? rowText(view, row) : 'a chain of rows'));
+    shape('title', {}, row ? rowText(view, row) : view.words.say('chainOfRows')));
 }
 
 /**
@@ -103,10 +102,12 @@ export function drawn(view, picture, here, title) {
   const places = new Map(picture.boxes.map(it => [it.at, corner(it, counts, most, wide)]));
   const svg = shape('svg', { viewBox: `-2 0 ${width} ${height}`, width, height, role: 'group', 'aria-label': title, class: 'picture' },
     ...picture.lines.map(it => lineShape(view, it, places, wide)),
-    ...picture.heads.map((text, column) => shape('text', { x: column * (wide + GAP), y: 14, class: 'head' }, text)),
+    ...picture.heads.map((text, column) => shape('text', { x: column * (wide + GAP), y: 14, class: 'head' },
+      text && view.words.say(text))),
     ...picture.boxes.map(it => boxShape(view, it, corner(it, counts, most, wide), wide, it.at === here)));
   follow(svg);
-  const panel = element('div', { class: 'saved' }), save = saveButton('Picture as SVG', 'reductions.svg', () => asFile(svg), panel);
+  const panel = element('div', { class: 'saved' });
+  const save = saveButton(view, view.words.say('pictureSave'), 'reductions.svg', () => asFile(svg), panel);
   const frame = element('div', { class: 'scroll', tabindex: '0', role: 'region', 'aria-label': title }, svg);
   const place = places.get(here);
   if (place) centre(frame, place.x + wide / 2);
@@ -124,7 +125,7 @@ function asList(view, picture) {
     : ' \u2192 ',
     classLink(view, to)));
   const alone = picture.boxes.filter(({ at }) => !joined.has(at)).map(({ at }) => element('li', {}, classLink(view, at)));
-  return element('details', {}, element('summary', {}, 'The picture as a list'), element('ul', { class: 'plain' }, ...lines, ...alone));
+  return element('details', {}, element('summary', {}, view.words.say('pictureList')), element('ul', { class: 'plain' }, ...lines, ...alone));
 }
 
 /** The colours of a picture in a file, which has no styles of the page. */

@@ -1,11 +1,11 @@
 // Lists of classes: by label, of the frontier, of a search, of the selection; each can be saved as CSV, as a table of LaTeX and as BibTeX.
-import { FRONTIER, MEANING } from '../classes.js';
+import { FRONTIER } from '../classes.js';
 import { element } from '../elements.js';
 import { ENVIRONMENTS, MACHINES, partsOf } from '../names.js';
 import { frontier } from '../picture.js';
 import { asBibtex, asCsv, asLatex } from '../results.js';
 import { drawn } from './drawing.js';
-import { address, classLink, dot, told } from './parts.js';
+import { address, classLink, dot, labelled, told } from './parts.js';
 import { saveButton } from './saving.js';
 
 /** @typedef {import('./parts.js').View} View */
@@ -25,10 +25,10 @@ function filtered(view, those) { return view.solved ? those.filter(at => view.at
  * @param {number[]} those
  */
 function savers(view, those) {
-  const panel = element('div', { class: 'saved' });
-  return element('div', {}, element('p', {}, saveButton('as CSV', 'classes.csv', () => asCsv(view.atlas, those), panel), ' ',
-    saveButton('as LaTeX table', 'classes.tex', () => asLatex(view.atlas, view.published, those), panel), ' ',
-    saveButton('as BibTeX', 'classes.bib', () => asBibtex(view.atlas, view.published, those), panel)), panel);
+  const panel = element('div', { class: 'saved' }), { words, atlas, published } = view;
+  return element('div', {}, element('p', {}, saveButton(view, words.say('asCsv'), 'classes.csv', () => asCsv(atlas, those), panel), ' ',
+    saveButton(view, words.say('asLatex'), 'classes.tex', () => asLatex(atlas, published, those), panel), ' ',
+    saveButton(view, words.say('asBibtex'), 'classes.bib', () => asBibtex(atlas, published, those), panel)), panel);
 }
 
 /**
@@ -49,20 +49,12 @@ export function classList(view, title, all, text) {
     });
     lines.push(line);
   }
-  const left = all.length - those.length, veiled = left ? ` ${count(left, 'class', 'classes')} without a solver left out.` : '';
-  const head = `${title}: ${count(those.length, 'class', 'classes')}, ${count(lines.length, 'problem', 'problems')}`;
+  const { words } = view, left = all.length - those.length, veiled = left ? ` ${words.say('unsolvedLeft', words.count(left, 'class'))}` : '';
+  const head = words.say('listHead', title, words.count(those.length, 'class'), words.count(lines.length, 'problem'));
   return element('section', {}, element('h2', { tabindex: '-1' }, head),
-    element('p', { class: 'quiet' }, `${text} Classes that lead to each other stand together as one problem.${veiled}`),
+    element('p', { class: 'quiet' }, `${text} ${words.say('together')}${veiled}`),
     savers(view, those), element('ul', { class: 'columns' }, ...lines));
 }
-
-/**
- * A number with its word.
- * @param {number} many
- * @param {string} one
- * @param {string} several
- */
-export function count(many, one, several) { return `${many.toLocaleString('en')} ${many === 1 ? one : several}`; }
 
 /**
  * Links to places of a kind, the one that is shown marked.
@@ -72,16 +64,19 @@ export function count(many, one, several) { return `${many.toLocaleString('en')}
  * @param {string} here
  */
 function tabs(view, kind, places, here) {
-  return element('nav', { class: 'legend box', 'aria-label': kind }, ...places.map(([place, children]) => element('a', { class: 'text',
-    href: address(view, `${kind}=${place}`),
-    'aria-current': place === here ? 'page' : null }, ...children)));
+  const links = places.map(([place, children]) => element('a', { class: 'text', href: address(view, `${kind}=${place}`),
+    'aria-current': place === here ? 'page' : null }, ...children));
+  return element('nav', { class: 'legend box', 'aria-label': view.words.say(`tabs ${kind}`) }, ...links);
 }
 
 /**
  * What is said of a place that is none.
+ * @param {View} view
  * @param {string} text
  */
-function nothing(text) { return element('section', {}, element('h2', { tabindex: '-1' }, text), element('p', {}, 'These are there:')); }
+function nothing(view, text) {
+  return element('section', {}, element('h2', { tabindex: '-1' }, text), element('p', {}, view.words.say('theseThere')));
+}
 
 /**
  * The picture of the frontier on some machines.
@@ -90,10 +85,9 @@ function nothing(text) { return element('section', {}, element('h2', { tabindex:
  * @param {string} name
  */
 function frontierPicture(view, machines, name) {
-  const picture = frontier(view.atlas, told(view).labels, machines), title = `The frontier on ${name}`;
+  const picture = frontier(view.atlas, told(view).labels, machines), title = view.words.say('frontierOn', name);
   return element('section', {}, element('h2', { tabindex: '-1' }, title),
-    element('p', { class: 'quiet' }, `The hardest easy, the easiest and the hardest open, and the easiest hard classes on ${name} alone, `
-      + 'of each problem one, with the chains between them. A line leads from an easier class to a harder one.'),
+    element('p', { class: 'quiet' }, view.words.say('frontierSays', name)),
     drawn(view, picture, -1, title), savers(view, picture.boxes.map(it => it.at)));
 }
 
@@ -104,13 +98,13 @@ function frontierPicture(view, machines, name) {
  * @returns {Node[]}
  */
 export function frontierView(view, place) {
-  const lists = told(view).frontier, words = Object.keys(FRONTIER), names = MACHINES.map(it => [it.environment, it.short].filter(Boolean).join(' '));
-  const here = place || words[2];
-  const both = [tabs(view, 'frontier', words.map(it => [it, [`${it} (${(lists[it] || []).length})`]]), here),
+  const lists = told(view).frontier, names = MACHINES.map(it => [it.environment, it.short].filter(Boolean).join(' '));
+  const here = place || FRONTIER[2], said = (/** @type {string} */ it) => view.words.say(`list ${it}`);
+  const both = [tabs(view, 'frontier', FRONTIER.map(it => [it, [`${said(it)} (${(lists[it] || []).length})`]]), here),
     tabs(view, 'frontier', names.map(it => [it, [it]]), here)];
   if (names.includes(here)) return [...both, frontierPicture(view, names.indexOf(here), here)];
-  if (!words.includes(here)) return [nothing(`The frontier has no list and no machines of the name ${here}`), ...both];
-  return [...both, classList(view, here[0].toUpperCase() + here.slice(1), lists[here] || [], FRONTIER[here])];
+  if (!FRONTIER.includes(here)) return [nothing(view, view.words.say('noFrontier', here)), ...both];
+  return [...both, classList(view, said(here)[0].toUpperCase() + said(here).slice(1), lists[here] || [], view.words.say(`says ${here}`))];
 }
 
 /**
@@ -120,17 +114,19 @@ export function frontierView(view, place) {
  * @returns {Node[]}
  */
 export function labelView(view, place) {
-  const { labels } = told(view), [label, among] = (place || 'open').split(','), known = view.atlas.data.label_names;
+  const { words } = view, { labels } = told(view), [label, among] = (place || 'open').split(','), known = view.atlas.data.label_names;
   const those = filtered(view, labels.flatMap((it, at) => it === label ? [at] : []));
   /** @type {(environment: string) => number[]} */
   const on = environment => environment === 'all' ? those : those.filter(at => partsOf(at).environment === environment);
   const environments = ['all', ...ENVIRONMENTS].filter(it => it === 'all' ? those.length <= MOST : on(it).length);
-  const here = among || environments[0] || 'all', names = tabs(view, 'lists', known.filter(it => labels.includes(it)).map(it => [it, [dot(it), it]]),
-    label);
-  if (!known.includes(label)) return [nothing(`No label has the name ${label}`), names];
-  const machines = tabs(view, 'lists', environments.map(it => [`${label},${it}`, [`${it} (${on(it).length})`]]), `${label},${here}`);
-  if (here !== 'all' && !ENVIRONMENTS.includes(here)) return [nothing(`No machines have the name ${here}`), names, machines];
-  return [names, machines, classList(view, `Label ${label}${here === 'all' ? '' : ` on ${here}`}`, on(here), MEANING[label])];
+  const here = among || environments[0] || 'all', there = known.filter(it => labels.includes(it));
+  const names = tabs(view, 'lists', there.map(it => [it, [dot(view, it), labelled(view, it)]]), label);
+  if (!known.includes(label)) return [nothing(view, words.say('noLabel', label)), names];
+  const tab = (/** @type {string} */ it) => `${it === 'all' ? words.say('all') : it} (${on(it).length})`;
+  const machines = tabs(view, 'lists', environments.map(it => [`${label},${it}`, [tab(it)]]), `${label},${here}`);
+  if (here !== 'all' && !ENVIRONMENTS.includes(here)) return [nothing(view, words.say('noMachines', here)), names, machines];
+  const head = here === 'all' ? words.say('labelHead', labelled(view, label)) : words.say('labelHeadOn', labelled(view, label), here);
+  return [names, machines, classList(view, head, on(here), words.say(`meaning ${label}`))];
 }
 
 /**
@@ -140,8 +136,8 @@ export function labelView(view, place) {
  * @returns {Node[]}
  */
 export function selectionView(view, wrong) {
-  const box = classList(view, 'Selection', view.selection, 'A link to this page keeps it.');
-  if (wrong.length) box.append(element('p', { class: 'warned' }, `Not understood, and left out: ${wrong.join('; ')}`));
-  box.append(element('p', {}, element('button', { type: 'button', class: 'act', 'data-select': 'none' }, 'Empty the selection')));
+  const { words } = view, box = classList(view, words.say('selection'), view.selection, words.say('selectionSays'));
+  if (wrong.length) box.append(element('p', { class: 'warned' }, words.say('leftOutOf', wrong.join('; '))));
+  box.append(element('p', {}, element('button', { type: 'button', class: 'act', 'data-select': 'none' }, words.say('selectNone'))));
   return [box];
 }

@@ -1,15 +1,16 @@
 // Pieces of the atlas that several of its views show: links to classes with their labels, chains, entries.
 import { KINDS, leadsToEntry } from '../chains.js';
-import { LETTER, MEANING, withAnySpeeds } from '../classes.js';
+import { withAnySpeeds } from '../classes.js';
 import { element } from '../elements.js';
 import { NAMES } from '../names.js';
 import { isOwn, keysOf, sourceOf } from '../results.js';
+import { behindIn, sourceIn } from './german.js';
 
 /** @typedef {import('../classes.js').Atlas} Atlas */
 /** @typedef {import('../chains.js').Chain} Chain */
 /** @typedef {import('../chains.js').Kind} Kind */
 /**
- * What the views show: the table, and the switches of the page.
+ * What the views show: the table, the switches of the page, and its words.
  * @typedef {Object} View
  * @property {Atlas} atlas
  * @property {boolean} published whether the published results alone are told
@@ -17,13 +18,8 @@ import { isOwn, keysOf, sourceOf } from '../results.js';
  * @property {number} current the class that was looked at last
  * @property {number[]} selection
  * @property {string} prefix with which the addresses of its places begin
+ * @property {import('../words.js').Words} words
  */
-
-/** @type {Record<Kind, string>} */
-const HEADING = { easy: 'Why it is easy', pseudo: 'Why it has a pseudopolynomial algorithm', hard: 'Why it is hard',
-  strong: 'Why it is strongly hard' };
-/** @type {Object<string, string>} */
-const LISTED = { easy: 'listed easy', pseudo: 'listed pseudo', hard: 'listed hard', strong: 'listed strong' };
 
 /**
  * What is known under the switch between all results and the published ones.
@@ -54,11 +50,33 @@ export function selected(view) { return `selection=${view.selection.map(it => NA
  */
 export function linkTo(view, place, ...children) { return element('a', { class: 'text', href: address(view, place) }, ...children); }
 
-/** @param {string} label */
-export function dot(label) { return element('span', { class: `dot ${label}`, 'aria-label': label, role: 'img' }, LETTER[label]); }
+/**
+ * @param {View} view
+ * @param {string} label
+ */
+export function labelled({ words }, label) { return words.say(`label ${label}`); }
 
-/** @param {string} label */
-export function badge(label) { return element('span', { class: `badge ${label}`, title: MEANING[label] }, label); }
+/**
+ * @param {View} view
+ * @param {string} label
+ */
+export function letter({ words }, label) { return words.say(`letter ${label}`); }
+
+/**
+ * @param {View} view
+ * @param {string} label
+ */
+export function dot(view, label) {
+  return element('span', { class: `dot ${label}`, 'aria-label': labelled(view, label), role: 'img' }, letter(view, label));
+}
+
+/**
+ * @param {View} view
+ * @param {string} label
+ */
+export function badge(view, label) {
+  return element('span', { class: `badge ${label}`, title: view.words.say(`meaning ${label}`) }, labelled(view, label));
+}
 
 /**
  * A name of a class as text.
@@ -83,10 +101,10 @@ export function restsOnOwn(view, at) {
  * @returns {Node[]}
  */
 export function marks(view, at) {
-  const found = view.atlas.solver(at) ? [element('span', { class: 'mark', title: 'msp solve has a solver for it' }, 'solver')] : [];
+  const { words } = view;
+  const found = view.atlas.solver(at) ? [element('span', { class: 'mark', title: words.say('solverMark') }, words.say('solver'))] : [];
   return !view.published && restsOnOwn(view, at)
-    ? found.concat(element('span', { class: 'mark own', title: 'rests on a proof of our own: the published results alone say less' }, 'own proof'))
-      : found;
+    ? found.concat(element('span', { class: 'mark own', title: words.say('ownMark') }, words.say('ownProof'))) : found;
 }
 
 /**
@@ -95,8 +113,8 @@ export function marks(view, at) {
  * @param {number} at
  */
 export function classLink(view, at) {
-  return element('span', { class: 'class' }, element('a', { href: address(view, NAMES[at]) }, dot(told(view).labels[at]), NAMES[at]), ...marks(view,
-    at));
+  return element('span', { class: 'class' }, element('a', { href: address(view, NAMES[at]) }, dot(view, told(view).labels[at]), NAMES[at]),
+    ...marks(view, at));
 }
 
 /**
@@ -108,8 +126,7 @@ export function classLink(view, at) {
 export function speedsRemark(view, at) {
   const { labels } = told(view), fast = withAnySpeeds(labels, at);
   if (fast < 0) return [];
-  return [element('p', { class: 'warned' }, 'Here p=1 on uniform machines goes with whole speeds: a job of one unit on a machine of speed s '
-    + 'takes 1/s. With any speeds the class that books call p=1 is ', classLink(view, fast), `, which is ${labels[fast]}.`)];
+  return [element('p', { class: 'warned' }, ...view.words.parts('speeds', classLink(view, fast), labelled(view, labels[fast])))];
 }
 
 /**
@@ -117,7 +134,13 @@ export function speedsRemark(view, at) {
  * @param {View} view
  * @param {number} row
  */
-export function rowText(view, row) { return `row ${row}: ${view.atlas.data.rows[row]}`; }
+export function rowText(view, row) {
+  const { words, atlas } = view, said = atlas.data.rows[row], [, from, to, way] = said.match(/^(.*) to (.*?)(?: by (\w+))?$/) || [];
+  const word = (/** @type {string} */ it) => words.has(`word ${it}`) ? words.say(`word ${it}`) : it;
+  if (!from) return words.say('row', row, said);
+  const text = way ? words.say('rowBy', word(from), word(to), words.say(`by ${way}`)) : words.say('rowText', word(from), word(to));
+  return words.say('row', row, text);
+}
 
 /**
  * A chain as a list, from the easiest class to the hardest.
@@ -140,9 +163,9 @@ export function chainList(view, start, rows) {
 export function reference(view, key, decides) {
   const [text, bibtex] = view.atlas.data.texts[key], [said, doi] = text.split(/, doi:(\S+)/);
   const rest = doi ? text.slice(said.length + doi.length + ', doi:'.length) : '';
-  const line = element('p', { class: 'reference' }, said);
+  const line = element('p', { class: 'reference', lang: 'en' }, said);
   if (doi) line.append(', ', element('a', { class: 'text', href: `https://doi.org/${doi}`, rel: 'noreferrer' }, `doi:${doi}`), rest);
-  return [line, element('details', {}, element('summary', {}, 'BibTeX'), element('pre', {}, `${decides}\n${bibtex}`))];
+  return [line, element('details', {}, element('summary', {}, 'BibTeX'), element('pre', { lang: 'en' }, `${decides}\n${bibtex}`))];
 }
 
 /**
@@ -152,12 +175,44 @@ export function reference(view, key, decides) {
  * @returns {Node[]}
  */
 function factLines(view, record) {
-  const [time, from, said] = (view.atlas.data.facts || {})[record] || ['', '', ''], lines = [];
-  const source = said.endsWith('.md') ? 'our own proof' : said;
-  if (time) {lines.push(element('p', { class: 'reference' }, `Time of the rule there: ${time}`, source ? ` (${source})` : '',
-    '. It is the literature\u2019s, not that of msp solve.'));}
-  if (from) lines.push(element('p', { class: 'reference' }, `Reduced from ${from}`, source ? ` (${source})` : '', '.'));
+  const [time, from, said] = (view.atlas.data.facts || {})[record] || ['', '', ''], lines = [], { words } = view;
+  const source = said.endsWith('.md') ? words.say('ourProof') : sourceIn(words, said), behind = source ? ` (${source})` : '';
+  if (time) lines.push(element('p', { class: 'reference' }, words.say('factTime', time, behind)));
+  if (from) lines.push(element('p', { class: 'reference' }, words.say('factFrom', from, behind)));
   return lines;
+}
+
+/**
+ * The source of an entry, as a link to all that it decides.
+ * @param {View} view
+ * @param {number} record
+ * @returns {(Node | string)[]}
+ */
+export function sourceLink(view, record) {
+  const source = view.atlas.data.entries[record][2], said = sourceOf(source), { words } = view;
+  if (!said) return [words.say('noSource')];
+  return [linkTo(view, said, sourceIn(words, said)), behindIn(words, source.slice(source.indexOf(said) + said.length))];
+}
+
+/**
+ * What is to be read of an entry: its references, what is known of it, and its proof.
+ * @param {View} view
+ * @param {number} record
+ * @returns {Node[]}
+ */
+export function readings(view, record) {
+  const { words, atlas: { data } } = view, [at, kind, source] = data.entries[record], keys = keysOf(data, record), own = isOwn(data, record);
+  const found = keys.flatMap(key => reference(view, key, `% decides by ${NAMES[at]}, listed ${kind}`)), heading = data.proofs[at];
+  const say = (/** @type {string} */ key, /** @type {(Node | string)[]} */ ...values) =>
+    found.push(element('p', { class: 'reference' }, ...words.parts(key, ...values)));
+  if (!keys.length && !/^(own proof|from CLIQUE|from VERTEX COVER)$/.test(sourceOf(source))) say('noReference');
+  found.push(...factLines(view, record));
+  if (own) say('unpublished');
+  if (heading) {
+    const there = data.sections && data.sections[heading], english = element('span', { lang: 'en' }, heading);
+    say(own ? 'theProof' : 'proofBeside', there ? linkTo(view, `proof=${heading}`, english) : `docs/results/proofs-of-results.md, ${heading}`);
+  }
+  return found;
 }
 
 /**
@@ -166,23 +221,10 @@ function factLines(view, record) {
  * @param {number} record
  */
 export function entryBox(view, record) {
-  const { data } = view.atlas, [at, kind, source] = data.entries[record], keys = keysOf(data, record), own = isOwn(data, record);
-  const said = sourceOf(source), from = said ? [linkTo(view, said, said), source.slice(source.indexOf(said) + said.length)] : ['without a source'];
-  const box = element('div', { class: 'entry' }, element('p', {}, 'This decides: ', classLink(view, at), ` is ${LISTED[kind]} (entry ${record}): `,
-    element('b', {}, ...from)));
-  for (const key of keys) box.append(...reference(view, key, `% decides by ${NAMES[at]}, ${LISTED[kind]}`));
-  if (!keys.length && !/^(own proof|from CLIQUE|from VERTEX COVER)$/.test(sourceOf(source))) {
-    box.append(element('p', { class: 'reference' }, 'The bibliography has no reference for it.'));
-  }
-  box.append(...factLines(view, record));
-  if (own) {box.append(element('p', { class: 'reference' },
-    'No publication of it is known: it rests on a proof of our own, which no journal has seen.'));}
-  const heading = data.proofs[at];
-  if (heading) {
-    box.append(element('p', { class: 'reference' }, own ? 'The proof: ' : 'A proof of our own beside the publication: ',
-      data.sections && data.sections[heading] ? linkTo(view, `proof=${heading}`, heading) : `docs/results/proofs-of-results.md, ${heading}`));
-  }
-  return box;
+  const { words, atlas: { data } } = view, [at, kind] = data.entries[record];
+  const source = element('b', {}, ...sourceLink(view, record));
+  return element('div', { class: 'entry' },
+    element('p', {}, ...words.parts('decides', classLink(view, at), words.say(`listed ${kind}`), String(record), source)), ...readings(view, record));
 }
 
 /**
@@ -196,9 +238,9 @@ export function reasons(view, chains) {
   const found = [], seen = new Set();
   for (const kind of KINDS) {
     for (const [, chain] of chains.filter(([it]) => it === kind)) {
-      found.push(element('h3', {}, HEADING[kind]));
+      found.push(element('h3', {}, view.words.say(`why ${kind}`)));
       const same = JSON.stringify(chain);
-      if (seen.has(same)) found.push(element('p', {}, 'By the same entry and chain.'));
+      if (seen.has(same)) found.push(element('p', {}, view.words.say('sameChain')));
       else {
         const both = [entryBox(view, chain.record), chainList(view, chain.start, chain.rows)];
         found.push(...(leadsToEntry(kind) ? both.reverse() : both));

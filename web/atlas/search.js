@@ -3,7 +3,7 @@ import { element } from '../elements.js';
 import { NAMES } from '../names.js';
 import { near } from '../reading.js';
 import { answer, notUnderstood } from './asked.js';
-import { count } from './lists.js';
+import { behindIn } from './german.js';
 import { address, classLink } from './parts.js';
 
 /** @typedef {import('./parts.js').View} View */
@@ -30,18 +30,19 @@ function classHits(view, those) { return those.map(it => ({ place: NAMES[it], no
  * @returns {Hit[]}
  */
 function entryHits(view, records) {
-  return records.map(it => view.atlas.data.entries[it]).map(([at, , source]) => ({ place: NAMES[at], nodes: [classLink(view, at), ` ${source}`] }));
+  return records.map(it => view.atlas.data.entries[it]).map(([at, , source]) =>
+    ({ place: NAMES[at], nodes: [classLink(view, at), ` ${behindIn(view.words, source)}`] }));
 }
 
 /**
  * What is said of a fixed number of machines.
+ * @param {View} view
  * @param {import('../reading.js').Fixed | null} fixed
  * @returns {string[]}
  */
-function fixedNote(fixed) {
+function fixedNote({ words }, fixed) {
   if (!fixed) return [];
-  return [fixed.machines === null ? 'A fixed number of machines: what is known at each stands under all hits.'
-    : `${fixed.kind}${fixed.machines} has no name here: what follows for it stands under all hits.`];
+  return [fixed.machines === null ? words.say('fixedAny') : words.say('fixedOne', `${fixed.kind}${fixed.machines}`)];
 }
 
 /**
@@ -51,18 +52,18 @@ function fixedNote(fixed) {
  * @returns {{notes: string[], hits: Hit[]}}
  */
 function hitsOf(view, text) {
-  const { reading, entries, found, at } = answer(view, text), many = entries.length || found.length;
+  const { words } = view, { reading, entries, found, at } = answer(view, text), many = entries.length || found.length;
   /** @type {Hit[]} */
-  const all = many > SHOWN || reading.fixed ? [{ place: text, nodes: [`all ${many.toLocaleString('en')} hits`] }] : [];
-  if (entries.length) return { notes: [count(many, 'entry', 'entries')], hits: [...entryHits(view, entries.slice(0, SHOWN)), ...all] };
+  const all = many > SHOWN || reading.fixed ? [{ place: text, nodes: [words.say('allHits', words.number(many))] }] : [];
+  if (entries.length) return { notes: [words.count(many, 'entry')], hits: [...entryHits(view, entries.slice(0, SHOWN)), ...all] };
   if (reading.unknown.length) {
     const those = near(reading).slice(0, NEAR);
-    return { notes: [...notUnderstood(reading), ...(those.length ? ['Near:'] : [])], hits: classHits(view, those) };
+    return { notes: [...notUnderstood(view, reading), ...(those.length ? [words.say('near')] : [])], hits: classHits(view, those) };
   }
-  if (!found.length) return { notes: ['No class has all of this.'], hits: [] };
+  if (!found.length) return { notes: [words.say('noClass')], hits: [] };
   const first = at >= 0 ? [at, ...found.filter(it => it !== at)] : found;
   const hits = classHits(view, first.slice(0, SHOWN));
-  return { notes: fixedNote(reading.fixed), hits: reading.fixed ? [...all, ...hits] : [...hits, ...all] };
+  return { notes: fixedNote(view, reading.fixed), hits: reading.fixed ? [...all, ...hits] : [...hits, ...all] };
 }
 
 /**
@@ -95,7 +96,7 @@ export function searchBox(view, input, list, say) {
     list.replaceChildren(...notes.map(it => element('p', {}, it)), ...options);
     list.hidden = false;
     input.setAttribute('aria-expanded', 'true');
-    say(notes.join(' ') || `${hits.length} hits`);
+    say(notes.join(' ') || view().words.count(hits.length, 'hit'));
   };
   /** @param {string} place */
   const open = place => { close(); location.hash = address(view(), place); };

@@ -5,9 +5,11 @@ import { aboutView, proofView } from './about.js';
 import { askedView } from './asked.js';
 import { aroundView, classView } from './class.js';
 import { frontierView, labelView, selectionView } from './lists.js';
-import { address, dot, linkTo, selected, told } from './parts.js';
+import { address, dot, labelled, linkTo, selected, told } from './parts.js';
 import { placeOf, searchBox } from './search.js';
 import { maps, picker } from './tables.js';
+import { Words } from '../words.js';
+import { WORDS } from './words.js';
 
 /** @typedef {import('./parts.js').View} View */
 /**
@@ -15,8 +17,6 @@ import { maps, picker } from './tables.js';
  * readers of screens.
  * @typedef {{main: HTMLElement, input: HTMLInputElement, found: HTMLElement, places: HTMLElement, key: HTMLElement, said: HTMLElement}} Frame
  */
-
-const TITLE = 'Atlas of scheduling classes';
 
 /**
  * A link that turns a switch.
@@ -33,11 +33,13 @@ export class Shown {
    * @param {import('../classes.js').Atlas} atlas
    * @param {Frame} frame
    * @param {string} prefix with which the addresses of its places begin
+   * @param {import('../words.js').Language} language
    */
-  constructor(atlas, frame, prefix) {
+  constructor(atlas, frame, prefix, language) {
     this.frame = frame;
+    const current = rankOf('P2|pmtn,r|Cmax'), words = new Words(WORDS, language);
     /** @type {View} */
-    this.view = { atlas, published: false, solved: false, current: rankOf('P2|pmtn,r|Cmax'), selection: [], prefix };
+    this.view = { atlas, published: false, solved: false, current, selection: [], prefix, words };
     this.title = '';
     frame.main.addEventListener('click', event => this.click(event));
     searchBox(() => this.view, frame.input, frame.found, text => this.say(text));
@@ -51,6 +53,12 @@ export class Shown {
 
   /** @param {string} text */
   say(text) { this.frame.said.textContent = text; }
+
+  /** @param {import('../words.js').Language} language */
+  speak(language) {
+    this.view.words = new Words(WORDS, language);
+    this.show();
+  }
 
   /**
    * The place that the address names, without its switches, which are set.
@@ -86,7 +94,7 @@ export class Shown {
     main.replaceChildren(answer, tables);
     if (this.title || !window.matchMedia('(max-width: 960px)').matches) rest();
     else requestAnimationFrame(() => setTimeout(rest));
-    return `${NAMES[at]} is ${told(view).labels[at]}`;
+    return view.words.say('classIs', NAMES[at], labelled(view, told(view).labels[at]));
   }
 
   /**
@@ -97,8 +105,8 @@ export class Shown {
     const { main } = this.frame;
     main.className = 'wide';
     main.replaceChildren(element('div', {}, ...nodes));
-    const head = main.querySelector('h2');
-    return head ? `${head.textContent} \u2013 ${TITLE}` : TITLE;
+    const head = main.querySelector('h2'), title = this.view.words.say('title');
+    return head ? `${head.textContent} \u2013 ${title}` : title;
   }
 
   /**
@@ -154,10 +162,19 @@ export class Shown {
   showPlace(place) {
     if (place === '') {
       this.showClass(this.view.current);
-      return TITLE;
+      return this.view.words.say('title');
     }
     const [, word, rest] = place.match(/^([a-z]+)(?:=(.*))?$/s) || ['', '', ''];
     return this.showWord(word, rest) || this.showText(place);
+  }
+
+  /** What the frame says of itself. */
+  showFrame() {
+    const { frame: { input, found, places }, view: { words } } = this;
+    input.placeholder = words.say('searchHint');
+    input.setAttribute('aria-label', words.say('searchSays'));
+    found.setAttribute('aria-label', words.say('hits'));
+    places.setAttribute('aria-label', words.say('atlasParts'));
   }
 
   /**
@@ -165,22 +182,21 @@ export class Shown {
    * @param {string} place
    */
   showTop(place) {
-    const { view, frame } = this, here = frame.main.className === 'pair' ? 'class' : place.split('=')[0];
+    const { view, frame } = this, { words } = view, here = frame.main.className === 'pair' ? 'class' : place.split('=')[0];
     const links = ['class', 'frontier', 'lists', 'about'].map(it => element('a', { href: address(view, it), 'aria-current': it === here ? 'page'
-      : null }, it));
+      : null }, words.say(`part ${it}`)));
     if (view.selection.length) {
       links.push(element('a', { href: address(view, selected(view)), 'aria-current': here === 'selection' ? 'page' : null },
-        `selection (${view.selection.length})`));
+        words.say('selectionLink', view.selection.length)));
     }
     frame.places.replaceChildren(...links);
     const { labels } = told(view), names = view.atlas.data.label_names.filter(it => labels.includes(it));
-    const turns = [turn('with a solver alone', view.solved, address({ ...view, solved: !view.solved }, place),
-      'lists show classes that msp solve solves')];
+    const turns = [turn(words.say('solvedAlone'), view.solved, address({ ...view, solved: !view.solved }, place), words.say('solvedAloneSays'))];
     if (view.atlas.published) {
-      turns.push(turn('published results alone', view.published, address({ ...view, published: !view.published }, place),
-        'without proofs of our own that no journal has seen'));
+      turns.push(turn(words.say('publishedAlone'), view.published, address({ ...view, published: !view.published }, place),
+        words.say('publishedAloneSays')));
     }
-    frame.key.replaceChildren(...names.map(it => linkTo(view, `lists=${it}`, dot(it), it)), ...turns);
+    frame.key.replaceChildren(...names.map(it => linkTo(view, `lists=${it}`, dot(view, it), labelled(view, it))), ...turns);
   }
 
   /** Shows the place that the address names. */
@@ -188,6 +204,7 @@ export class Shown {
     const place = this.place();
     this.title = this.showPlace(place);
     document.title = this.title;
+    this.showFrame();
     this.showTop(place);
   }
 
@@ -226,6 +243,6 @@ export class Shown {
     this.show();
     const again = this.frame.main.querySelector('[data-select]');
     if (again instanceof HTMLElement) again.focus();
-    this.say(`${view.selection.length} selected`);
+    this.say(view.words.say('selected', view.selection.length));
   }
 }

@@ -1,4 +1,5 @@
 // What the page knows: the problem and its plan with their history, the instance, and what the program says of both.
+import { labelIn } from '../atlas/words.js';
 import { run } from '../engine.js';
 import { nameOf, rankOf } from '../names.js';
 import { clockOf } from './clock.js';
@@ -24,12 +25,14 @@ import { faultOf, verdictOf } from './verdicts.js';
 /** Evidence that shows nothing: `accept` reads the whole instance with it, in each class. */
 const NOTHING = 'certificate\nbound 0\nkind group\nend\n';
 const KEPT = 30;
+/** The status of an instance that is beyond a limit of its solver. */
+const BEYOND = 4;
 
 /** The problem, its plan, and what is known of them. */
 export class App {
   /**
    * @param {State} state
-   * @param {import('./words.js').Words} words
+   * @param {import('../words.js').Words} words
    */
   constructor(state, words) {
     this.store = new Store(state);
@@ -54,8 +57,8 @@ export class App {
     this.running = null;
     /** @type {AbortController | null} */
     this.judging = null;
-    /** What was said last of a call that gave no plan. */
-    this.said = '';
+    /** What was said last of a call that gave no plan, in the language that the page has then. */
+    this.saying = () => '';
     /** What is searched of instances in which something runs already, by their texts.
      * @type {Map<string, import('./searching.js').Searched>} */
     this.pinned = new Map();
@@ -84,8 +87,21 @@ export class App {
   /** What the table of classes says of the class. */
   get label() { return this.atlas ? this.atlas.all.labels[rankOf(this.name)] : ''; }
 
-  /** Whether there is a solver; null while this is not known. */
-  get hasSolver() { return this.atlas ? this.atlas.solver(rankOf(this.name)) !== null : null; }
+  /** Whether there is a solver that takes the instance; null while this is not known. */
+  get hasSolver() {
+    const { answer } = this;
+    if (answer && answer.status === BEYOND) return false;
+    return this.atlas ? this.atlas.solver(rankOf(this.name)) !== null : null;
+  }
+
+  get said() { return this.saying(); }
+
+  /**
+   * Says something of a call.
+   * @param {string} key
+   * @param {...string} values
+   */
+  tells(key, ...values) { this.saying = () => this.words.say(key, ...values); }
 
   /** @param {() => void} view which is called when something is another */
   show(view) { this.views.push(view); }
@@ -129,7 +145,7 @@ export class App {
       this.clock = clockOf(value.problem);
       this.built = built(value.problem, this.clock);
       this.told = [];
-      this.said = '';
+      this.saying = () => '';
       const { running } = this;
       this.running = null;
       if (running) running.abort();
@@ -155,7 +171,7 @@ export class App {
       await this.judgeBy(control.signal);
     } catch (fault) {
       if (control.signal.aborted) return;
-      this.said = this.words.say('failed', String(fault));
+      this.tells('failed', String(fault));
       this.render();
     }
   }
@@ -219,16 +235,17 @@ export class App {
     if (!text || this.running) return;
     if (this.judging) this.judging.abort();
     this.running = control;
-    this.said = this.words.say('running');
+    this.tells('running');
     this.render();
     try {
       const { solved, note, status } = await this.ask(text, control.signal);
       this.running = null;
-      this.said = solved ? '' : this.why(status, note);
+      this.saying = solved ? () => '' : this.why(status, note);
       if (solved) this.takeBest(solved.pieces, follows && this.state.plan === plan);
     } catch (fault) {
       if (this.running !== control) return;
-      this.said = control.signal.aborted ? this.words.say('stopped') : this.words.say('failed', String(fault));
+      if (control.signal.aborted) this.tells('stopped');
+      else this.tells('failed', String(fault));
     }
     this.running = null;
     this.render();
@@ -247,11 +264,13 @@ export class App {
    * Why there is no best plan.
    * @param {number} status
    * @param {string} note
+   * @returns {() => string}
    */
   why(status, note) {
-    if (status === 5) return this.words.say('notBest', this.name, this.label || '?');
-    if (/limit of the solver/.test(note)) return this.words.say('solverLimit', note.replace(/^msp: /, '').trim());
-    return this.tell(note) ? '' : this.words.say('line', note.replace(/^msp: /, '').trim());
+    const { name } = this;
+    if (status === 5) return () => this.words.say('notBest', name, labelIn(this.words, this.label) || '?');
+    if (status === BEYOND) return () => this.words.say('solverLimit', name);
+    return this.tell(note) ? () => '' : () => this.words.say('line', note.replace(/^msp: /, '').trim());
   }
 
   /** The cost of the plan in units of the list; null where it does not go, or this is not known yet. */

@@ -6,6 +6,7 @@ import { button, part } from './controls.js';
 import { countAlike } from './difference.js';
 import { differenceSaid } from './difference-words.js';
 import { drawn } from './drawing.js';
+import { brokenPieces } from './verdicts.js';
 import { verdictNodes } from './plan-words.js';
 
 /** @typedef {import('./state.js').State} State */
@@ -81,10 +82,10 @@ export class BesideView {
    * @returns {Wanted}
    */
   wanted(other) {
-    const { byJob, zoom, root } = this.plan.chart, none = new Set(/** @type {number[]} */ ([])), { plan } = other.state;
+    const { byJob, zoom, root } = this.plan.chart, { verdict, state: { plan } } = other;
     return { pieces: plan ? plan.pieces : [], built: other.built, clock: other.clock, byJob, german: this.app.words.german,
-      width: Math.max(300, root.clientWidth - 4) * zoom, machineName: it => other.machineName(it), jobName: it => other.jobName(it), broken: none,
-      marked: none };
+      width: Math.max(300, root.clientWidth - 4) * zoom, machineName: it => other.machineName(it), jobName: it => other.jobName(it),
+      broken: new Set(verdict ? brokenPieces(verdict) : []), marked: new Set() };
   }
 
   /** Up to which moment both axes go, where both plans count time alike; else 0. */
@@ -105,9 +106,8 @@ export class BesideView {
    * @param {App} other
    */
   chart(other) {
-    const svg = drawn(chartOf({ ...this.wanted(other), span: this.span() }), `${other.name}, ${this.title(other)}`);
+    const svg = drawn(chartOf({ ...this.wanted(other), span: this.span() }), `${other.name}, ${this.title(other)}`, 'beside-stripes');
     svg.setAttribute('role', 'img');
-    svg.querySelectorAll('defs').forEach(it => it.remove());
     return element('div', { class: 'scroll chart-room', tabindex: '0', role: 'group', 'aria-label': this.title(other) }, svg);
   }
 

@@ -15,6 +15,8 @@ import { momentText } from './clock.js';
 const MOST = 12800;
 const REACH = 8;
 
+let charts = 0;
+
 /** The chart of the plan. */
 export class ChartView {
   /**
@@ -26,6 +28,8 @@ export class ChartView {
     this.tell = say;
     this.root = element('div', { class: 'scroll chart-room', tabindex: '-1' });
     this.byJob = false;
+    /** The name of what fills bars that break a condition. */
+    this.stripes = `stripes-${++charts}`;
     /** Up to which moment the axis goes at least. */
     this.span = () => 0;
     this.zoom = 1;
@@ -43,8 +47,15 @@ export class ChartView {
     /** What the chart was drawn of: where it is the same again, only bars and marks that are others are drawn anew.
      * @type {unknown[]} */
     this.drawnOf = [];
-    /** The place of the current bar, as it was drawn. */
+    /** The place of the current bar, as it was drawn, and all else of which that was. */
     this.drawnAt = 0;
+    this.drawnWith = '';
+    /** The bars that stand there, by the places of their pieces.
+     * @type {Map<number, Element>} */
+    this.shapes = new Map();
+    /** The bar to which the tabulator leads.
+     * @type {Element | null} */
+    this.tabbed = null;
     this.root.addEventListener('keydown', event => this.key(event));
     this.root.addEventListener('pointerdown', event => this.drag(event));
     this.root.addEventListener('pointerover', event => this.hint(event));
@@ -75,21 +86,36 @@ export class ChartView {
     const { pieces } = this;
     if (!pieces.length || pieces.length > MOST) {
       [this.chart, this.drawnOf] = [null, []];
+      this.shapes.clear();
       fill(this.root, element('p', { class: 'quiet' }, this.app.words.say(pieces.length ? 'tooLong' : 'noPlan')));
       return;
     }
-    const wanted = this.wanted(), hadFocus = this.root.contains(document.activeElement), before = this.chart, now = chartOf(wanted);
-    const drawnOf = [wanted.built, wanted.clock, this.app.problem, this.app.words, wanted.width, this.byJob];
-    const isSame = drawnOf.every((it, at) => it === this.drawnOf[at]);
+    const wanted = this.wanted(), hadFocus = this.root.contains(document.activeElement), before = this.chart;
+    const drawnOf = [wanted.built, wanted.clock, this.app.problem, this.app.words, wanted.width, this.byJob, pieces];
+    const [same, samePieces] = [drawnOf.slice(0, -1), drawnOf].map(those => those.every((it, at) => it === this.drawnOf[at]));
     this.current = Math.min(this.current, pieces.length - 1);
-    if (before && isSame && hasFrame(before, now)) this.again(before, now, wanted);
+    const drawnWith = JSON.stringify([wanted.span, [...wanted.broken], [...wanted.marked], this.held !== null]);
+    if (!before || !samePieces || drawnWith !== this.drawnWith || this.current !== this.drawnAt) this.draw(same ? before : null, wanted);
+    [this.drawnOf, this.drawnAt, this.drawnWith] = [drawnOf, this.current, drawnWith];
+    if (hadFocus) this.focus();
+  }
+
+  /**
+   * Draws the plan, or what is another in it.
+   * @param {Chart | null} before a chart of the same jobs; null where all is drawn anew
+   * @param {import('./chart.js').Wanted} wanted
+   */
+  draw(before, wanted) {
+    const now = chartOf(wanted);
+    if (before && hasFrame(before, now)) this.again(before, now, wanted);
     else {
-      const svg = drawn(now, this.title);
-      svg.querySelectorAll('.bar').forEach(bar => this.name(bar, wanted));
+      const svg = drawn(now, this.title, this.stripes);
+      this.shapes = new Map(Array.from(svg.querySelectorAll('.bar'), it => [Number(it.getAttribute('data-at')), it]));
+      const jobs = new Map(wanted.built.jobs.map(it => [it.row.id, it]));
+      this.shapes.forEach(bar => this.name(bar, wanted, jobs));
       fill(this.root, svg);
     }
-    [this.chart, this.drawnOf, this.drawnAt] = [now, drawnOf, this.current];
-    if (hadFocus) this.focus();
+    this.chart = now;
   }
 
   /**
@@ -99,11 +125,13 @@ export class ChartView {
    * @param {import('./chart.js').Wanted} wanted
    */
   again(before, now, wanted) {
+    const jobs = new Map(wanted.built.jobs.map(it => [it.row.id, it]));
     now.bars.forEach((bar, place) => {
       if (bar.at !== this.current && bar.at !== this.drawnAt && isBar(before.bars[place], bar)) return;
-      const old = this.root.querySelector(`[data-at="${bar.at}"]`), made = barShape(bar);
-      this.name(made, wanted);
+      const old = this.shapes.get(bar.at), made = barShape(bar, this.stripes);
+      this.name(made, wanted, jobs);
       if (old) old.replaceWith(made);
+      this.shapes.set(bar.at, made);
     });
     const svg = this.root.querySelector('svg');
     if (!svg || JSON.stringify(before.marks) === JSON.stringify(now.marks)) return;
@@ -115,17 +143,19 @@ export class ChartView {
    * What a bar says of itself.
    * @param {Element} bar
    * @param {import('./chart.js').Wanted} wanted
+   * @param {Map<number, import('./instance.js').Job>} jobs by their rows
    */
-  name(bar, wanted) {
+  name(bar, wanted, jobs) {
     const at = Number(bar.getAttribute('data-at')), piece = wanted.pieces[at], { words } = this.app;
     const { job, machine, from, to } = noteOf(piece, wanted);
-    const found = wanted.built.jobs.find(it => it.row.id === piece.row), due = found && found.d;
+    const found = jobs.get(piece.row), due = found && found.d;
     const late = bar.classList.contains('late') && due ? `, ${words.say('barLate', momentText(due, wanted.clock, wanted.german, true))}` : '';
     const text = words.say('barSays', job, machine, from, to) + late;
     bar.setAttribute('role', 'button');
     bar.setAttribute('aria-label', text);
     bar.setAttribute('aria-pressed', String(this.held !== null && at === this.current));
     bar.setAttribute('tabindex', at === this.current ? '0' : '-1');
+    if (at === this.current) this.tabbed = bar;
   }
 
   /**
@@ -139,10 +169,11 @@ export class ChartView {
 
   /** Puts the focus on the current bar. */
   focus() {
-    this.root.querySelectorAll('[data-at]').forEach(it => it.setAttribute('tabindex', '-1'));
-    const bar = this.root.querySelector(`[data-at="${this.current}"]`);
+    const bar = this.shapes.get(this.current);
     if (!(bar instanceof SVGElement)) return;
+    if (this.tabbed && this.tabbed !== bar) this.tabbed.setAttribute('tabindex', '-1');
     bar.setAttribute('tabindex', '0');
+    this.tabbed = bar;
     bar.focus();
   }
 

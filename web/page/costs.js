@@ -3,7 +3,7 @@ import { compare, fraction, greatest, minus, plus, shown, times, ZERO } from '..
 
 /** @typedef {import('../fractions.js').Fraction} Fraction */
 /** @typedef {import('./instance.js').Job} Job */
-/** @typedef {import('./words.js').Words} Words */
+/** @typedef {import('../words.js').Words} Words */
 
 /** @type {Object<string, string>} */
 const UNITS = { min: 'min', h: 'h', d: 'd' };

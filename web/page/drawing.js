@@ -11,15 +11,19 @@ const MOST_LINES = 40;
 /** The colours of bars, each bright enough for dark letters. */
 export const FILLS = ['#a9c8f0', '#f3c98b', '#b5dcae', '#e3bce6', '#f0b6ab', '#a8dcdc', '#d8d39a', '#c9c4f2'];
 
+/** The name of what fills bars that break a condition, in a file; in a page each chart has its own. */
+const STRIPES = 'broken-stripes';
+
 /**
  * A bar with its label.
  * @param {Bar} bar
+ * @param {string} [fills] the name of what fills it where it breaks a condition
  */
-export function barShape(bar) {
+export function barShape(bar, fills = STRIPES) {
   const { x, y, width, broken } = bar;
   const classes = ['bar', bar.late ? 'late' : '', broken ? 'broken' : '', bar.marked ? 'marked' : ''].filter(Boolean).join(' ');
   const edge = broken || bar.late ? '#a11d27' : bar.marked ? '#1c232e' : '#5b6675';
-  const rect = shape('rect', { x, y, width, height: BAR, rx: 3, fill: broken ? 'url(#broken-stripes)' : FILLS[bar.colour], stroke: edge,
+  const rect = shape('rect', { x, y, width, height: BAR, rx: 3, fill: broken ? `url(#${fills})` : FILLS[bar.colour], stroke: edge,
     'stroke-width': broken || bar.marked ? 3 : bar.late ? 2 : 1 });
   const how = { x: x + width / 2, y: y + BAR / 2 + 4.5, 'text-anchor': 'middle', fill: '#1c232e', class: 'label' };
   return shape('g', { class: classes, 'data-at': bar.at }, rect, ...(bar.label ? [shape('text', how, bar.label)] : []));
@@ -39,9 +43,12 @@ export function markShape({ kind, x, y, late, short }) {
   return shape('path', { d, class: `due${late ? ' late' : ''}`, fill: colour, stroke: colour, 'stroke-width': 1.4 });
 }
 
-/** What fills a bar that breaks a condition: stripes, which are seen without colours too. */
-function stripes() {
-  const how = { id: 'broken-stripes', width: 8, height: 8, patternUnits: 'userSpaceOnUse', patternTransform: 'rotate(45)' };
+/**
+ * What fills a bar that breaks a condition: stripes, which are seen without colours too.
+ * @param {string} id
+ */
+function stripes(id) {
+  const how = { id, width: 8, height: 8, patternUnits: 'userSpaceOnUse', patternTransform: 'rotate(45)' };
   return shape('defs', {}, shape('pattern', how,
     shape('rect', { width: 8, height: 8, fill: '#ffd9d6' }), shape('rect', { width: 3, height: 8, fill: '#e0797c' })));
 }
@@ -64,11 +71,13 @@ function ground(chart) {
  * A chart as an element.
  * @param {Chart} chart
  * @param {string} title
+ * @param {string} [fills] the name of what fills bars that break a condition, which stands once in a page
  */
-export function drawn(chart, title) {
+export function drawn(chart, title, fills = STRIPES) {
   const { width, height } = chart, name = chart.lines.length > MOST_LINES ? 'chart long' : 'chart';
   return shape('svg', { viewBox: `0 0 ${width} ${height}`, width, height, class: name, role: 'group', 'aria-label': title, 'font-size': 12.5,
-    'font-family': 'system-ui, "Segoe UI", "DejaVu Sans", sans-serif' }, stripes(), ...ground(chart), ...chart.bars.map(barShape),
+    'font-family': 'system-ui, "Segoe UI", "DejaVu Sans", sans-serif' }, stripes(fills), ...ground(chart),
+  ...chart.bars.map(it => barShape(it, fills)),
   ...chart.marks.map(markShape));
 }
 
@@ -105,33 +114,65 @@ export async function pngOf(chart, title) {
   }
 }
 
-/** Signs that mean something in LaTeX.
+/** Signs that mean something in LaTeX, or look like something else in its first fonts.
  * @type {Object<string, string>} */
-const SIGNS = { '\\': '\\textbackslash{}', '~': '\\textasciitilde{}', '^': '\\textasciicircum{}',
+const SIGNS = { '\\': '\\textbackslash{}', '~': '\\textasciitilde{}', '^': '\\textasciicircum{}', '<': '\\textless{}', '>': '\\textgreater{}',
+  '|': '\\textbar{}', '"': '{\\ttfamily\\char34}', '-': '{-}', '\u2212': '$-$', '\u2009': '\\,', '\u202f': '\\,',
   ...Object.fromEntries(Array.from('#$%&_{}', it => [it, `\\${it}`])) };
+/** Signs that are not seen. */
+const UNSEEN = /[\u200b-\u200f\u2028-\u202e\u2060-\u2069\ufeff]/g;
+/** Signs that pdflatex knows without a further package. */
+const LATIN = /^[\n -~\u00a0\u00a1-\u017f\u2009\u202f\u2013\u2014\u2018-\u201a\u201c-\u201e\u2022\u2026\u20ac\u2212]*$/;
 
 /**
  * A text of LaTeX.
  * @param {string} text
  */
-function latex(text) { return Array.from(text, it => SIGNS[it] || it).join(''); }
+export function latex(text) { return Array.from(text.replace(UNSEEN, ''), it => SIGNS[it] || it).join(''); }
+
+/**
+ * A place of the chart in centimetres.
+ * @param {number} x
+ * @param {number} y
+ */
+function at(x, y) { return `(${(x / 40).toFixed(3)},${(-y / 40).toFixed(3)})`; }
+
+/**
+ * A bar in TikZ, with its label.
+ * @param {Bar} bar
+ */
+function tikzBar({ x, y, width, label, late, broken, marked, colour }) {
+  const edge = broken ? 'mspred,very thick' : late ? 'mspred,thick' : marked ? 'black,very thick' : 'gray,thin';
+  const text = latex(label), middle = at(x + width / 2, y + BAR / 2);
+  return [`\\draw[fill=msp${'abcdefgh'[colour]},draw=${edge}] ${at(x, y)} rectangle ${at(x + width, y + BAR)};`,
+    ...(text ? [`\\node[font=\\scriptsize] at ${middle} {\\strut ${text}};`] : [])];
+}
+
+/**
+ * The mark of a date in TikZ, in the form that it has in the page.
+ * @param {Mark} mark
+ */
+function tikzMark({ kind, x, y, late, short }) {
+  const top = y + 2, foot = y + LINE - 2, middle = y + LINE / 2, colour = late ? 'mspred' : 'mspgreen';
+  if (kind === 'release') return `\\draw[mspblue,thick] ${at(x, top)} -- ${at(x, foot)} ${at(x, middle)} -- ${at(x + 6, middle)};`;
+  if (short) return `\\fill[${colour}] ${at(x - 5, top - 1)} -- ${at(x + 5, top - 1)} -- ${at(x, top + 7)} -- cycle;`;
+  return `\\filldraw[${colour}] ${at(x, foot)} -- ${at(x, top)} -- ${at(x - 8, top)} -- ${at(x - 4, top + 4)} -- ${at(x - 8, top + 8)} -- `
+    + `${at(x, top + 8)};`;
+}
 
 /**
  * A chart as a picture of TikZ, in centimetres.
  * @param {Chart} chart
  */
 export function tikzText(chart) {
-  const at = (/** @type {number} */ x, /** @type {number} */ y) => `(${(x / 40).toFixed(3)},${(-y / 40).toFixed(3)})`;
   const foot = TOP + chart.lines.length * LINE;
-  const lines = chart.lines.map(({ title, y }) => `\\node[anchor=west] at ${at(0, y + LINE / 2)} {${latex(title)}};`);
+  const lines = chart.lines.map(({ title, y }) => `\\node[anchor=west,font=\\small] at ${at(0, y + LINE / 2)} {\\strut ${latex(title)}};`);
   const ticks = chart.ticks.flatMap(({ x, text }) => [`\\draw[lightgray] ${at(x, TOP)} -- ${at(x, foot + 5)};`,
     `\\node[anchor=north,font=\\scriptsize] at ${at(x, foot + 4)} {${latex(text)}};`]);
-  const bars = chart.bars.flatMap(({ x, y, width, label, late, colour }) => [
-    `\\draw[fill=msp${'abcdefgh'[colour]}${late ? ',draw=red!70!black,thick' : ''}] ${at(x, y)} rectangle ${at(x + width, y + BAR)};`,
-    ...(label ? [`\\node[font=\\scriptsize] at ${at(x + width / 2, y + BAR / 2)} {${latex(label)}};`] : [])]);
-  const colourOf = (/** @type {Mark} */ { kind, late }) => kind === 'release' ? 'blue' : late ? 'red!70!black' : 'green!40!black';
-  const marks = chart.marks.map(it => `\\draw[thick,${colourOf(it)}] `
-    + `${at(it.x, it.y + 2)} -- ${at(it.x, it.y + (it.short ? LINE / 4 : LINE - 2))};`);
-  const colours = FILLS.map((it, place) => `\\definecolor{msp${'abcdefgh'[place]}}{HTML}{${it.slice(1).toUpperCase()}}`);
-  return ['% \\usepackage{tikz}', ...colours, '\\begin{tikzpicture}', ...ticks, ...lines, ...bars, ...marks, '\\end{tikzpicture}', ''].join('\n');
+  const colours = [...FILLS.map((it, place) => ['abcdefgh'[place], it]), ['red', '#a11d27'], ['green', '#2c5b34'], ['blue', '#1b4f9c']];
+  const defined = colours.map(([name, it]) => `\\definecolor{msp${name}}{HTML}{${it.slice(1).toUpperCase()}}`);
+  const body = [...defined, '\\begin{tikzpicture}', ...ticks, ...lines, ...chart.bars.flatMap(tikzBar), ...chart.marks.map(tikzMark),
+    '\\end{tikzpicture}', ''].join('\n');
+  const other = LATIN.test(body) ? '' : '% (some names have letters that pdflatex does not know: lualatex and xelatex do, with a font for them)\n';
+  return `% \\usepackage{tikz}; where it is too wide: \\resizebox{\\linewidth}{!}{\\input{plan}}\n${other}${body}`;
 }

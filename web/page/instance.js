@@ -216,7 +216,7 @@ function refuseParts(reader, jobs) {
   if (reader.problem.parts.times !== 'p=1') return;
   for (const { row, r, d, route } of jobs) {
     for (const [key, value] of /** @type {[string, Fraction | null][]} */ ([['r', r], ['d', d], ...route.map(it => ['route', it[1]])])) {
-      if (value && value.d !== 1n) reader.fault(row.id, key, 'notWhole', print(value));
+      if (value && value.d !== 1n) reader.fault(row.id, key, 'notWhole', (row.cells[key] || '').trim() || print(value));
     }
   }
 }

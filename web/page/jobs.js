@@ -23,7 +23,7 @@ export function calledAt(row, at) { return row.name.trim() || `j${at + 1}`; }
  * How a machine is called: by its name, or by its number. A name that is a number stands for the machine of that number, in each language.
  * @param {string[]} names
  * @param {number} machine from 1
- * @param {import('./words.js').Words} words
+ * @param {import('../words.js').Words} words
  */
 export function machineAt(names, machine, words) {
   const name = (names[machine - 1] || '').trim();

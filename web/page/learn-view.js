@@ -15,7 +15,7 @@ import { WhyView } from './why-view.js';
 
 /** @typedef {import('../lessons/lessons.js').Lesson} Lesson */
 /** @typedef {import('./state.js').Plan} Plan */
-/** @typedef {import('./words.js').Words} Words */
+/** @typedef {import('../words.js').Words} Words */
 
 /** What is told of an answer; all else stands in the verdict already. */
 const TOLD = ['solved', 'changed', 'dearer', 'moved', 'refused', 'kind', 'less'];
@@ -147,10 +147,18 @@ export class LearnView {
     const again = () => app.plan(this.first(app, lesson)), move = () => {
       if (app.state.plan) app.plan({ pieces: early(app.state.plan.pieces, app.built), from: 'own' });
     };
-    return element('div', { class: 'buttons' }, button(this.say('early'), move, { title: this.say('earlySays'), id: 'lesson-early' }),
-      button(this.say('undo'), () => app.store.undo(), { id: 'lesson-undo' }),
-      button(this.say('redo'), () => app.store.redo(), { id: 'lesson-redo' }), button(this.say('again'), again, { id: 'lesson-again' }),
-      button(this.say('lessonTake'), () => this.take(instanceText(lesson))));
+    const undo = button(this.say('undo'), () => app.store.undo(), { id: 'lesson-undo' });
+    const redo = button(this.say('redo'), () => app.store.redo(), { id: 'lesson-redo' });
+    const able = () => {
+      const { activeElement: here } = document;
+      [undo.disabled, redo.disabled] = [!app.store.past.length, !app.store.future.length];
+      if (here === undo && undo.disabled) redo.focus();
+      if (here === redo && redo.disabled) undo.focus();
+    };
+    app.show(able);
+    able();
+    return element('div', { class: 'buttons' }, button(this.say('early'), move, { title: this.say('earlySays'), id: 'lesson-early' }), undo, redo,
+      button(this.say('again'), again, { id: 'lesson-again' }), button(this.say('lessonTake'), () => this.take(instanceText(lesson))));
   }
 
   /**

@@ -19,16 +19,13 @@ import { stateIn, unpacked } from './state.js';
 import { StepsView } from './steps-view.js';
 import { WhatIfView } from './what-if-view.js';
 import { WhyView } from './why-view.js';
-import { Words } from './words.js';
+import { firstLanguage, Words } from '../words.js';
 
-/** @typedef {import('./words.js').Language} Language */
+/** @typedef {import('../words.js').Language} Language */
 
 const PARTS = ['plan', 'classes', 'learn'];
 const json = (/** @type {string} */ id) => JSON.parse(byId(id, HTMLScriptElement).textContent || '');
 const table = json('words'), examples = json('examples'), said = byId('said', HTMLElement);
-
-/** @returns {Language} */
-function firstLanguage() { return (navigator.language || '').toLowerCase().startsWith('de') ? 'de' : 'en'; }
 
 /** @param {string} text */
 function say(text) { said.textContent = text; }
@@ -106,6 +103,8 @@ function speak(language) {
   app.words = new Words(table, language);
   frame();
   app.render();
+  if (shown) shown.speak(language);
+  if (partHere() === 'classes') classes();
   if (partHere() === 'learn') learn.show(location.hash.slice('#learn/'.length));
 }
 
@@ -117,14 +116,13 @@ async function classes() {
   if (!shown) {
     const at = (/** @type {string} */ id) => byId(id, HTMLElement);
     const frame = { main: at('main'), input: byId('asked', HTMLInputElement), found: at('found'), places: at('places'), key: at('key'), said };
-    shown = new Shown(app.atlas, frame, 'classes/');
+    shown = new Shown(app.atlas, frame, 'classes/', app.words.language);
     shown.view.current = rankOf(app.name);
   }
   if (location.hash === '#classes') history.replaceState(null, '', `#classes/${encodeURIComponent(app.name)}`);
   shown.show();
   const { current } = shown.view;
-  fill(byId('take-class', HTMLElement), button(app.words.say('takeClass', NAMES[current]), () => takeClass(current), { class: 'act' }),
-    element('span', { class: 'quiet' }, ` ${app.words.say('atlasIsEnglish')}`));
+  fill(byId('take-class', HTMLElement), button(app.words.say('takeClass', NAMES[current]), () => takeClass(current), { class: 'act' }));
 }
 
 /** @param {number} rank */
@@ -212,7 +210,8 @@ async function begin() {
   await route();
   prepare().catch(fault => {
     const isOld = typeof DecompressionStream === 'undefined';
-    app.said = isOld ? app.words.say('tooOld') : app.words.say('failed', fault instanceof Error ? fault.message : String(fault));
+    if (isOld) app.tells('tooOld');
+    else app.tells('failed', fault instanceof Error ? fault.message : String(fault));
     app.render();
   });
   if (!app.state.plan && !app.running) app.solve(true);

@@ -1,13 +1,15 @@
 // The problem: its class by questions or by its name, its machines, and what is known of it.
-import { LETTER } from '../classes.js';
 import { element, fill } from '../elements.js';
-import { changed, NAMES, partsOf, PARTS, rankOf, VALUES } from '../names.js';
+import { changed, NAMES, partsOf, PARTS, VALUES } from '../names.js';
+import { noteIn } from '../atlas/german.js';
 import { asked, near, read } from '../reading.js';
 import { fixedMachines, hasSpeeds } from './columns.js';
-import { button, choice, field, line, markFaults, part, putValues, unfolded } from './controls.js';
+import { button, choice, field, line, markFaults, part, putValues } from './controls.js';
+import { KnownView } from './known-view.js';
 
 /** @typedef {import('./app.js').App} App */
 /** @typedef {import('../names.js').Part} Part */
+/** @typedef {import('../reading.js').Unknown} Unknown */
 
 const NEAR = 6;
 
@@ -22,6 +24,7 @@ export class ProblemView {
     this.typedOver = app.problem.parts;
     /** What decides whether this part is built anew. */
     this.shape = '';
+    this.known = new KnownView(app, rank => this.take(rank));
   }
 
   /** @param {string} key
@@ -51,32 +54,12 @@ export class ProblemView {
   /** What was not understood of a class, and classes near by. */
   notes() {
     if (!this.typed.trim()) return [];
-    const reading = read(this.typed), unknown = reading.unknown.map(it => `${it.word}${it.note ? `: ${it.note}` : ''}`).join('; ');
+    const reading = read(this.typed), { words } = this.app;
+    const said = (/** @type {Unknown} */ { word, note }) => note ? `${word}: ${noteIn(words, note).replace(/\.$/, '')}` : word;
+    const unknown = reading.unknown.map(said).join('; ');
     const those = near(reading).slice(0, NEAR).map(it => button(NAMES[it], () => this.take(it), { class: 'near' }));
     return [element('p', { class: 'faulty', role: 'alert' }, this.say('notUnderstood', unknown || this.typed), ' ',
       ...(those.length ? [this.say('nearby'), ' ', ...those] : []))];
-  }
-
-  /** The name of the class, its label, and whether there is a solver. */
-  known() {
-    const { app } = this, { label } = app, line = element('p', { class: 'known' });
-    if (!label || !app.atlas) return line;
-    const solver = app.atlas.solver(rankOf(app.name));
-    line.append(element('span', { class: `badge ${label}` }, `${LETTER[label]} ${label}`), ' ',
-      solver ? this.say('solverIs', solver[0]) : this.say('noSolver'), ' ',
-      element('a', { class: 'text', href: `#classes/${encodeURIComponent(app.name)}` }, this.say('whyClass')));
-    return line;
-  }
-
-  /** The classes with a solver that are other in one part alone. */
-  solvedNear() {
-    const { app } = this, { atlas } = app, { parts } = app.problem;
-    const those = PARTS.flatMap(which => VALUES[which].filter(it => it !== parts[which]).map(it => ({ which, it, rank: changed(parts, which, it) })));
-    const found = those.filter(({ rank }) => atlas && rank >= 0 && atlas.solver(rank) !== null);
-    if (!found.length) return '';
-    return unfolded(this.say('nearSolved', String(found.length)), false, () => element('ul', { class: 'near-solved' },
-      ...found.map(({ which, it, rank }) => element('li', {}, button(NAMES[rank], () => this.take(rank), { class: 'near' }), ' ',
-        `${this.say(which === 'short' ? 'shortAsks' : which)} ${this.said(which, it)}`))));
   }
 
   /** @param {Part} which */
@@ -133,7 +116,8 @@ export class ProblemView {
     const { app } = this, focus = document.activeElement instanceof HTMLElement ? document.activeElement.id : '';
     const input = line('class-name', this.typed || app.name, it => this.read(it), { class: 'name', 'aria-describedby': 'class-hint' });
     const hint = element('span', { id: 'class-hint', class: 'quiet' }, this.say('classHint'));
-    const made = part('problem', this.say('problem'), field(this.say('className'), input, hint), ...this.notes(), this.known(), this.solvedNear(),
+    const known = this.known.nodes((which, word) => this.said(which, word));
+    const made = part('problem', this.say('problem'), field(this.say('className'), input, hint), ...this.notes(), ...known,
       element('div', { class: 'fields' }, ...PARTS.map(it => this.picker(it))), this.machines());
     fill(this.root, ...Array.from(made.childNodes));
     const again = focus && this.root.querySelector(`#${CSS.escape(focus)}`);

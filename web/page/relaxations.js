@@ -9,6 +9,10 @@ import { lateness, oneJob, oneOfShop, stepNamed } from './loosenings.js';
 /** @typedef {import('./plain.js').Plain} Plain */
 /** @typedef {import('../fractions.js').Fraction} Fraction */
 /** @typedef {{steps: Loosening[], instances: Plain[]}} Chain steps that were made, and the instances: the given one, and that behind each step */
+/**
+ * What chains are for: which classes have a solver, and whether it took the last instance of the chain that came last, which whoever asks says.
+ * @typedef {{solved: (name: string) => boolean, taken: boolean}} Asked
+ */
 
 /** Of so many machines of a shop, those with most work, bounds are asked. */
 const MOST_MACHINES = 8;
@@ -72,25 +76,27 @@ function isLooser(places, others, { criterion }) {
 }
 
 /**
- * The chains to classes with a solver that leave out least.
+ * The chains to classes with a solver that leave out least; more where the instance is beyond a limit of that solver.
  * @param {Chain} chain
- * @param {(name: string) => boolean} solved
- * @returns {Chain[]}
+ * @param {Asked} asked
+ * @returns {Generator<Chain>}
  */
-function leftOut(chain, solved) {
+function* leftOut(chain, asked) {
   const { parts } = lastOf(chain), several = parts.times ? LEFT_OUT.map(it => it[1] === 'equal' ? ['', 'unit'] : it) : LEFT_OUT;
   const sum = (/** @type {number[]} */ those) => those.reduce((all, it) => all + it, 0);
   const order = choices(several).sort((one, other) => sum(one) - sum(other) || (String(one) < String(other) ? -1 : 1));
-  /** @type {{places: number[], chain: Chain}[]} */
+  /** @type {number[][]} */
   const found = [];
   for (const places of order) {
     const names = places.map((at, place) => several[place][at]).join(' ');
     const kind = names.split(' ').filter(Boolean).reduce((it, name) => it && stepNamed(name).to(it), /** @type {Parts | null} */ (parts));
-    if (!kind || found.some(it => isLooser(places, it.places, kind)) || !solved(nameOf(kind))) continue;
+    if (!kind || found.some(it => isLooser(places, it, kind)) || !asked.solved(nameOf(kind))) continue;
     const those = byNames(chain, names);
-    if (those) found.push({ places, chain: those });
+    if (!those) continue;
+    asked.taken = true;
+    yield those;
+    if (asked.taken) found.push(places);
   }
-  return found.map(it => it.chain);
 }
 
 /**
@@ -136,19 +142,22 @@ function toOneJob(first) {
 }
 
 /**
- * The chains from an instance of a class without a solver to classes that have one.
+ * The chains from an instance to classes with a solver: of a class without one, or beyond the limit of its own. Each is made when it is asked
+ * for, since what comes behind it depends on whether its solver takes it.
  * @param {Plain} plain
- * @param {(name: string) => boolean} solved
- * @returns {Chain[]}
+ * @param {Asked} asked
+ * @returns {Generator<Chain>}
  */
-export function chains(plain, solved) {
+export function* chains(plain, asked) {
   const first = { steps: [], instances: [plain] };
-  if (solved(nameOf(plain.parts))) return [];
-  const ones = [...ways(first, CRITERIA[plain.parts.criterion] || []), ...byLateness(first)];
-  return [...toOneJob(first), ...ones.flatMap(one => ways(one, [...(plain.parts.order ? ['fastest'] : []), 'least-times']).flatMap(two => {
-    const dated = withDates(two), those = dated.steps.length > two.steps.length ? [two, dated] : [two];
-    return [...those, ...inShop(dated)].flatMap(it => leftOut(it, solved));
-  }))];
+  if (asked.solved(nameOf(plain.parts))) return;
+  yield* toOneJob(first);
+  for (const one of [...ways(first, CRITERIA[plain.parts.criterion] || []), ...byLateness(first)]) {
+    for (const two of ways(one, [...(plain.parts.order ? ['fastest'] : []), 'least-times'])) {
+      const dated = withDates(two), those = dated.steps.length > two.steps.length ? [two, dated] : [two];
+      for (const three of [...those, ...inShop(dated)]) yield* leftOut(three, asked);
+    }
+  }
 }
 
 /**

@@ -1,5 +1,5 @@
 // Schedules: those that the program prints, and their text for `check`. Moments are in the units of the list.
-import { fraction, lcm, over, plus, print, printed, times, ZERO } from '../fractions.js';
+import { fraction, gcd, lcm, over, plus, printed, ZERO } from '../fractions.js';
 
 /** @typedef {import('../fractions.js').Fraction} Fraction */
 /** @typedef {import('./instance.js').Built} Built */
@@ -45,16 +45,27 @@ export function solvedOf(report, built) {
 }
 
 /**
+ * By which the denominator of a moment divides the unit of a schedule.
+ * @param {bigint} all
+ * @param {Fraction} moment
+ * @param {bigint} scale
+ */
+function unitWith(all, { d }, scale) {
+  const left = d === 1n ? 1n : d / gcd(d, scale);
+  return all % left === 0n ? all : lcm(all, left);
+}
+
+/**
  * The text of a schedule. Its stated cost is 0: the program says the true one.
  * @param {Piece[]} pieces
  * @param {Built} built
  * @param {string} cost as the program printed it
  */
 export function scheduleText(pieces, built, cost = '0') {
-  const names = new Map(built.jobs.map(it => [it.row.id, it.name])), scale = fraction(built.scale);
-  const those = pieces.filter(it => names.has(it.row)).map(it => ({ ...it, from: times(it.from, scale), to: times(it.to, scale) }));
-  const unit = those.reduce((all, it) => lcm(lcm(all, it.from.d), it.to.d), 1n), part = fraction(unit);
-  const lines = those.map(it => `piece ${names.get(it.row)} ${it.op} ${it.machine} ${print(times(it.from, part))} ${print(times(it.to, part))}`);
+  const names = new Map(built.jobs.map(it => [it.row.id, it.name])), { scale } = built, those = pieces.filter(it => names.has(it.row));
+  const unit = those.reduce((all, { from, to }) => unitWith(unitWith(all, from, scale), to, scale), 1n), factor = unit * scale;
+  const moment = (/** @type {Fraction} */ { n, d }) => d === 1n ? n * factor : n * factor / d;
+  const lines = those.map(it => `piece ${names.get(it.row)} ${it.op} ${it.machine} ${moment(it.from)} ${moment(it.to)}`);
   return ['schedule', `cost ${cost}`, `unit ${unit}`, ...lines, 'end', ''].join('\n');
 }
 

@@ -79,7 +79,7 @@ export class Searching {
     const { app } = this, source = document.getElementById('search-worker'), { timed, piecesOf } = this.searched();
     this.stop();
     if (!timed || !source) {
-      app.said = app.words.say('tooGreat');
+      app.tells('tooGreat');
       app.render();
       return;
     }
@@ -122,10 +122,12 @@ export class Searching {
     const { app } = this, { text } = app.built;
     if (!text || !app.atlas || this.asked === text) return;
     this.asked = text;
-    const solved = (/** @type {string} */ name) => app.atlas !== null && app.atlas.solver(rankOf(name)) !== null;
-    for (const chain of chains(plainOf(app.built, app.problem.parts), solved)) {
+    const has = (/** @type {string} */ name) => app.atlas !== null && app.atlas.solver(rankOf(name)) !== null, own = app.name;
+    const asked = { solved: (/** @type {string} */ name) => has(name) && name !== own, taken: true };
+    for (const chain of chains(plainOf(app.built, app.problem.parts), asked)) {
       const { status, report } = await run(['solve'], plainText(chain.instances[chain.instances.length - 1]));
       if (app.built.text !== text) return;
+      asked.taken = status === 0;
       const cost = status === 0 ? printed((report.match(/^cost (.*)$/m) || ['', ''])[1]) : null;
       if (!cost) continue;
       const bound = boundOf(chain, cost), value = listCost(bound.value, app.problem.parts.criterion, app.built);

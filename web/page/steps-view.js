@@ -104,6 +104,7 @@ export class StepsView {
       broken: new Set(/** @type {number[]} */ ([])), marked: new Set(/** @type {number[]} */ ([])) };
     const svg = drawn(chartOf(wanted), this.say('stepsChart'));
     svg.setAttribute('role', 'img');
+    svg.querySelectorAll('defs').forEach(it => it.remove());
     return svg;
   }
 

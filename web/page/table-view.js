@@ -40,6 +40,10 @@ export class TableView {
     this.root = element('div', { class: 'scroll jobs', tabindex: '-1' });
     /** What decides whether the table is built anew. */
     this.shape = '';
+    /** The rows whose cells stand there, and the faults that are marked.
+     * @type {Row[] | null} */
+    this.filledOf = null;
+    this.markedOf = '';
     this.root.addEventListener('change', event => this.typed(event));
     this.root.addEventListener('paste', event => this.paste(event));
     this.root.addEventListener('keydown', event => this.key(event));
@@ -163,8 +167,10 @@ export class TableView {
       element('tbody', {}, ...problem.rows.map((row, at) => this.row(row, at)))));
   }
 
-  /** Puts what changed elsewhere into the cells. */
+  /** Puts what changed elsewhere into the cells; where the rows are the same, nothing did. */
   refresh() {
+    if (this.filledOf === this.app.problem.rows) return;
+    this.filledOf = this.app.problem.rows;
     const rows = new Map(this.app.problem.rows.map(it => [it.id, it]));
     this.root.querySelectorAll('td[data-key] input').forEach(input => {
       const place = this.placeOf(input), row = place && rows.get(place.id);
@@ -180,6 +186,7 @@ export class TableView {
     if (shape !== this.shape) {
       this.shape = shape;
       this.build();
+      [this.filledOf, this.markedOf] = [problem.rows, ''];
       if (focus) this.focus(focus.id, focus.key);
     } else this.refresh();
     this.mark();
@@ -187,6 +194,9 @@ export class TableView {
 
   /** Marks the cells with a fault, and says it in words below them. */
   mark() {
+    const faults = JSON.stringify(this.app.faults);
+    if (faults === this.markedOf) return;
+    this.markedOf = faults;
     this.root.querySelectorAll('.fault').forEach(it => it.remove());
     this.root.querySelectorAll('[aria-invalid]').forEach(it => {
       it.removeAttribute('aria-invalid');

@@ -122,7 +122,10 @@ export class WhyView {
   certificate() {
     const { app } = this;
     if (this.ownOnly) return [];
-    if (!CERTIFIED.includes(app.name)) return [element('p', { class: 'quiet' }, this.say('whyOther', CERTIFIED.join(', ')))];
+    if (!CERTIFIED.includes(app.name)) {
+      const key = app.hasSolver === false ? 'whyNoSolver' : 'whyOther';
+      return [element('p', { class: 'quiet', id: 'why-other' }, this.say(key, CERTIFIED.join(', ')))];
+    }
     const { asked } = this;
     if (!asked || asked.text !== app.built.text) {
       return [element('p', { class: 'buttons' }, button(this.say('whyAsk'), () => this.ask(), { id: 'why-ask' }))];
@@ -205,7 +208,7 @@ export class WhyView {
     const { app } = this, { text } = app.built;
     this.root.hidden = !text;
     const best = app.bestCost && print(app.bestCost);
-    const shape = JSON.stringify([app.words.language, text, this.asked && this.asked.text, this.judged, this.kind, best]);
+    const shape = JSON.stringify([app.words.language, text, this.asked && this.asked.text, this.judged, this.kind, best, app.hasSolver]);
     if (shape === this.shape) return;
     if (text !== JSON.parse(this.shape || '[0,""]')[1]) this.judged = '';
     this.shape = shape;

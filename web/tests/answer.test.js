@@ -12,7 +12,7 @@ import { App } from '../page/app.js';
 import { moved } from '../page/own.js';
 import { checkedText } from '../page/plan-files.js';
 import { problemOf } from '../page/texts.js';
-import { Words } from '../page/words.js';
+import { Words } from '../words.js';
 
 const HERE = new URL('../../', import.meta.url), program = new URL('released/msp', HERE);
 const missing = !existsSync(new URL('released/msp.wasm', HERE)) || !existsSync(program) ? 'there is no released program here'

@@ -5,10 +5,13 @@ import test from 'node:test';
 import { placeOf } from '../atlas/search.js';
 import { Atlas } from '../classes.js';
 import { rankOf } from '../names.js';
+import { Words } from '../words.js';
+import { WORDS } from '../atlas/words.js';
 
 const page = readFileSync(new URL('../../released/atlas.html', import.meta.url), 'utf8');
 const found = page.match(/<script id="data" type="application\/json">(.*?)<\/script>/s);
-const view = { atlas: new Atlas(JSON.parse(found ? found[1] : '')), published: false, solved: false, current: 0, selection: [], prefix: '' };
+const view = { atlas: new Atlas(JSON.parse(found ? found[1] : '')), published: false, solved: false, current: 0, selection: [], prefix: '',
+  words: new Words(WORDS, 'en') };
 const table = readFileSync(new URL('../../docs/results/names.csv', import.meta.url), 'utf8');
 
 /**

@@ -83,7 +83,13 @@
     .filter(it => it.width && (it.width < 24 || it.height < 24)).map(it => `${it.width} x ${it.height}`);
   /** What lies below the screen is drawn, too, and so is measured. */
   const whole = () => document.querySelectorAll('section').forEach(it => it.style.setProperty('content-visibility', 'visible'));
-  Object.assign(window.trial, { poor, pale, small, whole });
+  const SEEN = '#main *, #key *, #places *, #found *, #said, #name, #take-class *, #class-known *';
+  /** Words of English in what is seen of the classes, but for what is marked as English. */
+  const english = () => Array.from(document.querySelectorAll(SEEN))
+    .flatMap(it => Array.from(it.childNodes).filter(node => node.nodeType === 3).map(node => ({ it, text: node.textContent || '' })))
+    .filter(({ it, text }) => /\b(the|of|is|are|with|that|this|to|and|which|from|by|no|here|all|any)\b/.test(text) && !it.closest('[lang=en], .name'))
+    .map(({ text }) => text);
+  Object.assign(window.trial, { poor, pale, small, whole, english });
 })();
 
 // What it saves, when it is drawn, and where its pictures stand.

@@ -8,13 +8,13 @@ import { fileURLToPath } from 'node:url';
 import { Atlas } from '../classes.js';
 import { run } from '../engine.js';
 import { compare, fraction, print, printed } from '../fractions.js';
-import { NAMES, partsOf, rankOf } from '../names.js';
+import { nameOf, NAMES, partsOf, rankOf } from '../names.js';
 import { clockOf } from '../page/clock.js';
 import { built } from '../page/instance.js';
 import { plainOf, plainText } from '../page/plain.js';
 import { boundOf, chains } from '../page/relaxations.js';
 import { problemOf } from '../page/texts.js';
-import { Words } from '../page/words.js';
+import { Words } from '../words.js';
 import { Draw, drawn } from './drawn.js';
 
 /** @typedef {import('../page/relaxations.js').Chain} Chain */
@@ -53,7 +53,7 @@ function told(chain, cost) {
 async function toldOf(text) {
   const those = [];
   let greatest = null;
-  for (const chain of chains(plainIn(text), isSolved)) {
+  for (const chain of chains(plainIn(text), { solved: isSolved, taken: true })) {
     const { status, report, note } = await run(['solve'], plainText(chain.instances[chain.instances.length - 1]));
     const cost = printed((report.match(/^cost (.*)$/m) || ['', ''])[1]);
     assert.ok(status === 0 && cost, note);
@@ -76,4 +76,40 @@ test('steps of bounds are those of the companions', { skip: missing }, async () 
   assert.deepEqual(JSON.parse(String(asked.stdout)), []);
   const seen = new Set(all.flatMap(it => it.chains).flatMap(it => it.steps).map(it => it.split(':')[0]));
   assert.ok(seen.size >= 15, Array.from(seen).join(' '));
+});
+
+/** A class whose solver has a limit, and a problem that is loosened to it: numbers so great that the solver refuses them. */
+const GREAT = `job a p=100000000 d=150000000 w=300000000
+job b p=90000000 d=100000000 w=200000000
+job c p=80000001 d=260000000 w=100000007
+job d p=70000000 d=260000000 w=400000000
+`;
+
+/**
+ * The greatest bound of an instance, and how many instances a solver refused.
+ * @param {string} text
+ */
+async function beyond(text) {
+  const plain = plainIn(text), name = nameOf(plain.parts), asked = { solved: (/** @type {string} */ it) => it !== name && isSolved(it), taken: true };
+  let greatest = null, refused = 0;
+  for (const chain of chains(plain, asked)) {
+    const { status, report } = await run(['solve'], plainText(chain.instances[chain.instances.length - 1]));
+    const cost = printed((report.match(/^cost (.*)$/m) || ['', ''])[1]), value = cost && boundOf(chain, cost).value;
+    asked.taken = status === 0;
+    if (!asked.taken) refused++;
+    if (value && (!greatest || compare(value, greatest) > 0)) greatest = value;
+  }
+  return { greatest, refused };
+}
+
+test('beyond a limit of a solver bounds are those of looser classes, and none is above that of the companions', { skip: missing }, async () => {
+  for (const [text, refuses] of /** @type {[string, boolean][]} */ ([[`msp 1\nclass 1|prec|sumwU\n${GREAT}arc a b\nend\n`, true],
+    [`msp 1\nclass 1||sumwU\n${GREAT}end\n`, false]])) {
+    const { greatest, refused } = await beyond(text);
+    assert.ok(greatest && greatest.n > 0n && refused > 0 === refuses, `${refused} refused`);
+    const told = spawnSync('python3', [fileURLToPath(new URL('bounds.py', import.meta.url)), '1'],
+      { input: JSON.stringify([{ text, chains: [], greatest: print(greatest) }]), maxBuffer: 1 << 28, env: { ...env, MSP: fileURLToPath(program) } });
+    assert.equal(told.status, 0, String(told.stderr));
+    assert.deepEqual(JSON.parse(String(told.stdout)), []);
+  }
 });

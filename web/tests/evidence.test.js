@@ -9,7 +9,7 @@ import { App } from '../page/app.js';
 import { CERTIFIED, certificateIn, ownText, pastedText, toldOf, whyText } from '../page/evidence.js';
 import { listCost } from '../page/schedule.js';
 import { emptyProblem, problemOf } from '../page/texts.js';
-import { Words } from '../page/words.js';
+import { Words } from '../words.js';
 import { drawn, Draw } from './drawn.js';
 
 const missing = existsSync(new URL('../../released/msp.wasm', import.meta.url)) ? false : 'there is no released/msp.wasm here';

@@ -172,7 +172,7 @@ test('all words stand in both languages, and those that are asked for are there'
   const folder = new URL('../page/', import.meta.url);
   for (const name of readdirSync(folder).filter(it => it.endsWith('.js'))) {
     const code = readFileSync(new URL(name, folder), 'utf8');
-    for (const [, key] of code.matchAll(/\.say\('([^']+)'/g)) assert.ok(key in table, `${name}: ${key}`);
+    for (const [, key] of code.matchAll(/(?<!\bview\.words)\.(?:say|parts)\('([^']+)'/g)) assert.ok(key in table, `${name}: ${key}`);
     for (const [, key] of code.matchAll(/CellFault\('([^']+)'/g)) assert.ok(key in table, `${name}: ${key}`);
     for (const [, key] of code.matchAll(/fault\([^()]*, '(\w+)'[,)]/g)) assert.ok(key in table, `${name}: ${key}`);
   }

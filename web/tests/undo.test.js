@@ -13,7 +13,7 @@ import { listOf } from '../page/spreadsheet.js';
 import { stateIn, textOf } from '../page/state.js';
 import { withCell } from '../page/table-view.js';
 import { problemOf } from '../page/texts.js';
-import { Words } from '../page/words.js';
+import { Words } from '../words.js';
 import { fraction } from '../fractions.js';
 
 const missing = existsSync(new URL('../../released/msp.wasm', import.meta.url)) ? false : 'there is no released/msp.wasm here';
