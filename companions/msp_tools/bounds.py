@@ -23,6 +23,7 @@ from .numbers import fraction
 from .program import Program, need_program
 from .schedules import stated_cost
 from .texts import Instance
+from .windows import in_windows, windows, windows_for
 
 Tell = Callable[[str], None]
 
@@ -163,6 +164,14 @@ class Finder:
                 if found:
                     yield found
 
+    def by_windows(self, chain: Chain) -> Iterator[Chain]:
+        """The chains to the jobs of windows of time, where the given instance counts late jobs."""
+        if self.given.kind.criterion[-1] == "U" and in_windows(chain.last.kind):
+            for spans in windows_for(chain.last):
+                found = self.further(chain, windows(spans))
+                if found:
+                    yield from self.left_out(found)
+
     def with_dates(self, chain: Chain) -> Chain:
         """The chain with release dates raised and due dates lowered along the arcs, as far as that can be."""
         for name in ("heads", "tails"):
@@ -192,8 +201,10 @@ class Finder:
                 for three in [two, dated] if dated.steps != two.steps else [two]:
                     yield from self.left_out(three)
                 yield from self.later_jobs(dated)
+                yield from self.by_windows(dated)
                 for three in self.in_shop(dated):
                     yield from self.left_out(three)
+                    yield from self.by_windows(three)
 
 
 def class_behind(kind: ClassName, names: str) -> ClassName | None:

@@ -79,7 +79,8 @@ def by_search(given: Instance) -> tuple[tuple[int, ...], int]:
         value = sum(map(mul, factors, late))
         if value > best:
             best, found = value, tuple(factors)
-        mean = sum([abs(it) for it in late]) / len(late) or 1.0
+        sizes = [abs(it) for it in late]
+        mean = sum(sizes) / len(late) or 1.0
         raised = [factor + top * (it / mean) / (turn + 2) for factor, top, it in zip(factors, most, late)]
         factors = [0 if it <= 0 else top if it >= top else round(it) for it, top in zip(raised, most)]
     return found, scale

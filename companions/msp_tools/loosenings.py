@@ -63,7 +63,7 @@ def beyond(given: Instance) -> str | None:
     """What leaves the limits of texts, in words, or None."""
     for job in given.jobs:
         numbers = [job.due or 0, job.time or 0, job.release or 0, job.weight or 0, *job.times, *[it or 0 for _, it in job.route], *job.curve]
-        greatest = max(max(numbers), -min(numbers))
+        greatest = max(numbers + [-min(numbers)])
         if greatest > GREATEST:
             return f"{greatest} of {job.name} is above {said(GREATEST)}"
     return None

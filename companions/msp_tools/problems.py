@@ -140,14 +140,14 @@ class Problem:
 
     def costing(self) -> Callable[[Sequence[int]], int]:
         """The same as a function of the ends, for those who ask often."""
-        kind, weight, due, jobs = self.criterion, self.weight, self.due, range(self.count)
+        kind, weight, due, jobs, total = self.criterion, self.weight, self.due, range(self.count), self.total
         if kind == "Lmax":
-            return lambda ends: max([end - by for end, by in zip(ends, due)])
+            return lambda ends: total([end - by for end, by in zip(ends, due)])
         if kind == "sumwC":
-            return lambda ends: sum([many * end for many, end in zip(weight, ends)])
+            return lambda ends: total([many * end for many, end in zip(weight, ends)])
         if kind[-1] == "T":
-            return lambda ends: sum([many * (end - by) for many, end, by in zip(weight, ends, due) if end > by])
-        return lambda ends: self.total(self.costs(jobs, ends))
+            return lambda ends: total([many * (end - by) for many, end, by in zip(weight, ends, due) if end > by])
+        return lambda ends: total(self.costs(jobs, ends))
 
     def total(self, costs: Sequence[int]) -> int:
         """The cost of a schedule whose jobs cost so much."""

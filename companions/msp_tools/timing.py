@@ -180,7 +180,8 @@ class Shop:
         if not self.delays:
             return max(free, min(map(now.__getitem__, those)))
         # (times by their place, which is faster than by their name)
-        return min([(free if free > now[job] else now[job]) + step[2] for job, step in those.items()])
+        ends = [(free if free > now[job] else now[job]) + step[2] for job, step in those.items()]
+        return min(ends)
 
     def open_ones(self) -> List[Tuple[int, Step, int]]:
         """The operations among which is chosen, with when they begin: those that begin first, or with delays before the first end on its machine."""
@@ -218,8 +219,8 @@ def dispatched(problem: Problem, choice: Choice, delays: bool) -> list[Placed]:
     """The schedule of a shop in which a choice decides what goes next: of what could begin first, or with delays by `active`."""
     shop, found = Shop(problem, delays), []
     for _ in range(problem.operations()):
-        those = shop.open_ones()
-        _, job, step, start = min([(choice(*it), *it) for it in those]) if len(those) > 1 else ((), *those[0])
+        those = [(choice(*it), *it) for it in shop.open_ones()]
+        _, job, step, start = min(those)
         found.append(shop.place(job, step, start))
     return found
 
