@@ -7,14 +7,15 @@ from __future__ import annotations
 
 from bisect import bisect_right, insort
 from fractions import Fraction
+from operator import attrgetter
 from typing import Dict, Iterator, List, NamedTuple, Sequence, Tuple
 
 from .classes import ClassName
-from .factors import MOMENTS
 from .loosenings import Loosening, alone, changed, earliest, kept, least_time, no_release
 from .texts import Instance, Job
 
 Span = Tuple[int, int]  # (two moments)
+MOMENTS = 60  # (release dates, and due dates)
 BEST = 6  # (windows that are looked at alone, of each kind)
 
 
@@ -33,11 +34,22 @@ def inside(given: Instance, span: Span) -> List[Job]:
     return [it for it in given.jobs if span[0] <= it.release_date and it.due_date <= span[1] and in_time(it, given)]
 
 
+def room(given: Instance, those: Sequence[Job], span: Span) -> int:
+    """How much work the jobs of a window can have if all are in time. On one machine without cuts one of them begins first, and another ends last."""
+    if given.kind.kind != "1" or "pmtn" in given.kind.items or len(those) < 2:
+        return given.machines * (span[1] - span[0])
+    first, last = min(those, key=attrgetter("release_date")), max(those, key=attrgetter("due_date"))
+    if first is not last:
+        return last.due_date - first.release_date
+    others = [it for it in those if it is not first]
+    return max(max(it.due_date for it in others) - first.release_date, last.due_date - min(it.release_date for it in others))
+
+
 def least_late(given: Instance, span: Span) -> int:
     """The least weight of the jobs of a window, where they have more work than time; else 0."""
     those = inside(given, span)
     work = sum(least_time(it, given) for it in those)
-    return min(it.factor for it in those) if work > given.machines * (span[1] - span[0]) else 0
+    return min(it.factor for it in those) if those and work > room(given, those, span) else 0
 
 
 def windows(spans: Sequence[Span]) -> Loosening:
@@ -85,20 +97,19 @@ def full(given: Instance) -> Iterator[Window]:
     for first in spread(sorted({it.release_date for it in jobs})):
         coming = [it for it in jobs if it.release_date >= first][::-1]
         there: List[Tuple[float, int, int]] = []
-        work = 0
+        those: List[Job] = []
         for last in ends:
             while coming and coming[-1].due_date <= last:
-                job = coming.pop()
-                time = least_time(job, given)
-                insort(there, (job.factor / max(time, 1), time, job.factor))
-                work += time
-            more = work - given.machines * (last - first)
+                those.append(coming.pop())
+                time = least_time(those[-1], given)
+                insort(there, (those[-1].factor / max(time, 1), time, those[-1].factor))
+            more = sum(it[1] for it in there) - room(given, those, (first, last))
             if there and more > 0:
                 yield Window((first, last), lightest(there, more), min(it[2] for it in there))
 
 
 def apart(those: Sequence[Window], span: Span) -> List[Span]:
-    """Windows that overlap neither each other nor one of them, with the greatest sum of least weights."""
+    """Windows that overlap neither each other nor one that is given, with the greatest sum of least weights."""
     best: List[Tuple[int, List[Span]]] = [(0, [])]
     moments = [0]
     for it in sorted(those, key=lambda it: (it.span[1], it.span)):
@@ -111,9 +122,13 @@ def apart(those: Sequence[Window], span: Span) -> List[Span]:
 
 
 def windows_for(given: Instance) -> List[List[Span]]:
-    """Some windows with much more work than time, as they are and up to the last due date, each with others apart from it."""
+    """Some windows with much more work than time, as they are and up to the last due date, each with others apart from it; and where one has room,
+    that of a job apart from all others."""
     those = sorted(full(given), key=lambda it: (-it.weight, it.span))
     end = max(it.due_date for it in given.jobs)
     begins: Dict[int, Span] = {it.span[0]: (it.span[0], end) for it in those}
     firsts = dict.fromkeys([*(it.span for it in those[:BEST]), *list(begins.values())[:BEST]])
-    return [[it, *apart(those, it)] for it in firsts]
+    every = apart(those, (0, 0))
+    alone_there = [(it.release_date, it.due_date) for it in given.jobs if in_time(it, given)]
+    free = [it for it in alone_there if all(it[1] <= begin or it[0] >= last for begin, last in every)]
+    return [[it, *apart(those, it)] for it in firsts] + [[it, *every] for it in free[:1] if every]

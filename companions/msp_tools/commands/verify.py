@@ -112,24 +112,24 @@ class Given(Instance):
 
     def criteria(self, which: str) -> Dict[str, Form]:
         """Other criteria, and some of the jobs."""
-        old, least, late = self.kind.criterion, min(it.factor for it in self.jobs), self.kind.criterion[-1] == "T"
-        curved, whole = self.each(lambda it: {"curve": self.curve(it)}), "pmtn" not in self.kind.items and self.kind.kind != "Q"
+        old, kind, least, late = self.kind.criterion, self.kind.kind, min(it.factor for it in self.jobs), self.kind.criterion[-1] == "T"
+        curved, whole = self.each(lambda it: {"curve": self.curve(it)}), "pmtn" not in self.kind.items and kind != "Q"
         *factors, scale = [int(it) for it in which.replace("/", ",").split(",")] if late and "/" in which else [-1, 1]
         fits = len(factors) == len(self.jobs) and all(0 <= factor <= scale * it.factor for factor, it in zip(factors, self.jobs))
-        due = sum(factor * (it.due or 0) for factor, it in zip(factors, self.jobs))
         spans = [[int(it) for it in one.split("-")] for one in which.split(",") if "-" in one] or [[0, 0]]
         those = [[it for it in self.jobs if x <= it.release_date <= (it.due or 0) - self.length(it) <= y - self.length(it)] for x, y in spans]
         ids = [it.name for it in sum(those, [])]
         more = sum(cost_at(self, it, it.release_date + self.length(it)) for it in self.jobs if it.name not in ids)
-        more += sum(min(it.factor for it in one) for one, (x, y) in zip(those[1:], spans[1:]) if sum(map(self.length, one)) > self.machines * (y - x))
+        more += sum(min(it.factor for it in one) for one, (x, y) in zip(those[1:], spans[1:]) if sum(map(self.length, one)) > (max(
+            (b.due_date - a.release_date for a in one for b in one if a is not b), default=y) if kind == "1" and whole else self.machines * (y - x)))
         return {
-            "windows": (old[-1] == "U" and "r" in self.kind.items and not self.kind.precedence and self.kind.kind != "Q" and len({*ids}) == len(ids),
+            "windows": (old[-1] == "U" and "r" in self.kind.items and not self.kind.precedence and kind != "Q" and len({*ids}) == len(ids),
                         lambda: self.kept([replace(it, due=it.due_date - spans[0][0]) for it in those[0]]).to(["r"]), lambda cost: cost + more),
             "from": ("r" in self.kind.items and "max" in old, lambda: self.kept([it for it in self.jobs if it.release_date >= int(which)]), same),
             "no-due": (old == "Lmax", lambda: self.to(criterion="Cmax"), lambda cost: cost - max(it.due_date for it in self.jobs)),
             "least-weight": ("w" in old, lambda: self.to(criterion=old.replace("w", "")), lambda cost: cost * least),
             "lateness": (late and fits, lambda: self.kept([replace(it, weight=factor) for factor, it in zip(factors, self.jobs) if factor]).to(
-                criterion="sumwC"), lambda cost: max((cost - due) / scale, Fraction(0))),
+                criterion="sumwC"), lambda cost: max((cost - sum(x * (y.due or 0) for x, y in zip(factors, self.jobs))) / scale, Fraction(0))),
             "late-by-one": (late and whole, lambda: self.to(criterion=old.replace("T", "U")), same),
             "greatest": (late or old[-1] == "U", lambda: curved.to(criterion="fmax" if "w" in old else "Lmax"),
                          lambda cost: Fraction(cost > 0) if old == "sumU" else max(cost, Fraction(0))),

@@ -14,7 +14,7 @@ TEXT
 propose rush.txt --evidence evidence | sed '/^schedule/,$d'
 cat evidence/bounds.txt evidence/bound-1-step-1.txt
 verify evidence
-for windows in 10-16,0-16 10-16,0-8 11-16,0-6; do
+for windows in 10-16,0-16 10-16,0-5 11-16,0-6; do
     rm -rf other && cp -r evidence other && sed -i "s/10-16,0-6/$windows/" other/bounds.txt
     verify other; echo "status $?"
 done
