@@ -8,6 +8,7 @@ docs/bounds.md has the steps with their proofs.
 """
 from __future__ import annotations
 
+import functools
 import itertools
 from dataclasses import dataclass, field, replace
 from fractions import Fraction
@@ -17,11 +18,12 @@ from .classes import ClassName
 from .faults import Fault
 from .factors import factors_for, moments_for, shares_for
 from .loosenings import (STEPS, Loosening, alone, beyond, fast, is_whole, lateness, least_time, lone, machine, released_from,
-                         times_by_machine, with_item)
+                         times_by_machine, with_item, without)
 from .numbers import fraction
 from .program import Program, need_program
-from .schedules import read_schedule
+from .schedules import stated_cost
 from .texts import Instance
+from .windows import in_windows, windows, windows_for
 
 Tell = Callable[[str], None]
 
@@ -86,6 +88,13 @@ class Finder:
     def __init__(self, given: Instance, solved: Callable[[ClassName], bool], tell: Tell) -> None:
         self.given, self.solved, self.tell = given, solved, tell
         self.taken = True  # (whether the solver took the last instance of the chain that was found last)
+        self.texts: Dict[int, Tuple[Instance, str]] = {}
+
+    def text(self, given: Instance) -> str:
+        """The text of an instance, which several chains may have."""
+        if id(given) not in self.texts:
+            self.texts[id(given)] = given, given.text()
+        return self.texts[id(given)][1]
 
     def further(self, chain: Chain, *steps: Loosening) -> Chain | None:
         """The chain with steps more, or None where one cannot be made. That numbers leave the limits of texts is told."""
@@ -118,11 +127,8 @@ class Finder:
     def left_out(self, chain: Chain) -> Iterator[Chain]:
         """The chains to classes with a solver that leave out least; more where the instance is beyond a limit of that solver."""
         found: list[tuple[int, ...]] = []
-        several = LEFT_OUT if chain.last.kind.general else LEFT_OUT_OF_EQUAL
-        for places in sorted(itertools.product(*(range(len(it)) for it in several)), key=lambda it: (sum(it), it)):
-            names = " ".join(them[at] for them, at in zip(several, places))
-            kind = class_behind(chain.last.kind, names)
-            if kind and not any(looser(places, it, kind) for it in found) and self.solved(kind):
+        for places, names, kind in classes_behind(chain.last.kind):
+            if not any(looser(places, it, kind) for it in found) and self.solved(kind):
                 further = self.by_names(chain, names)
                 if further:
                     self.taken = True
@@ -158,6 +164,14 @@ class Finder:
                 if found:
                     yield found
 
+    def by_windows(self, chain: Chain) -> Iterator[Chain]:
+        """The chains to the jobs of windows of time, where the given instance counts late jobs."""
+        if self.given.kind.criterion[-1] == "U" and in_windows(chain.last.kind):
+            for spans in windows_for(chain.last):
+                found = self.further(chain, windows(spans))
+                if found:
+                    yield from self.left_out(found)
+
     def with_dates(self, chain: Chain) -> Chain:
         """The chain with release dates raised and due dates lowered along the arcs, as far as that can be."""
         for name in ("heads", "tails"):
@@ -187,8 +201,10 @@ class Finder:
                 for three in [two, dated] if dated.steps != two.steps else [two]:
                     yield from self.left_out(three)
                 yield from self.later_jobs(dated)
+                yield from self.by_windows(dated)
                 for three in self.in_shop(dated):
                     yield from self.left_out(three)
+                    yield from self.by_windows(three)
 
 
 def class_behind(kind: ClassName, names: str) -> ClassName | None:
@@ -199,6 +215,16 @@ def class_behind(kind: ClassName, names: str) -> ClassName | None:
     return found
 
 
+@functools.lru_cache(maxsize=None)
+def classes_behind(kind: ClassName) -> Sequence[Tuple[Tuple[int, ...], str, ClassName]]:
+    """What can be left out of a class, least first: its places, the names of the steps, and the class behind them."""
+    several = LEFT_OUT if kind.general else LEFT_OUT_OF_EQUAL
+    ways = sorted(itertools.product(*(range(len(it)) for it in several)), key=lambda it: (sum(it), it))
+    named = [(places, " ".join(them[at] for them, at in zip(several, places))) for places in ways]
+    behind = [(places, names, class_behind(kind, names)) for places, names in named]
+    return [(places, names, it) for places, names, it in behind if it]
+
+
 def looser(places: Sequence[int], others: Sequence[int], kind: ClassName) -> bool:
     """Whether what is left out at places is looser than at others. (One fast machine says more of sums of ends without release dates.)"""
     if kind.criterion in ("sumC", "sumwC") and places[-1] == others[-1] == len(LEFT_OUT[-1]) - 1:
@@ -207,6 +233,15 @@ def looser(places: Sequence[int], others: Sequence[int], kind: ClassName) -> boo
 
 
 # What the program says
+
+NARROWER = {"Lmax": "Cmax", "fmax": "Cmax", "sumwC": "sumC", "sumwU": "sumU", "sumwT": "sumT"}
+
+
+def narrowest(kind: ClassName) -> ClassName:
+    """The class of unit times, without weights and due dates of the greatest cost: rows lead from it to the given one, so it has a solver where that
+    one has."""
+    return replace(with_item(without(kind, "p=p"), "p=1"), criterion=NARROWER.get(kind.criterion, kind.criterion))
+
 
 class Asked:
     """The program, with what it said kept."""
@@ -219,7 +254,9 @@ class Asked:
     def solved(self, kind: ClassName) -> bool:
         """Whether a class has a solver."""
         if kind not in self.classes:
-            self.classes[kind] = self.program.call(["trial", str(kind), "1", "1"]).status == 0
+            narrower = narrowest(kind)
+            possible = narrower == kind or Asked.solved(self, narrower)
+            self.classes[kind] = possible and self.program.call(["trial", str(kind), "1", "1"]).status == 0
         return self.classes[kind]
 
     def report(self, text: str) -> str | None:
@@ -239,14 +276,14 @@ def by_steps(asked: Asked, given: Instance, tell: Tell) -> Iterator[Bound]:
     beyond_it = asked.solved(given.kind) and asked.report(given.text()) is None
     finder = Finder(given, lambda kind: asked.solved(kind) and not (beyond_it and kind == given.kind), tell)
     for chain in finder.all():
-        report = asked.report(chain.last.text())
+        report = asked.report(finder.text(chain.last))
         finder.taken = report is not None
         if report is not None:
-            cost = read_schedule(report).cost
-            if chain.steps and is_whole(given.kind) and chain.value(cost).denominator > 1:
-                chain = Chain((STEPS["whole"], *chain.steps), (given, *chain.instances))
-            steps = [Step(step.name, step.words, it.text()) for step, it in zip(chain.steps, chain.instances[1:])]
-            yield Bound(chain.value(cost), tuple(steps), str(chain.last.kind), "argued" if steps else "proved", report)
+            value, whole = chain.value(stated_cost(report)), STEPS["whole"]
+            if chain.steps and is_whole(given.kind) and value.denominator > 1:
+                chain, value = Chain((whole, *chain.steps), (given, *chain.instances)), whole.value(value, given)
+            steps = [Step(step.name, step.words, finder.text(it)) for step, it in zip(chain.steps, chain.instances[1:])]
+            yield Bound(value, tuple(steps), str(chain.last.kind), "argued" if steps else "proved", report)
 
 
 def certified(given: Instance) -> Iterator[Instance]:

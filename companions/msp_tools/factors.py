@@ -7,6 +7,7 @@ from __future__ import annotations
 import heapq
 from dataclasses import dataclass
 from fractions import Fraction
+from operator import mul, truediv
 
 from .limits import GREATEST
 from .loosenings import gains, shares_of, work_of
@@ -42,20 +43,19 @@ def shares_for(given: Instance) -> tuple[int, ...]:
 
 @dataclass
 class Model:
-    """The jobs on one fast machine, in small parts of time: the time of each there, how much later it ends than it is done there, when the
-    first can begin, and the due dates."""
+    """The jobs on one fast machine, in small parts of time: the time of each there, when the first can begin, and by when each is done there
+    that is not late."""
     times: list[int]
-    gains: list[int]
     first: int
-    due: list[int]
+    dues: list[int]
 
     def lateness(self, factors: list[int]) -> list[int]:
         """How late the jobs are that are done by factor and time."""
-        order = sorted(range(len(factors)), key=lambda at: (-(factors[at] / self.times[at]), at))
+        rates = list(map(truediv, factors, self.times))
         found, now = [0] * len(factors), self.first
-        for at in order:
+        for at in sorted(range(len(factors)), key=rates.__getitem__, reverse=True):
             now += self.times[at]
-            found[at] = now + self.gains[at] - self.due[at]
+            found[at] = now - self.dues[at]
         return found
 
 
@@ -65,23 +65,24 @@ def model_of(given: Instance) -> Model:
     parts = 2 * sum(shares) * max(given.speeds, default=1)
     times = [work_of(it, given, shares) * parts // sum(shares) for it in given.jobs]
     more = [int(it * parts) for it in gains(given, shares)] if given.kind.kind in "PQR" else [0] * len(given.jobs)
-    return Model(times, more, min(it.release_date for it in given.jobs) * parts, [it.due_date * parts for it in given.jobs])
+    return Model(times, min(it.release_date for it in given.jobs) * parts, [it.due_date * parts - gain for it, gain in zip(given.jobs, more)])
 
 
 def by_search(given: Instance) -> tuple[tuple[int, ...], int]:
     """Factors for which the least weighted lateness is great, with their scale: those of jobs that are late in the best order are raised."""
     model, weights = model_of(given), [it.factor for it in given.jobs]
     scale = max(1, min(SCALE, GREATEST // max(weights)))
-    factors = [scale * it for it in weights]
-    best, found = -1, tuple(factors)
+    most = [scale * it for it in weights]
+    best, factors, found = -1, most, tuple(most)
     for turn in range(ROUNDS):
         late = model.lateness(factors)
-        value = sum(factor * it for factor, it in zip(factors, late))
+        value = sum(map(mul, factors, late))
         if value > best:
             best, found = value, tuple(factors)
-        mean = sum(abs(it) for it in late) / len(late) or 1.0
-        factors = [min(scale * weight, max(0, round(factor + scale * weight * (it / mean) / (turn + 2))))
-                   for factor, weight, it in zip(factors, weights, late)]
+        sizes = [abs(it) for it in late]
+        mean = sum(sizes) / len(late) or 1.0
+        raised = [factor + top * (it / mean) / (turn + 2) for factor, top, it in zip(factors, most, late)]
+        factors = [0 if it <= 0 else top if it >= top else round(it) for it, top in zip(raised, most)]
     return found, scale
 
 

@@ -52,18 +52,18 @@ class Loosening:
 
 def tidy(given: Instance) -> Instance:
     """The instance without what its class has no place for."""
-    gone: dict[str, Any] = {name: None for key, name in KEYS.items() if key not in given.kind.keys}
+    keys = given.kind.keys
+    gone: dict[str, Any] = {name: None for key, name in KEYS.items() if key not in keys}
     if given.kind.criterion != "fmax":
         gone["curve"] = []
-    return each(given, lambda job: gone)
+    return each(given, lambda job: {name: none for name, none in gone.items() if getattr(job, name) != none})
 
 
 def beyond(given: Instance) -> str | None:
     """What leaves the limits of texts, in words, or None."""
     for job in given.jobs:
-        dates = [job.due or 0, *job.curve[1:2]]
-        others = [job.time or 0, job.release or 0, job.weight or 0, *job.times, *(it or 0 for _, it in job.route), *job.curve[:1], *job.curve[2:]]
-        greatest = max(abs(it) for it in dates + others)
+        numbers = [job.due or 0, job.time or 0, job.release or 0, job.weight or 0, *job.times, *[it or 0 for _, it in job.route], *job.curve]
+        greatest = max(numbers + [-min(numbers)])
         if greatest > GREATEST:
             return f"{greatest} of {job.name} is above {said(GREATEST)}"
     return None
@@ -82,8 +82,14 @@ def with_item(kind: ClassName, item: str) -> ClassName:
 
 
 def each(given: Instance, change: Callable[[Job], Dict[str, Any]]) -> Instance:
-    """The instance with fields of its jobs changed."""
-    return replace(given, jobs=[replace(job, **change(job)) for job in given.jobs])
+    """The instance with fields of its jobs changed; a job of which none changes stays."""
+    changes = [(job, change(job)) for job in given.jobs]
+    return replace(given, jobs=[changed(job, fields) if fields else job for job, fields in changes])
+
+
+def changed(job: Job, fields: Dict[str, Any]) -> Job:
+    """The job with other values of some fields."""
+    return Job(**{**vars(job), **fields})
 
 
 def kept(given: Instance, jobs: list[Job]) -> Instance:
@@ -396,16 +402,17 @@ def machine(number: int) -> Loosening:
             stay = stay_of(job, given, number)
             if stay:
                 fields = {**later(job, stay.tail), "time": stay.time, "release": stay.head, "times": [], "route": []}
-                jobs.append(replace(job, **fields))
+                jobs.append(changed(job, fields))
         return replace(kept(given, jobs), machines=1, time=None)
 
     def value(cost: Fraction, given: Instance) -> Fraction:
-        stays = [(job, stay_of(job, given, number)) for job in given.jobs]
-        rest = alone(given, [job for job, stay in stays if stay is None])
+        rest = alone(given, [job for job in given.jobs if not any(at == number and time for at, time in given.operations(job))])
         if given.kind.criterion in GREATEST_OF_ALL:
             return max([cost, *rest])
-        ends = given.kind.criterion in ("sumC", "sumwC")
-        return cost + sum(rest) + sum(job.factor * stay.tail for job, stay in stays if ends and stay)
+        if given.kind.criterion in ("sumC", "sumwC"):
+            stays = [(job, stay_of(job, given, number)) for job in given.jobs]
+            cost += sum(job.factor * stay.tail for job, stay in stays if stay)
+        return cost + sum(rest)
     return Loosening(f"machine:{number}", f"machine {number} alone, each job with the least time in front of it and behind it", of_one, edit, value)
 
 
@@ -454,7 +461,7 @@ def is_whole(kind: ClassName) -> bool:
 def lateness(factors: Sequence[int], scale: int) -> Loosening:
     """The step from tardiness to lateness, of each job with a factor over a scale, at most its weight; jobs of factor 0 are left out."""
     def edit(given: Instance) -> Instance:
-        return kept(given, [replace(job, weight=factor) for job, factor in zip(given.jobs, factors) if factor])
+        return kept(given, [changed(job, {"weight": factor}) for job, factor in zip(given.jobs, factors) if factor])
 
     def value(cost: Fraction, given: Instance) -> Fraction:
         due = sum(factor * job.due_date for job, factor in zip(given.jobs, factors))

@@ -224,7 +224,7 @@ def tried(problem: Problem) -> Iterator[Tried]:
         return
     if problem.instance.kind.kind == "F" and problem.machines > 1:
         those += flows(problem)
-    if problem.machines == 1 and not problem.shop and not problem.bound and problem.criterion == "Lmax":
+    if problem.machines == 1 and not problem.shop and not problem.bound and problem.criterion in ("Lmax", "sumU", "sumwU"):
         those.append(("Potts", potts(problem)))
     for name, order in those:
         yield valued(problem, name, "list", listed(problem, order), order)

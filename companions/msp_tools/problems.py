@@ -8,7 +8,7 @@ import math
 from dataclasses import dataclass, field
 from fractions import Fraction
 from operator import mul
-from typing import List, Mapping, NamedTuple, Sequence
+from typing import Callable, List, Mapping, NamedTuple, Sequence
 
 from .numbers import Number
 from .schedules import Piece
@@ -136,16 +136,18 @@ class Problem:
 
     def cost(self, ends: Sequence[int]) -> int:
         """The cost in parts (of counted jobs: as it is) of a schedule in which the jobs end so."""
-        kind = self.criterion
+        return self.costing()(ends)
+
+    def costing(self) -> Callable[[Sequence[int]], int]:
+        """The same as a function of the ends, for those who ask often."""
+        kind, weight, due, jobs, total = self.criterion, self.weight, self.due, range(self.count), self.total
         if kind == "Lmax":
-            those = [end - due for end, due in zip(ends, self.due)]
-        elif kind == "sumwC":
-            those = [weight * end for weight, end in zip(self.weight, ends)]
-        elif kind[-1] == "T":
-            those = [weight * (end - due) for weight, end, due in zip(self.weight, ends, self.due) if end > due]
-        else:
-            those = self.costs(range(self.count), ends)
-        return self.total(those)
+            return lambda ends: total([end - by for end, by in zip(ends, due)])
+        if kind == "sumwC":
+            return lambda ends: total([many * end for many, end in zip(weight, ends)])
+        if kind[-1] == "T":
+            return lambda ends: total([many * (end - by) for many, end, by in zip(weight, ends, due) if end > by])
+        return lambda ends: total(self.costs(jobs, ends))
 
     def total(self, costs: Sequence[int]) -> int:
         """The cost of a schedule whose jobs cost so much."""

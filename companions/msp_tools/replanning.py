@@ -39,6 +39,7 @@ class Replanned:
     proposal: Proposal
     begins: List[Begin]
     told: List[str]
+    machines: Dict[int, int] = field(default_factory=dict, repr=False)  # (from old numbers to those of the instance)
 
 
 class Rest:
@@ -144,7 +145,7 @@ def replanned(program: Program, given: Instance, old: Schedule, happened: Happen
     need_feasible(program, given, old.pieces)
     left = left_of(given, old.pieces, happened)
     proposal = Replanner(program, left, wanted, old.pieces).proposal()
-    return Replanned(left.instance, left.origin, proposal, begins_of(given, old.pieces, left, proposal), left.told)
+    return Replanned(left.instance, left.origin, proposal, begins_of(given, old.pieces, left, proposal), left.told, left.machines)
 
 
 def need_feasible(program: Program, given: Instance, pieces: List[Piece]) -> None:

@@ -47,6 +47,7 @@ class Routes:
         size = self.ground + 1
         self.times = [it.time for it in self.steps] + [0] * (size - self.count)
         self.heads_move = problem.bound
+        self.cost = problem.costing()
         self.held = State([], [self.ground] * size, [self.ground] * size, [self.ground] * size, [self.ground] * size)
         self.ends = [0] * size
         self.last = [0] * problem.count
@@ -66,7 +67,7 @@ class Routes:
         self.ends = [0] * (self.ground + 1)
         self.ends[self.count: self.ground] = [*self.problem.release, *self.problem.begins]
         self.run(self.held.topo, self.ends)
-        self.value = self.problem.cost([self.ends[it] for it in self.last])
+        self.value = self.cost([self.ends[it] for it in self.last])
         self.arcs = None
 
     def state(self) -> State:
@@ -99,7 +100,8 @@ class Routes:
 
     def critical(self) -> List[Arc]:
         """The arcs without a pause on which the end of a job hangs that costs something."""
-        ends, times, state, count = self.ends, self.times, self.held, self.count
+        ends, times, count, moving, turned = self.ends, self.times, self.count, self.heads_move, self.problem.open
+        machine_before, job_before = self.held.machine_before, self.held.job_before
         seen, found = [False] * (self.ground + 1), []
         stack = [self.last[job] for job in self.costly()]
         while stack:
@@ -108,21 +110,27 @@ class Routes:
                 continue
             seen[node] = True
             if node >= count:
-                if node < self.grounds:
-                    stack += [self.last[it] for it in self.problem.before[node - count] if ends[self.last[it]] == ends[node]]
+                stack += self.before_head(node)
                 continue
             start = ends[node] - times[node]
-            before = state.machine_before[node]
+            before = machine_before[node]
             if before < count and ends[before] == start:
-                if self.jobs[before] not in self.problem.before[self.jobs[node]]:
+                if not moving or self.jobs[before] not in self.problem.before[self.jobs[node]]:
                     found.append((before, node, True))
                 stack.append(before)
-            before = state.job_before[node]
-            if ends[before] == start:
-                if self.problem.open and before < count:
+            before = job_before[node]
+            if (before < count or moving) and ends[before] == start:
+                if turned and before < count:
                     found.append((before, node, False))
                 stack.append(before)
         return found
+
+    def before_head(self, head: int) -> List[int]:
+        """The last operations of the jobs on which a head hangs."""
+        if head >= self.grounds:
+            return []
+        those = [self.last[it] for it in self.problem.before[head - self.count]]
+        return [it for it in those if self.ends[it] == self.ends[head]]
 
     def costly(self) -> List[int]:
         """The jobs whose ends make the cost."""
@@ -171,9 +179,8 @@ class Routes:
         stretch = self.stretch(arc, self.held.topo[low + 1: high])
         self.turn(arc)
         found = self.ends[:]
-        self.run(stretch, found)
-        self.run(self.held.topo[high + 1:], found)
-        value = self.problem.cost([found[it] for it in self.last])
+        self.run([*stretch, *self.held.topo[high + 1:]], found)
+        value = self.cost([found[it] for it in self.last])
         self.turn_back(arc)
         return Trial(arc, low, high, stretch, found, value)
 

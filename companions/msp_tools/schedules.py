@@ -2,6 +2,7 @@
 from __future__ import annotations
 
 import math
+import re
 from dataclasses import dataclass, field
 from fractions import Fraction
 from typing import Iterable, Mapping
@@ -121,6 +122,14 @@ def read_schedule(text: str) -> Schedule:
             word, *rest = line.split(" ")
             reader.front(f"line {number}", word, rest)
     raise Fault("the line end of the schedule is missing" if begun else "there is no line schedule")
+
+
+def stated_cost(text: str) -> Fraction:
+    """The cost that a schedule text or a report of `solve` states, where nothing else of it is wanted."""
+    stated = re.search(r"(?m)^cost (\S+)$", text)
+    if stated is None:
+        raise Fault("there is no line cost")
+    return fraction(stated[1], "cost")
 
 
 def need_jobs(pieces: Iterable[Piece], instance: Instance) -> None:

@@ -1,7 +1,7 @@
 """Tabu search over the graphs of a shop: always to the best of some neighbours, and not back for a while."""
 from __future__ import annotations
 
-from typing import Dict
+from typing import Callable, Dict
 
 from .routes import Arc, Routes, State, Trial
 from .search import Best, Effort
@@ -17,16 +17,20 @@ def ends_of_blocks(arcs: list[Arc]) -> list[Arc]:
     return [it for it in arcs if it[0] not in before or it[1] not in after or not it[2]]
 
 
+def thin(arcs: list[Arc], one: Callable[[], float]) -> None:
+    """Leaves out arcs as they are drawn, until few enough are left."""
+    for count in range(len(arcs), MOST_LOOKED_AT, -1):
+        arcs[int(one() * count)] = arcs[-1]
+        arcs.pop()
+
+
 def best_of(routes: Routes, forbidden: Dict[Arc, int], step: int, best: int, effort: Effort) -> Trial | None:
     """The best neighbour that may be taken: not forbidden, or better than all before; where all are forbidden, one of them."""
     arcs = routes.critical()
     if routes.problem.greatest:
         arcs = ends_of_blocks(arcs)
     draw, found, otherwise = routes.draw, None, None
-    while len(arcs) > MOST_LOOKED_AT:
-        at = draw.below(len(arcs))
-        arcs[at] = arcs[-1]
-        arcs.pop()
+    thin(arcs, draw.one)
     for arc in arcs:
         trial = routes.look(arc)
         effort.tries -= 1

@@ -193,9 +193,10 @@ def text_of(instance: Instance) -> str:
     lines += [] if kind.machines else [f"machines {instance.machines}"]
     lines += ["speeds " + " ".join(map(str, instance.speeds))] if instance.speeds else []
     lines += [f"time {instance.time}"] if "p=p" in kind.items else []
+    keys = [(key, KEYS[key]) for key in kind.keys]
     for job in instance.jobs:
-        lines.append(f"job {job.name}" + "".join(f" {key}={getattr(job, KEYS[key])}" for key in kind.keys))
-        numbers = {"times": job.times, "route": [it for step in job.route for it in step if it is not None], "curve": job.curve}
-        lines += [f"{word} " + " ".join(map(str, those)) for word, those in numbers.items() if those]
+        lines.append(f"job {job.name}" + "".join([f" {key}={getattr(job, name)}" for key, name in keys]))
+        route = [it for step in job.route for it in step if it is not None]
+        lines += [f"{word} " + " ".join(map(str, those)) for word, those in (("times", job.times), ("route", route), ("curve", job.curve)) if those]
     lines += [f"arc {before} {after}" for before, after in instance.arcs]
     return "\n".join([*lines, "end", ""])

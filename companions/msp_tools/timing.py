@@ -12,6 +12,7 @@ release date on.
 """
 from __future__ import annotations
 
+import math
 from bisect import bisect_right, insort
 from fractions import Fraction
 from heapq import heapify, heappop, heappush
@@ -21,6 +22,7 @@ from .problems import Order, Placed, Problem, Step
 from .schedules import Piece
 from .texts import Instance
 
+NEVER = math.inf
 Choice = Callable[[int, Step, int], Tuple[float, ...]]  # (of a job, its operation and a moment: the least goes first)
 
 
@@ -148,16 +150,16 @@ def serial_shop(problem: Problem, order: Order) -> list[Placed]:
 
 
 class Shop:
-    """A shop whose operations are placed one after another: those that may go next by their machines, and what begins (or with delays ends) first on
-    each machine."""
+    """A shop whose operations are placed one after another: those that may go next by their machines, of each job one, and what begins (or with
+    delays ends) first on each machine."""
 
     def __init__(self, problem: Problem, delays: bool) -> None:
-        self.problem, self.delays = problem, delays
+        self.problem, self.delays, self.open = problem, delays, problem.open
         self.free = list(problem.begins)
         self.now = list(problem.release)
         self.rest = [list(it) for it in problem.steps]
         self.waits = [len(it) for it in problem.before]
-        self.there: List[List[Tuple[int, Step]]] = [[] for _ in range(problem.machines)]
+        self.there: List[Dict[int, Step]] = [{} for _ in range(problem.machines)]
         for job in range(problem.count):
             if not self.waits[job]:
                 self.come(job)
@@ -165,42 +167,48 @@ class Shop:
 
     def come(self, job: int) -> List[int]:
         """Lets a job's next operation go, or in an open shop all of them; on which machines."""
-        steps = self.rest[job] if self.problem.open else self.rest[job][:1]
+        steps = self.rest[job] if self.open else self.rest[job][:1]
         for step in steps:
-            self.there[step.machine].append((job, step))
+            self.there[step.machine][job] = step
         return [it.machine for it in steps]
 
-    def first_on(self, machine: int) -> int | None:
-        """When something begins first on a machine, or with delays ends first; None where nothing may go next there."""
+    def first_on(self, machine: int) -> float:
+        """When something begins first on a machine, or with delays ends first; never where nothing may go next there."""
         those, now, free = self.there[machine], self.now, self.free[machine]
         if not those:
-            return None
+            return NEVER
         if not self.delays:
-            return max(free, min(now[job] for job, _ in those))
+            return max(free, min(map(now.__getitem__, those)))
         # (times by their place, which is faster than by their name)
-        return min((free if free > now[job] else now[job]) + step[2] for job, step in those)
+        ends = [(free if free > now[job] else now[job]) + step[2] for job, step in those.items()]
+        return min(ends)
 
     def open_ones(self) -> List[Tuple[int, Step, int]]:
         """The operations among which is chosen, with when they begin: those that begin first, or with delays before the first end on its machine."""
-        first, machine = min((moment, at) for at, moment in enumerate(self.first) if moment is not None)
-        machines = [machine] if self.delays else [at for at, moment in enumerate(self.first) if moment == first]
-        begins = [(job, step, max(self.free[at], self.now[job])) for at in machines for job, step in self.there[at]]
-        return [it for it in begins if it[2] < first or it[2] == first and not self.delays]
+        first, now = min(self.first), self.now
+        if self.delays:
+            machine = self.first.index(first)
+            free = self.free[machine]
+            begins = [(job, step, free if free > now[job] else now[job]) for job, step in self.there[machine].items()]
+            return [it for it in begins if it[2] < first]
+        those = [self.there[at] for at, moment in enumerate(self.first) if moment == first]
+        return [(job, step, int(first)) for them in those for job, step in them.items() if now[job] <= first]
 
     def place(self, job: int, step: Step, start: int) -> Placed:
         """Places an operation."""
         end = start + step.time
         self.free[step.machine] = self.now[job] = end
-        self.rest[job].remove(step)
-        self.there[step.machine].remove((job, step))
-        changed = [step.machine, *(it.machine for it in self.rest[job] if self.problem.open)]
-        if not self.rest[job]:
+        rest = self.rest[job]
+        rest.remove(step)
+        del self.there[step.machine][job]
+        changed = [step.machine, *[it.machine for it in rest if self.open]]
+        if not rest:
             for other in self.problem.after[job]:
                 self.waits[other] -= 1
                 self.now[other] = max(self.now[other], end)
                 if not self.waits[other]:
                     changed += self.come(other)
-        elif not self.problem.open:
+        elif not self.open:
             changed += self.come(job)
         for machine in set(changed):
             self.first[machine] = self.first_on(machine)
@@ -211,7 +219,8 @@ def dispatched(problem: Problem, choice: Choice, delays: bool) -> list[Placed]:
     """The schedule of a shop in which a choice decides what goes next: of what could begin first, or with delays by `active`."""
     shop, found = Shop(problem, delays), []
     for _ in range(problem.operations()):
-        _, job, step, start = min((choice(*it), *it) for it in shop.open_ones())
+        those = [(choice(*it), *it) for it in shop.open_ones()]
+        _, job, step, start = min(those)
         found.append(shop.place(job, step, start))
     return found
 

@@ -67,9 +67,8 @@ class Given(Instance):
 
     def curve(self, job: Job) -> List[int]:
         """A curve that is at most the cost of a job."""
-        if self.kind.criterion[-1] == "U":
-            return [0, 0, job.due_date, job.factor] if job.due_date >= 0 else [0, job.factor]
-        return job.curve or [job.factor, -job.factor * (job.due or 0)]
+        late = [0, 0, job.due or 0, job.factor] if (job.due or 0) >= 0 else [0, job.factor]
+        return late if self.kind.criterion[-1] == "U" else job.curve or [job.factor, -job.factor * (job.due or 0)]
 
     def late(self) -> Given:
         """An instance of Cmax as one of Lmax, with due dates 0."""
@@ -82,13 +81,12 @@ class Given(Instance):
 
     def simple(self, _: str) -> Dict[str, Form]:
         """What is left out, and times."""
-        items, criterion, time, order = self.kind.items, self.kind.criterion, self.shared, self.kind.precedence
-        first, widths = min(it.release_date for it in self.jobs), self.kind.kind == "R" and self.kind.general
-        least = min(it for job in self.jobs for it in (job.times if widths else [time for _, time in self.operations(job)]))
+        items, criterion, time, first = self.kind.items, self.kind.criterion, self.shared, min(it.release_date for it in self.jobs)
+        least = min(it for job in self.jobs for it in job.times or [time for _, time in self.operations(job)])
         count = {"Cmax": 1, "sumC": len(self.jobs), "sumwC": sum(it.factor for it in self.jobs)}.get(criterion, 0)
         return {
             "cut": ("pmtn" not in items, lambda: self.to(more=["pmtn"]), same),
-            "no-precedence": (order, lambda: replace(self.to([order]), arcs=[]), same),
+            "no-precedence": (self.kind.precedence, lambda: replace(self.to([self.kind.precedence]), arcs=[]), same),
             "no-release": ("r" in items, lambda: self.each(lambda it: later(it, first)).to(["r"]), lambda cost: cost + first * count),
             "equal": (self.kind.general and least > 0, lambda: replace(self, time=min(least, 10**6)).each(lambda it: {
                 "time": None, "times": [], "route": [(at, None) for at, _ in it.route]}).to(more=["p=p"]), same),
@@ -114,17 +112,24 @@ class Given(Instance):
 
     def criteria(self, which: str) -> Dict[str, Form]:
         """Other criteria, and some of the jobs."""
-        old, least, late = self.kind.criterion, min(it.factor for it in self.jobs), self.kind.criterion[-1] == "T"
-        curved, whole = self.each(lambda it: {"curve": self.curve(it)}), "pmtn" not in self.kind.items and self.kind.kind != "Q"
+        old, kind, least, late = self.kind.criterion, self.kind.kind, min(it.factor for it in self.jobs), self.kind.criterion[-1] == "T"
+        curved, whole = self.each(lambda it: {"curve": self.curve(it)}), "pmtn" not in self.kind.items and kind != "Q"
         *factors, scale = [int(it) for it in which.replace("/", ",").split(",")] if late and "/" in which else [-1, 1]
         fits = len(factors) == len(self.jobs) and all(0 <= factor <= scale * it.factor for factor, it in zip(factors, self.jobs))
-        due = sum(factor * (it.due or 0) for factor, it in zip(factors, self.jobs))
+        spans = [[int(it) for it in one.split("-")] for one in which.split(",") if "-" in one] or [[0, 0]]
+        those = [[it for it in self.jobs if x <= it.release_date <= (it.due or 0) - self.length(it) <= y - self.length(it)] for x, y in spans]
+        ids = [it.name for it in sum(those, [])]
+        more = sum(cost_at(self, it, it.release_date + self.length(it)) for it in self.jobs if it.name not in ids)
+        more += sum(min(it.factor for it in one) for one, (x, y) in zip(those[1:], spans[1:]) if sum(map(self.length, one)) > (max(
+            (b.due_date - a.release_date for a in one for b in one if a is not b), default=y) if kind == "1" and whole else self.machines * (y - x)))
         return {
+            "windows": (old[-1] == "U" and "r" in self.kind.items and not self.kind.precedence and kind != "Q" and len({*ids}) == len(ids),
+                        lambda: self.kept([replace(it, due=it.due_date - spans[0][0]) for it in those[0]]).to(["r"]), lambda cost: cost + more),
             "from": ("r" in self.kind.items and "max" in old, lambda: self.kept([it for it in self.jobs if it.release_date >= int(which)]), same),
             "no-due": (old == "Lmax", lambda: self.to(criterion="Cmax"), lambda cost: cost - max(it.due_date for it in self.jobs)),
             "least-weight": ("w" in old, lambda: self.to(criterion=old.replace("w", "")), lambda cost: cost * least),
             "lateness": (late and fits, lambda: self.kept([replace(it, weight=factor) for factor, it in zip(factors, self.jobs) if factor]).to(
-                criterion="sumwC"), lambda cost: max((cost - due) / scale, Fraction(0))),
+                criterion="sumwC"), lambda cost: max((cost - sum(x * (y.due or 0) for x, y in zip(factors, self.jobs))) / scale, Fraction(0))),
             "late-by-one": (late and whole, lambda: self.to(criterion=old.replace("T", "U")), same),
             "greatest": (late or old[-1] == "U", lambda: curved.to(criterion="fmax" if "w" in old else "Lmax"),
                          lambda cost: Fraction(cost > 0) if old == "sumU" else max(cost, Fraction(0))),
@@ -135,11 +140,8 @@ class Given(Instance):
         """Release dates raised, and due dates lowered, along the arcs."""
         fits, times = self.kind.precedence and self.arcs and self.kind.kind != "Q", {it.name: self.length(it) for it in self.jobs}
         heads, tails = {it.name: it.release_date for it in self.jobs}, {it.name: it.due or 0 for it in self.late().jobs}
-        before = heads, {**tails, "": 0}
-        while before != (heads, tails):
-            before = dict(heads), dict(tails)
-            for one, two in self.arcs:
-                heads[two], tails[one] = max(heads[two], heads[one] + times[one]), min(tails[one], tails[two] - times[two])
+        for one, two in self.arcs * len(self.jobs):
+            heads[two], tails[one] = max(heads[two], heads[one] + times[one]), min(tails[one], tails[two] - times[two])
         return {"heads": (fits, lambda: self.to(more=["r"]).each(lambda it: {"release": heads[it.name]}), same),
                 "tails": (fits and self.kind.criterion in ("Cmax", "Lmax"), lambda: self.late().each(lambda it: {"due": tails[it.name]}), same)}
 
@@ -155,19 +157,18 @@ class Given(Instance):
                 shifted = replace(job, release=job.release_date + head, **later(job, tail))
                 jobs.append(replace(shifted, time=sum(steps[at][1] for at in there), times=[], route=[]))
                 more += job.factor * tail * (self.kind.criterion[-1] == "C")
-        kind = ClassName("1", ("pmtn", "prec", "r") if self.kind.precedence else ("pmtn", "r"), dated.kind.criterion)
         rest = [early[it.name] for it in self.jobs if it.name not in [job.name for job in jobs]]
-        return {"machine": (self.kind.kind in "OFJ", lambda: replace(dated.kept(jobs), kind=kind, machines=1, time=None),
+        one = [Job(it.name, time=self.length(it), release=it.release_date, curve=self.curve(it)) for it in self.jobs if it.name == which]
+        return {"machine": (self.kind.kind in "OFJ", lambda: replace(dated.kept(jobs), machines=1, time=None, kind=ClassName(
+                    "1", ("pmtn", "prec", "r") if self.kind.precedence else ("pmtn", "r"), dated.kind.criterion)),
                             lambda cost: max([cost, *rest]) if greatest else cost + sum(rest) + more),
-                "job": (self.kind.kind != "Q" and which in early, lambda: replace(
-                    self, kind=ClassName("1", ("pmtn", "r"), "fmax"), machines=1, time=None, arcs=[], jobs=[Job(
-                        it.name, time=self.length(it), release=it.release_date, curve=self.curve(it)) for it in self.jobs if it.name == which]),
+                "job": (self.kind.kind != "Q" and one, lambda: replace(self.kept(one), kind=ClassName("1", ("pmtn", "r"), "fmax"), machines=1),
                         lambda cost: cost if greatest else max(cost, Fraction(0)) + sum(early[it] for it in early if it != which))}
 
     def made(self, step: str) -> Tuple[Given, Back]:
         """The instance behind a step, and the way back."""
         name, _, which = step.partition(":")
-        steps = (self.simple, self.several, self.criteria, self.alone, self.along)
+        steps = (self.simple, self.several, self.alone, self.criteria, self.along)
         condition, instance, back = next((form for some in steps for key, form in some(which).items() if key == name), (False, lambda: self, same))
         need(condition, f"the step {step} cannot be made from {self.kind}")
         return instance(), back
@@ -236,8 +237,7 @@ def answer(wanted: Wanted, _: Tell) -> Answer:
 def show(found: Answer) -> None:
     """Prints what holds, and what does not."""
     print(f"class {found.name}\ncost {found.cost}" if found.name else "nothing holds")
-    print("".join(f"bound {value} {word} by {steps}\n" for value, word, steps in found.bounds), end="")
-    print(f"verified {'no: ' + found.fault if found.fault else 'yes'}")
+    print(*[f"bound {x[0]} {x[1]} by {x[2]}" for x in found.bounds], "verified " + (f"no: {found.fault}" if found.fault else "yes"), sep="\n")
 
 
 def words(parser: Parser) -> None:
