@@ -103,10 +103,9 @@ async function beyond(text) {
 }
 
 test('beyond a limit of a solver bounds are those of looser classes, and none is above that of the companions', { skip: missing }, async () => {
-  for (const [text, refuses] of /** @type {[string, boolean][]} */ ([[`msp 1\nclass 1|prec|sumwU\n${GREAT}arc a b\nend\n`, true],
-    [`msp 1\nclass 1||sumwU\n${GREAT}end\n`, false]])) {
+  for (const text of [`msp 1\nclass 1|prec|sumwU\n${GREAT}arc a b\nend\n`, `msp 1\nclass 1||sumwU\n${GREAT}end\n`]) {
     const { greatest, refused } = await beyond(text);
-    assert.ok(greatest && greatest.n > 0n && refused > 0 === refuses, `${refused} refused`);
+    assert.ok(greatest && greatest.n > 0n && refused > 0, `${refused} refused`);
     const told = spawnSync('python3', [fileURLToPath(new URL('bounds.py', import.meta.url)), '1'],
       { input: JSON.stringify([{ text, chains: [], greatest: print(greatest) }]), maxBuffer: 1 << 28, env: { ...env, MSP: fileURLToPath(program) } });
     assert.equal(told.status, 0, String(told.stderr));
