@@ -20,10 +20,12 @@ def try_limit(page: Page) -> None:
     page.open()
     page.take(text_of("1||sumwU", *jobs))
     page.do("document.getElementById('best').click()")
-    page.until("document.getElementById('told') && document.getElementById('best').textContent === 'Search a plan'", "the solver refuses")
+    page.until("document.getElementById('told') && document.getElementById('best') && document.getElementById('best').textContent === 'Search a plan'",
+               "the solver refuses")
     expect("beyond a limit of the solver for 1||sumwU" in page.text("#told"), page.text("#told"))
     page.do("trial.language('de')")
-    expect("als der L\u00f6ser f\u00fcr 1||sumwU sie nimmt" in page.text("#told"), page.text("#told"))
+    page.until("document.getElementById('told') && document.getElementById('told').textContent.includes('als der L\u00f6ser f\u00fcr 1||sumwU sie nimmt')",
+               "what is said, in German")
     page.do("document.getElementById('best').click()")
     page.until("msp.app.cost && document.getElementById('bound')", "a plan and a bound")
     page.do("document.getElementById('stop').click()")
