@@ -364,12 +364,15 @@ def environment(folder: str) -> dict[str, str]:
 @contextlib.contextmanager
 def opened(name: str, screen: Screen = Screen()) -> Iterator[Browser]:
     """A browser that is ended at the end, with all that it wrote."""
-    with tempfile.TemporaryDirectory(prefix="browser-", ignore_cleanup_errors=True) as folder:
+    folder = tempfile.mkdtemp(prefix="browser-")
+    try:
         browser = BROWSERS[name](screen, folder)
         try:
             yield browser
         finally:
             browser.close()
+    finally:
+        shutil.rmtree(folder, ignore_errors=True)
 
 
 def cut_off() -> bool:
