@@ -54,9 +54,6 @@ pub ≤ℤ_of_same : {a b : ℤ} → a ≡ b → a ≤ℤ b
 pub ≤ℤ_trans : {a b c : ℤ} → a ≤ℤ b → b ≤ℤ c → a ≤ℤ c
 ≤ℤ_trans {a} {b} {c} h k = omega (arith, ints)
 
-pub <ℤ-≤ℤ : {a b c : ℤ} → a <ℤ b → b ≤ℤ c → a <ℤ c
-<ℤ-≤ℤ {a} {b} {c} h k = omega (arith, ints)
-
 pub ≤ℤ-<ℤ : {a b c : ℤ} → a ≤ℤ b → b <ℤ c → a <ℤ c
 ≤ℤ-<ℤ {a} {b} {c} h k = omega (arith, ints)
 
@@ -167,6 +164,6 @@ int_max_mono {a} {b} {c} {d} h k = int_max-least (≤ℤ_trans h (≤ℤ-int_max
 -- a natural factor goes into it
 pub *ℤ-int_max : (n : ℕ) (a b : ℤ) → pos n *ℤ int_max a b ≡ int_max (pos n *ℤ a) (pos n *ℤ b)
 *ℤ-int_max n a b = elim (≤ℤ_total a b) [
-  | inl h ↦ ap (λ x. pos n *ℤ x) (int_max-right a b h) ∙ sym (int_max-right (pos n *ℤ a) (pos n *ℤ b) (*ℤ-mono n h))
-  | inr h ↦ ap (λ x. pos n *ℤ x) (int_max-left a b (<ℤ_weak h)) ∙ sym (int_max-left (pos n *ℤ a) (pos n *ℤ b) (*ℤ-mono n (<ℤ_weak h)))
+  | inl h ↦ omega (arith, ints, clamps, ap (λ x. pos n *ℤ x) (int_max-right a b h), *ℤ-mono n h)
+  | inr h ↦ omega (arith, ints, clamps, ap (λ x. pos n *ℤ x) (int_max-left a b (<ℤ_weak h)), *ℤ-mono n (<ℤ_weak h))
 ]
