@@ -2,7 +2,7 @@
 use Rattle.std.proofs.Common.{◌≡◌, ◌≢◌, ℕ, ◌+◌, ◌-◌, ◌<◌, ◌≤◌, Bool, true, false, cond, not, ◌==◌, ◌&&◌, ◌||◌, List, [], ◌∷◌, ◌++◌, length, get_or, take, set, filter, All}
 use Rattle.std.proofs.Common.{Contains, ◌⊎◌, inl, inr, refl, sym, ap, ◌∙◌, subst, arith}
 use Rattle.std.specs.List.{list_any, range_with_len}
-use Rattle.std.proofs.lemmas.Bool.{cases_Bool, cases_lt, eqb-true, eqb-false, eq-eqb, ne_eqb, and_parts, false≢true}
+use Rattle.std.proofs.lemmas.Bool.{cases_Bool, cases_lt, eqb-true, eqb-false, eq-eqb, ne_eqb, and_parts}
 use Rattle.std.proofs.lemmas.List.{take_all, take_more, take-take, take-append-le, get_or_default, get_or-take, get_or-set_other, length-take, length-set}
 use Rattle.std.proofs.lemmas.List.Folds.{list_any-append}
 use Rattle.std.proofs.lemmas.List.Sums.{sum_by-take-le}
@@ -16,18 +16,18 @@ use Rattle.msp_instance.specs.Listing.{IsListing, waiting, IsLongestOrder}
 use Rattle.msp_instance.proofs.ArcLemmas.{entering_more}
 use Rattle.msp_instance.proofs.ListingLemmas.{list_any-from_Contains, Contains-from_list_any, Contains-take, IsListing-filter, IsListing-same, IsListing-push, IsListing-distinct}
 use Rattle.msp_instance.proofs.ListingLemmas.{IsListing-length, IsListing-contains, IsListing-passes, not_before_itself}
+use Rattle.std.proofs.lemmas.Bool.{both_ways, not-true}
+use Rattle.msp_instance.proofs.ListingLemmas.{length-kept}
 
 -- ---- arcs from outside a list
 abbrev awaits : List ℕ → ℕ → Arc → ℕ
 awaits xs k a = cond (a.after == k && not (list_any (λ x. x == a.before) xs)) 1 0
 
 own_term : (p : Bool) → cond {A = ℕ} (p && not false) 1 0 ≡ cond (p && not true) 1 0 + cond p 1 0
-own_term true = refl
-own_term false = refl
+own_term p = grind arith
 
 plain_term : (p : Bool) → cond {A = ℕ} (p && not false) 1 0 ≡ cond p 1 0
-plain_term true = refl
-plain_term false = refl
+plain_term p = grind arith
 
 pub waiting-none : (arcs : List Arc) (k : ℕ) → waiting arcs [] k ≡ entering arcs k
 waiting-none arcs k = sum_by-agree (awaits [] k) (λ a. cond (a.after == k) 1 0) arcs (λ a. plain_term (a.after == k))
@@ -51,8 +51,7 @@ awaits-push xs j k a none = elim (cases_Bool (a.before == j)) [
 ]
   where
     or_false : (b : Bool) → (b || false) ≡ b
-    or_false true = refl
-    or_false false = refl
+    or_false b = grind arith
 
 -- the arcs of a job that joins the list wait no longer
 pub waiting-push : (arcs : List Arc) (xs : List ℕ) (j k : ℕ) → ¬ Contains xs j → waiting arcs xs k ≡ waiting arcs (xs ++ j ∷ []) k + entering (filter (λ a. a.before == j) arcs) k
@@ -77,17 +76,13 @@ pub waiting-some : (arcs : List Arc) (xs : List ℕ) (k : ℕ) → 0 < waiting a
 waiting-some arcs xs k some = let s = sum_by-some (awaits xs k) arcs some in found s.0 s.1 (passes _ s.2)
   where
     passes : (b : Bool) → 0 < cond {A = ℕ} b 1 0 → b ≡ true
-    passes true h = refl
-    passes false h = absurd (omega arith)
-
-    out : (b : Bool) → not b ≡ true → b ≡ true → ⊥
-    out true e h = false≢true e
-    out false e h = false≢true h
+    passes b h = grind arith
 
     found : (a : Arc) → Contains arcs a → (a.after == k && not (list_any (λ x. x == a.before) xs)) ≡ true → (j : ℕ) × HasStep arcs j k × (¬ Contains xs j)
     found a c h =
         let parts = and_parts _ _ h in
-        (a.before, subst (λ m. HasStep arcs a.before m) (eqb-true a.after k parts.0) c, λ inside. out _ parts.1 (list_any-from_Contains xs a.before inside))
+        let out = not-true _ parts.1 in
+        (a.before, subst (HasStep arcs a.before) (eqb-true a.after k parts.0) c, λ c. both_ways _ out (list_any-from_Contains xs a.before c))
 
 -- ---- the arcs of one job, passed one after the other
 pub record IsReleasing (n : ℕ) (passed : List Arc) (counts order now_counts now_order : List ℕ) : Type 0 where
@@ -157,12 +152,10 @@ IsReleasing-more n leaving i d counts order now_counts now_order new_counts new_
             subst (λ m. (get_or new_counts m 0 == 0) ≡ (get_or now_counts m 0 == 0)) e (new ∙ sym old)
         same_test k v (inr miss) = ap (λ m. m == 0) (elsewhere k (λ e. eqb-false j k miss (sym e)))
 
-    longer : length order ≤ length now_order
-    longer = omega (arith, length-take (length order) now_order, ap length h.kept)
-
     kept : take (length order) new_order ≡ order
     kept = elim (cases_Bool (get_or now_counts j 0 == 1)) [
-      | inl last ↦ ap (take (length order)) (listed ∙ ap (λ b. cond b (now_order ++ j ∷ []) now_order) last) ∙ take-append-le (length order) now_order (j ∷ []) longer ∙ h.kept
+      | inl last ↦ ap (take (length order)) (listed ∙ ap (λ b. cond b (now_order ++ j ∷ []) now_order) last)
+          ∙ take-append-le (length order) now_order (j ∷ []) (length-kept order now_order h.kept) ∙ h.kept
       | inr more ↦ ap (take (length order)) (listed ∙ ap (λ b. cond b (now_order ++ j ∷ []) now_order) more) ∙ h.kept
     ]
 
