@@ -1,8 +1,8 @@
 -- The law of machines and the law of lines: in shops an operation has its time on its own machine, and none of its job's other operations runs then.
-use Rattle.std.proofs.Common.{◌≡◌, ◌≢◌, ℕ, ◌*◌, ◌-◌, ◌<◌, ◌≤◌, Bool, true, false, cond, eqb, List, length, get_or, filter, ℤ, pos, nat_abs, ◌*ℤ◌, ◌≤ℤ◌, All, sum_by, refl}
+use Rattle.std.proofs.Common.{◌≡◌, ◌≢◌, ℕ, ◌*◌, ◌-◌, ◌<◌, ◌≤◌, Bool, true, cond, eqb, List, length, get_or, filter, ℤ, pos, nat_abs, ◌*ℤ◌, ◌≤ℤ◌, All, sum_by, refl}
 use Rattle.std.proofs.Common.{sym, ap, ap₂, subst, subst₂, ◌∙◌, arith}
 use Rattle.std.specs.Prelude.{◌==◌, ◌&&◌}
-use Rattle.std.proofs.lemmas.Bool.{eqb-true, eqb-false}
+use Rattle.std.proofs.lemmas.Bool.{eqb-true}
 use Rattle.std.proofs.lemmas.Int.{ints}
 use Rattle.std.proofs.lemmas.List.Elements.{All-filter, filter_passes}
 use Rattle.msp_class.specs.declared.environments.EnvKind.{EnvKind}
@@ -26,6 +26,8 @@ use Rattle.msp_pieces.proofs.lists.Intervals.{apart_on_each, packed, last_of, gr
 use Rattle.msp_pieces.proofs.feasible.OneMachine.{unit_in_parts, pieces_timed, machines_apart, jobs_apart, total_lengths, last_end-is}
 use Rattle.msp_pieces.proofs.feasible.LastEnds.{last_end-bound}
 use Rattle.msp_pieces.proofs.feasible.Frames.{Fits, Fits-from_feasible, frame_of, rate_on, part, of_operation, map-same}
+use Rattle.std.proofs.lemmas.Bool.{cases_eq}
+use Rattle.std.proofs.Common.{inl, inr}
 
 -- what feasibility reads of a shop
 record IsShopKind (k : EnvKind) (i : Instance) : Type 0 where
@@ -74,11 +76,10 @@ module _ (i : Instance) (s : Schedule) (shop : is_shop i.class.env ≡ true) (f 
         ∙ ap₂ (λ u t. u *ℤ pos t) (unit_in_parts i s f) (reads.want j o))
 
     operation_is_done : unit * (need_at i j o).time ≤ sum_by size (filter (λ p. eqb p.op o) (share j))
-    operation_is_done = by (eqb (need_at i j o).time 0) refl
-      where
-        by : (b : Bool) → eqb (need_at i j o).time 0 ≡ b → unit * (need_at i j o).time ≤ sum_by size (filter (λ p. eqb p.op o) (share j))
-        by true e = omega (arith, ap (λ t. unit * t) (eqb-true _ _ e))
-        by false e = omega (arith, full (eqb-false _ _ e), ap (sum_by size) (filter-both (λ p. eqb p.job j) (λ p. eqb p.op o) s.pieces))
+    operation_is_done = elim (cases_eq (need_at i j o).time 0) [
+      | inl e ↦ omega (arith, ap (λ t. unit * t) e)
+      | inr n ↦ omega (arith, full n, ap (sum_by size) (filter-both (λ p. eqb p.job j) (λ p. eqb p.op o) s.pieces))
+    ]
 
   of_share : (j : ℕ) → All (λ p. p.job ≡ j) (share j)
   of_share j k d l = eqb-true _ _ (filter_passes (λ p. eqb p.job j) s.pieces k d l)

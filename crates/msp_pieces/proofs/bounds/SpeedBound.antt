@@ -42,10 +42,9 @@ module _ {X : Type 0} (job machine from to : X → ℕ) (speed : ℕ → ℕ) (t
   above m = speed m - threshold
 
   done-split : (q : X) → done q ≤ threshold * size q + above (machine q) * size q
-  done-split q = by (size q) (speed (machine q)) threshold (above (machine q)) (omega arith)
-    where
-      by : (s v t w : ℕ) → v ≤ t + w → s * v ≤ t * s + w * s
-      by s v t w h = omega (arith, mul-le-mul_left s h)
+  done-split q =
+      let most : speed (machine q) ≤ threshold + above (machine q) = omega arith in
+      omega (arith, mul-le-mul_left (size q) most)
 
   module _ (test : ℕ → Bool) (m n c : ℕ) (xs : List X) (jobs : All (λ q. job q < n) xs) (machines : All (λ q. machine q < m) xs)
       (on_machines : AllPairs (IsApartOn machine from to) xs) (on_jobs : AllPairs (IsApartOn job from to) xs) (ends : All (λ q. test (job q) ≡ true → to q ≤ c) xs) where

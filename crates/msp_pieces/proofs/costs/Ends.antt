@@ -18,11 +18,9 @@ last_end-one xs p j =
     ap (λ l. fold int_max (pos 0) (map (λ q. q.to) l)) (filter-append (λ q. q.job == j) xs (p ∷ []))
     ∙ ap (fold int_max (pos 0)) (map-append (λ q. q.to) (filter (λ q. q.job == j) xs) (filter (λ q. q.job == j) (p ∷ [])))
     ∙ fold-append int_max (pos 0) (map (λ q. q.to) (filter (λ q. q.job == j) xs)) (map (λ q. q.to) (filter (λ q. q.job == j) (p ∷ [])))
-    ∙ by_test (p.job == j) (last_end xs j) p
-  where
-    by_test : (b : Bool) (x : ℤ) (p : Piece) → fold int_max x (map (λ q. q.to) (cond b (p ∷ []) [])) ≡ cond b (int_max x p.to) x
-    by_test true x p = refl
-    by_test false x p = refl
+    ∙ elim (p.job == j) as
+    (λ b. fold int_max (last_end xs j) (map (λ q. q.to) (cond b (p ∷ []) [])) ≡ cond b (int_max (last_end xs j) p.to) (last_end xs j))
+    [ true ↦ refl | false ↦ refl ]
 
 pub last_end-more : (xs : List Piece) (k j : ℕ) (d : Piece) → k < length xs
     → last_end (take (k + 1) xs) j ≡ cond ((get_or xs k d).job == j) (int_max (last_end (take k xs) j) (get_or xs k d).to) (last_end (take k xs) j)

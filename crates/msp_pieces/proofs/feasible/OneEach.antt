@@ -84,9 +84,6 @@ module _ (i : Instance) (uncut : IsUncut i) (unit : ℕ) (pieces : List Piece) (
       let kb : b < length (map (λ p. p.job) pieces) = omega (arith, k, length-map pieces (λ p. p.job)) in
       OnceBelow-distinct each.jobs a b 0 l kb (get_or-map (λ p. p.job) pieces a d 0 (omega (arith, k, l)) ∙ e ∙ sym (get_or-map (λ p. p.job) pieces b d 0 k))
 
-  piece_of_job : (j : ℕ) → j < n → (p : Piece) × (pieces_of s j 0 ≡ p ∷ [])
-  piece_of_job j l = let (p, e) = OnceBelow-one (λ p. p.job) pieces each.jobs j l in (p, pieces_of-job s j each.ops ∙ e)
-
   placed : All (HasPlace i) pieces
   placed k d l = by (get_or pieces k d) (job_inside k d l) (each.ops k d l) (each.inside k d l)
     where
@@ -103,7 +100,8 @@ module _ (i : Instance) (uncut : IsUncut i) (unit : ℕ) (pieces : List Piece) (
   gets : Gets 0
   gets j l = subst (λ b. MatchBool b (total (map (work_of (kind_of i.class.env) i) (pieces_of s j 0)) ≡ pos unit *ℤ pos (whole_work (kind_of i.class.env) i j 0))
       ((p : Piece) × (pieces_of s j 0 ≡ p ∷ []) × IsWholeWork (kind_of i.class.env) i (pos unit) p)) (sym uncut.cut)
-      (let (p, e) = piece_of_job j l in
+      (let (p, one) = OnceBelow-one (λ p. p.job) pieces each.jobs j l in
+      let e = pieces_of-job s j each.ops ∙ one in
       (p, e, All-contains (IsWholeWork (kind_of i.class.env) i (pos unit)) pieces p each.whole (Contains-from_filter _ pieces p (subst (λ xs. Contains xs p) (sym e) (0, omega arith, refl))).0))
 
   pub one_each_is_feasible : Feasible i s

@@ -1,6 +1,6 @@
 -- Feasible schedules on one machine, as lemmas on pieces in ℕ want them: begins and ends, work, and the sum of costs.
-use Rattle.std.proofs.Common.{◌≡◌, ℕ, zero, suc, ◌+◌, ◌*◌, ◌-◌, ◌<◌, ◌≤◌, max, Bool, true, false, cond, eqb, List, [], ◌∷◌, length, get_or, take, map, filter, fold, ℤ, pos}
-use Rattle.std.proofs.Common.{nat_abs, ◌+ℤ◌, ◌-ℤ◌, ◌*ℤ◌, ◌≤ℤ◌, ◌<ℤ◌, inl, inr, All, AllPairs, sum_by, MatchBool, MatchOption, refl, sym, ap, ap₂, ◌∙◌, subst, arith, zero-add, add-one}
+use Rattle.std.proofs.Common.{◌≡◌, ℕ, zero, suc, ◌*◌, ◌-◌, ◌<◌, ◌≤◌, max, Bool, true, false, cond, eqb, List, [], ◌∷◌, length, get_or, take, map, filter, fold, ℤ, pos}
+use Rattle.std.proofs.Common.{nat_abs, ◌+ℤ◌, ◌*ℤ◌, ◌≤ℤ◌, ◌<ℤ◌, inl, inr, All, AllPairs, sum_by, MatchBool, MatchOption, refl, sym, ap, ap₂, ◌∙◌, subst, arith, zero-add, add-one}
 use Rattle.std.specs.Prelude.{◌==◌, ◌&&◌, ⊤}
 use Rattle.std.specs.Int.{int_max}
 use Rattle.std.proofs.lemmas.Bool.{eqb-true, eq-eqb}
@@ -29,6 +29,7 @@ use Rattle.msp_pieces.specs.Feasible.{Feasible, HasOperation, MayRun, IsWholeWor
 use Rattle.msp_pieces.specs.BackToBack.{time_at}
 use Rattle.msp_pieces.specs.Cost.{last_end, end_of, job_cost, job_costs, combined, cost_of}
 use Rattle.msp_pieces.proofs.costs.Costs.{length-job_costs, get_or-job_costs}
+use Rattle.std.proofs.lemmas.Bool.{and_parts}
 
 -- ---- pieces in ℕ
 pub IsTimed-from_span : (p : Piece) → (pos 0 ≤ℤ p.from) × (p.from <ℤ p.to) → IsTimed p
@@ -43,10 +44,7 @@ apart_in_int p q t u h = elim h [ inl a ↦ inl (omega (arith, ints, a, t.to, u.
 
 -- how long a piece lasts
 pub length-timed : (p : Piece) → IsTimed p → length_of p ≡ pos (finish p - start p)
-length-timed p t = by p.from p.to (start p) (finish p) t.from t.to t.lasts
-  where
-    by : (x y : ℤ) (a b : ℕ) → x ≡ pos a → y ≡ pos b → a < b → y -ℤ x ≡ pos (b - a)
-    by x y a b e f h = omega (arith, ints)
+length-timed p t = omega (arith, ints, t.from, t.to, t.lasts)
 
 -- the pieces and the unit of a feasible schedule
 module _ (i : Instance) (s : Schedule) (f : Feasible i s) where
@@ -70,8 +68,7 @@ filter-same f g (x ∷ xs) h =
     ∙ ap (λ l. cond (g x) (x ∷ l) l) (filter-same f g xs (All-tail (λ y. f y ≡ g y) x xs h))
 
 pub both_true : (a b : Bool) → (a && b) ≡ true → (a ≡ true) × (b ≡ true)
-both_true true b h = (refl, h)
-both_true false b h = absurd (cc)
+both_true a b h = and_parts a b h
 
 with_true : (a b : Bool) → b ≡ true → (a && b) ≡ a
 with_true true b h = h
