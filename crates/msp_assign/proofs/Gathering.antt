@@ -30,9 +30,6 @@ module _ (distance left next : List ℕ) (far k near : ℕ) (h : IsGathering dis
   }
 
   module _ (last : List ℕ) (c : ℕ) (e : c ≡ at next k) (as_far : at distance c ≡ far) (inside : k < length next) (p : IsPermutation next last) (s : SwappedAt next last k near) where
-    at_near : at distance (at last near) ≡ far
-    at_near = ap (at distance) (s.1 0 ∙ sym e) ∙ as_far
-
     before_near : (j : ℕ) → j < near → at distance (at last j) ≡ far
     before_near j l = ap (at distance) (s.2 j 0 (omega (arith, l, h.within)) (omega (arith, l))) ∙ h.nearest.same j l
 
@@ -42,7 +39,7 @@ module _ (distance left next : List ℕ) (far k near : ℕ) (h : IsGathering dis
       nearest = record {
         inside = omega (arith, h.within, inside, length_permutation next last p);
         same = λ j l. elim (same_or_not j near) [
-          | inl q ↦ ap (λ x. at distance (at last x)) q ∙ at_near
+          | inl q ↦ ap (λ x. at distance (at last x)) q ∙ ap (at distance) (s.1 0 ∙ sym e) ∙ as_far
           | inr q ↦ before_near j (omega arith)
         ];
         least = λ j l.

@@ -1,5 +1,5 @@
 -- Row after row gets a column, while columns come into view.
-use Rattle.std.proofs.Common.{◌≡◌, ℕ, zero, suc, ◌+◌, ◌*◌, ◌<◌, ◌≤◌, ℤ, ◌≤ℤ◌, List, [], length, replicate, Contains, sym, subst, arith}
+use Rattle.std.proofs.Common.{◌≡◌, ℕ, zero, ◌+◌, ◌*◌, ◌<◌, ◌≤◌, ℤ, ◌≤ℤ◌, List, [], length, replicate, Contains, sym, subst, arith}
 use Rattle.msp_assign.specs.declared.column.Column.{Column}
 use Rattle.msp_assign.specs.Search.{HasCharges, sizes, HasUnfallen, IsPlaced, IsOneMore}
 use Rattle.msp_assign.specs.View.{seen, AreFirst, IsView, IsWidened, IsPlacement}
@@ -19,12 +19,10 @@ pub record IsPlacing (rows lines long : ℕ) (cost : ℕ → ℕ → ℤ) (colum
   pub zero : HasUnfallen (length columns) falls
 
 factor : (m n : ℕ) → 1 ≤ m * n → 1 ≤ n
-factor m zero h = omega (arith, h)
-factor m (suc n) h = omega arith
+factor m n h = grind arith
 
 other_factor : (m n : ℕ) → 1 ≤ m * n → 1 ≤ m
-other_factor zero n h = omega (arith, h)
-other_factor (suc m) n h = omega arith
+other_factor m n h = grind arith
 
 -- a table with rows has lines and places
 pub some_places : (rows lines long columns : ℕ) → lines * long ≡ columns → 1 ≤ rows → rows ≤ columns → (1 ≤ lines) × (1 ≤ long)
