@@ -1,5 +1,5 @@
 -- Pieces that lie apart on machines, with the work of their jobs: what makes them a feasible schedule, and an answer.
-use Rattle.std.proofs.Common.{◌≡◌, ℕ, ◌*◌, ◌<◌, ◌≤◌, true, List, [], ◌∷◌, length, get_or, map, ℤ, pos, ◌*ℤ◌, ◌≤ℤ◌, All, AllPairs, MatchBool, refl, sym, ap, subst, ◌∙◌, arith}
+use Rattle.std.proofs.Common.{◌≡◌, ℕ, ◌*◌, ◌<◌, ◌≤◌, true, List, [], ◌∷◌, length, get_or, map, pos, ◌*ℤ◌, ◌≤ℤ◌, All, AllPairs, MatchBool, refl, sym, ap, subst, ◌∙◌, arith}
 use Rattle.std.specs.Prelude.{◌==◌}
 use Rattle.std.proofs.lemmas.Int.{ints}
 use Rattle.std.proofs.lemmas.List.Elements.{All-filter}
@@ -90,10 +90,7 @@ module _ (i : Instance) (unit : ℕ) (ps : List Piece) (laid : AreLaid i unit ps
         }
 
     released : All (λ p. (pos unit *ℤ pos (job_at i p.job).release) ≤ℤ p.from) ps
-    released k d l = by (get_or ps k d).from (start (get_or ps k d)) unit (job_at i (get_or ps k d).job).release (laid.timed k d l).from (laid.released k d l)
-      where
-        by : (x : ℤ) (n u r : ℕ) → x ≡ pos n → u * r ≤ n → (pos u *ℤ pos r) ≤ℤ x
-        by x n u r e m = omega (arith, ints, e, m)
+    released k d l = omega (arith, ints, (laid.timed k d l).from, laid.released k d l)
 
     pub laid_is_feasible : ((j : ℕ) → j < length i.jobs → GetsWork i s j 0) → Feasible i s
     laid_is_feasible gets = record {

@@ -19,6 +19,7 @@ use Rattle.msp_pieces.proofs.costs.LateJobs.{due_at, is_late, not_late, OnTime, 
 use Rattle.msp_route.proofs.Owed.{over_units}
 use Rattle.msp_route.proofs.PlainJobs.{IsPlain}
 use Rattle.msp_route.proofs.BackToBackAnswer.{timed}
+use Rattle.std.proofs.Common.{le_trans}
 
 -- late jobs and those on time weigh as much as all
 late_and_on_time : (f : ℕ → Bool) (w : ℕ → ℕ) (xs : List ℕ) → sum_by (λ j. cond (f j) (w j) 0) xs + sum_by w (filter (λ j. not (f j)) xs) ≡ sum_by w xs
@@ -87,8 +88,6 @@ module _ (i : Instance) (h : IsPlain i) (w : ℕ → ℕ) (order first late : Li
       feasible = feasible;
       least = λ t f.
           let unit = (IsPlan-from_feasible i h.machine t f).unit in
-          over_units _ _ t.unit _ _ (nat_abs t.unit) (cost s 1 refl) (cost t (nat_abs t.unit) unit) unit (by (late_weight i w s) (late_weight i w t) (nat_abs t.unit) (omega (arith, upper, lower t f)));
+          over_units _ _ t.unit _ _ (nat_abs t.unit) (cost s 1 refl) (cost t (nat_abs t.unit) unit) unit
+          (omega (arith, mul-le-mul_left (nat_abs t.unit) (le_trans upper (lower t f))));
     }
-      where
-        by : (a b d : ℕ) → a ≤ b → d * (1 * a) ≤ d * b
-        by a b d l = omega (arith, mul-le-mul_left d l)

@@ -64,10 +64,7 @@ module _ (jobs : List ℕ) (blocked : ℕ → Bool) (cost : ℕ → ℤ) (k : �
 
       kept : (b : Option Candidate) → b ≡ Some result → IsFound jobs blocked cost k b → Chosen result
       kept None e f = absurd (cc)
-      kept (Some b) e f = subst Chosen (same b result e) (omega (arith, f.early), f.is, f.price, f.free)
-        where
-          same : (a b : Candidate) → Some a ≡ Some b → a ≡ b
-          same a b e = cc
+      kept (Some b) e f = let same : b ≡ result = cc in subst Chosen same (omega (arith, f.early), f.is, f.price, f.free)
 
       chosen : Chosen result
       chosen = elim either [ inl e ↦ subst Chosen (sym e) newest | inr e ↦ kept best e h ]
