@@ -34,12 +34,9 @@ module _ (i : Instance) (h : IsPlain i) (order : List ℕ) (once : OnceBelow (le
   timed = back_to_back-timed (time_at i) 0 order (λ k d l. takes_time i h (get_or order k d) (once.within k d l))
 
   pub released : All (λ p. (pos 1 *ℤ pos (job_at i p.job).release) ≤ℤ p.from) pieces
-  released k d l = omega (
-    arith,
-    ints,
-    (timed k d l).from,
-    h.release _ no_job (back_to_back-All piece (time_at i) piece_makes (λ j. j < length i.jobs) 0 order once.within k d l),
-  )
+  released k d l =
+      let free = h.release _ no_job (back_to_back-All piece (time_at i) piece_makes (λ j. j < length i.jobs) 0 order once.within k d l) in
+      omega (arith, ints, (timed k d l).from, free)
 
   -- without arcs they may run in any order
   pub free_is_feasible : i.arcs ≡ [] → Feasible i (schedule_in_order i order)
