@@ -14,7 +14,8 @@ use Rattle.msp_stairs.specs.declared.climb.Limits.{Limits}
 use Rattle.msp_stairs.specs.Bounds.{greatest_bound, greatest_date, latest_deadline, capped}
 use Rattle.msp_stairs.specs.declared.climb.Task.{Task}
 use Rattle.msp_stairs.specs.Steps.{task_for}
-use Rattle.msp_stairs.proofs.Schedules.{product-small}
+use Rattle.msp_class.proofs.IntegerRing.{+ℤ_mono}
+use Rattle.msp_pieces.proofs.costs.Small.{product_within}
 
 -- a number as 128 bits hold it
 abbrev pub held : ℤ → ℤ
@@ -29,7 +30,7 @@ kept x h = to_z-of_z w128 x (fits x h)
 wider : (a b : ℕ) (x : ℤ) → a ≤ b → LiesWithin a x → LiesWithin b x
 wider a b x l h = (omega (arith, ints, l, h.0), omega (arith, ints, l, h.1))
 
-count_within : (m : ℕ) → m ≤ MOST_MACHINES → LiesWithin latest_deadline (pos m)
+pub count_within : (m : ℕ) → m ≤ MOST_MACHINES → LiesWithin latest_deadline (pos m)
 count_within m l = (omega (arith, ints), omega (arith, ints, l))
 
 -- a date as 64 bits hold it
@@ -42,13 +43,10 @@ date_held d h = subst (LiesWithin (2 * GREATEST)) (sym (date_kept d h)) h
 -- the moment of a deadline
 module _ (x y z : ℤ) (m : ℕ) (d : ℤ) (e : x ≡ pos m) (f : y ≡ d) (few : m ≤ MOST_MACHINES) (date : LiesWithin (2 * GREATEST) d) (bound : LiesWithin greatest_bound z) where
   product : LiesWithin greatest_date (pos m *ℤ d)
-  product = product-small m d (2 * GREATEST) few date
+  product = product_within m d MOST_MACHINES (2 * GREATEST) greatest_date few date (omega arith)
 
   total_within : LiesWithin latest_deadline ((pos m *ℤ d) +ℤ z)
-  total_within = added (pos m *ℤ d) z product bound
-    where
-      added : (a b : ℤ) → LiesWithin greatest_date a → LiesWithin greatest_bound b → LiesWithin latest_deadline (a +ℤ b)
-      added a b h k = (omega (arith, ints, h.0, k.0), omega (arith, ints, h.1, k.1))
+  total_within = (+ℤ_mono product.0 bound.0, +ℤ_mono product.1 bound.1)
 
   factors : (held x *ℤ held y) ≡ (pos m *ℤ d)
   factors = ap₂ (λ u v. u *ℤ v) (ap held e ∙ kept (pos m) (count_within m few)) (ap held f ∙ kept d (wider (2 * GREATEST) latest_deadline d (omega arith) date))
@@ -92,7 +90,7 @@ module _ (x t d : ℤ) (m time : ℕ) (due : ℤ) (e : x ≡ pos m) (f : t ≡ p
   lateness = (omega (arith, ints, short, date.1), omega (arith, ints, short, date.0))
 
   scaled : LiesWithin (MOST_MACHINES * greatest_lateness) (pos m *ℤ (pos time -ℤ due))
-  scaled = product-small m (pos time -ℤ due) greatest_lateness few lateness
+  scaled = product_within m (pos time -ℤ due) MOST_MACHINES greatest_lateness (MOST_MACHINES * greatest_lateness) few lateness (omega arith)
 
   less : (held t -ℤ held d) ≡ (pos time -ℤ due)
   less = ap₂ (λ u v. u -ℤ v) (ap held f ∙ kept (pos time) (omega (arith, ints), omega (arith, ints, short))) (ap held g ∙ kept due (wider (2 * GREATEST) latest_deadline due (omega arith) date))
