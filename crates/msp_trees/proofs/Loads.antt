@@ -1,6 +1,5 @@
 -- Which block is joined next: the one of greatest weight for its time.
-use Rattle.std.proofs.Common.{◌≡◌, ℕ, ◌+◌, ◌*◌, ◌<◌, ◌≤◌, ◌⊎◌, inl, inr, List, [], length, get_or, refl, sym, ap, ap₂, subst, ◌∙◌, arith}
-use Rattle.std.proofs.lemmas.Bool.{cases_lt}
+use Rattle.std.proofs.Common.{◌≡◌, ℕ, ◌+◌, ◌*◌, ◌<◌, ◌≤◌, ◌⊎◌, inl, inr, List, [], length, get_or, refl, sym, ap, ap₂, subst, ◌∙◌, arith, below_more}
 use Rattle.msp_instance.specs.declared.Instance.{Instance}
 use Rattle.msp_route.proofs.Ratios.{strict_left, strict_right, level}
 use Rattle.msp_trees.specs.declared.joining.Load.{Load}
@@ -65,10 +64,9 @@ module _ (i : Instance) (blocks : List (List ℕ)) where
       ] in
       record {
         one = one;
-        leads = λ m some l. elim (cases_lt m k) [
-          | inl earlier ↦ goes_on (load i blocks m) a r (positive m some l) h.one.some one.some (h.leads m some earlier) of_a
-          | inr late ↦ let now : k ≡ m = omega (arith, late, l) in subst (λ n. GoesNoLater r (load i blocks n)) now (subst (GoesNoLater r) e of_b)
-        ];
+        leads = λ m some l. below_more (λ m. 1 ≤ m → m < k + 1 → GoesNoLater r (load i blocks m)) k
+            (λ m early some l. goes_on (load i blocks m) a r (positive m some l) h.one.some one.some (h.leads m some early) of_a)
+            (λ _ _. subst (GoesNoLater r) e of_b) m l some l;
       }
 
   pub best-end : (best : Load) (count : ℕ) → length blocks ≤ count → IsBestSoFar best count → GoesNext i blocks best.place
