@@ -64,7 +64,7 @@ HasClimbed-none i order limits = record {
 }
 
 -- ---- times, and deadlines in order
-time_some : (i : Instance) → IsOfClass i stairs_class → (j : ℕ) → j < length i.jobs → (1 ≤ time_at i j) × (time_at i j ≤ GREATEST)
+pub time_some : (i : Instance) → IsOfClass i stairs_class → (j : ℕ) → j < length i.jobs → (1 ≤ time_at i j) × (time_at i j ≤ GREATEST)
 time_some i h j l = let n = (h.jobs j no_job l).needs in let t = n.times 0 no_need (omega (arith, n.shape.0)) in (t.0, t.1)
 
 capped-mono : (end : Option ℤ) (x y : ℤ) → x ≤ℤ y → nat_abs (int_max (pos 0) (capped end x)) ≤ nat_abs (int_max (pos 0) (capped end y))
@@ -80,7 +80,12 @@ capped_or_free a e w is = elim (≤ℤ_total e a) [
 ]
 
 pub bound_kept : (x : ℤ) → LiesWithin greatest_bound x → held x ≡ x
-bound_kept x h = kept x (omega (arith, ints, h.0), omega (arith, ints, h.1))
+bound_kept x h = kept greatest_bound x (omega arith) h
+
+range_held : (Met : ℤ → Type 0) (low high : ℤ) → LiesWithin greatest_bound low → LiesWithin greatest_bound high
+    → Met high → ((b : ℤ) → Met b → low ≤ℤ b) → IsRange Met greatest_bound (record { low = held low; high = held high })
+range_held Met low high p q met least = subst₂ (λ x y. IsRange Met greatest_bound (record { low = x; high = y }))
+    (sym (bound_kept low p)) (sym (bound_kept high q)) (record { met = met; least = least; low = p; high = q })
 
 module _ (i : Instance) (order : List ℕ) (r : IsReady i order) where
   abbrev n : ℕ
@@ -198,18 +203,10 @@ module _ (i : Instance) (order : List ℕ) (r : IsReady i order) where
   pub few_order : length order ≤ MOST_JOBS
   few_order = omega (arith, length-OnceBelow once, h.few)
 
-  pub time_short : (j : ℕ) → j < n → time_at i j ≤ MOST_JOBS * GREATEST
-  time_short j l = let t = (time_some i h j l).1 in omega (arith, t)
-
   pub range_is : (low high : ℤ) → low ≡ pos m *ℤ (pos (time_at i (at order 0)) -ℤ (job_at i (at order 0)).due)
       → high ≡ pos m *ℤ (pos (sum_by (time_at i) order) -ℤ (job_at i (at order 0)).due) → LiesWithin greatest_bound low → LiesWithin greatest_bound high
       → IsRange (CanMeet i) greatest_bound (record { low = held low; high = held high })
-  range_is low high e f p q = subst₂ (λ x y. IsRange (CanMeet i) greatest_bound (record { low = x; high = y })) (sym (bound_kept low p)) (sym (bound_kept high q)) (record {
-    met = high_is high f;
-    least = λ b can. all_forced b low can (inl (at order 0, first_inside, e));
-    low = p;
-    high = q;
-  })
+  range_is low high e f p q = range_held (CanMeet i) low high p q (high_is high f) (λ b can. all_forced b low can (inl (at order 0, first_inside, e)))
 
   -- ---- as the code asks, and solves
   answers : (Met : Type 0) (limits : Limits) → (IsTooLate i order limits → Met → ⊥) → ((ps : List Piece) → IsClimbed i order limits ps → Met)
@@ -259,11 +256,9 @@ module _ (i : Instance) (order : List ℕ) (r : IsReady i order) where
 
   pub range_of_ends : (late high : ℤ) → CanMeet i late → high ≡ pos m *ℤ (pos (sum_by (time_at i) order) -ℤ pos 0) → LiesWithin greatest_bound high
       → IsRange (CanEnd i late) greatest_bound (record { low = pos 0; high = held high })
-  range_of_ends late high can e p = subst (λ x. IsRange (CanEnd i late) greatest_bound (record { low = pos 0; high = x })) (sym (bound_kept high p)) (record {
-    met = last_is late high (omega (arith, ints, e, *ℤ-sub (pos m) (pos (sum_by (time_at i) order)) (pos 0))) can;
-    least = λ b ends.
-        let (s, f, in_time, ended) = ends in *ℤ-cancel_pos s.unit (omega (arith, ints, f.unit))
-        (subst₂ (λ x y. x ≤ℤ y) (sym (*ℤ-zero s.unit)) (*ℤ_comm b s.unit) (≤ℤ_trans (*ℤ-nonneg (zero-le-pos m) (makespan-natural s)) ended));
-    low = (omega (arith, ints), omega (arith, ints));
-    high = p;
-  })
+  range_of_ends late high can e p =
+      let last = last_is late high (omega (arith, ints, e, *ℤ-sub (pos m) (pos (sum_by (time_at i) order)) (pos 0))) can in
+      range_held (CanEnd i late) (pos 0) high (omega (arith, ints), omega (arith, ints)) p last (λ b ends.
+      let (s, f, in_time, ended) = ends in
+      *ℤ-cancel_pos s.unit (omega (arith, ints, f.unit))
+      (subst₂ (λ x y. x ≤ℤ y) (sym (*ℤ-zero s.unit)) (*ℤ_comm b s.unit) (≤ℤ_trans (*ℤ-nonneg (zero-le-pos m) (makespan-natural s)) ended)))

@@ -8,7 +8,7 @@ use Rattle.std.proofs.lemmas.List.Elements.{All-nil, All-cons, All-drop, All-map
 use Rattle.std.proofs.lemmas.List.Kept.{AllPairs-cons}
 use Rattle.std.proofs.lemmas.List.Sums.{sum_by-cons}
 use Rattle.msp_class.specs.Crit.{is_greatest}
-use Rattle.msp_class.proofs.IntegerRing.{natural, le-pos, pos-lt, ≤ℤ_trans, ≤ℤ-<ℤ, ≤ℤ_of_same, *ℤ-add, *ℤ-sub, *ℤ-mono, *ℤ-cancel_lt, *ℤ_assoc, +ℤ_mono}
+use Rattle.msp_class.proofs.IntegerRing.{natural, le-pos, ≤ℤ_trans, ≤ℤ_of_same, *ℤ-add, *ℤ-sub, *ℤ-mono, *ℤ-cancel_lt, *ℤ_assoc, +ℤ_mono}
 use Rattle.msp_class.proofs.IntegerRing.{*ℤ_comm, *ℤ-zero, zero-*ℤ, ≤ℤ_refl, *ℤ-mono_nonneg}
 use Rattle.msp_class.proofs.Sums.{OnceBelow, OnceBelow-distinct, sum_by-scale, sum_by-map}
 use Rattle.msp_instance.specs.declared.Instance.{Instance}
@@ -103,10 +103,8 @@ module _ (i : Instance) (h : IsOfClass i stairs_class) (t : Schedule) (f : Feasi
           let y = get_or others k d in
           let inside : x < n = All-contains (λ x. x < n) last x front among in
           let before : due y ≤ℤ due x = All-contains (λ a. All (λ b. due b ≤ℤ due a) others) last x a.dates among k d l in
-          omega (arith, in_time y (back k d l), rises y x (back k d l) inside before)
-        where
-          rises : (y x : ℕ) → y < n → x < n → due y ≤ℤ due x → limit y ≤ limit x
-          rises y x l k b = le-pos (subst₂ (λ u v. u ≤ℤ v) (limit_is y l) (limit_is x k) (+ℤ_mono (*ℤ-mono_nonneg t.unit (omega (arith, ints, f.unit)) b) (≤ℤ_refl cost)))
+          let rises = +ℤ_mono (*ℤ-mono_nonneg t.unit (omega (arith, ints, f.unit)) before) (≤ℤ_refl cost) in
+          omega (arith, ints, in_time y (back k d l), limit_is y (back k d l), limit_is x inside, rises)
 
   -- a job ends no sooner than its time is over
   pub alone : (j : ℕ) → j < n → nat_abs t.unit * time_at i j ≤ end_at t j
@@ -234,20 +232,17 @@ module _ (i : Instance) (order : List ℕ) (once : OnceBelow (length i.jobs) ord
     set_forced set below many late = (
       pos (sum_by (time_at i) (last set ++ others set)) -ℤ dates_together i (last set),
       inr (last set, others set, due_last set below many, refl),
-      above m (sum_by (time_at i) (last set ++ others set)) (dates_together i (last set)) bound strict,
+      omega (arith, ints, sum),
     )
       where
         all_late : of_all limit_at (take m set) < m * sum_by (time_at i) (last set ++ others set)
         all_late = subst₂ (λ x y. x < y) (of_first-is limit_at m set) (all_times set below many) late
 
-        strict : ((pos m *ℤ dates_together i (last set)) +ℤ (pos m *ℤ bound)) <ℤ pos (m * sum_by (time_at i) (last set ++ others set))
-        strict = ≤ℤ-<ℤ (subst (λ q. ((pos m *ℤ dates_together i (last set)) +ℤ (pos q *ℤ bound)) ≤ℤ pos (of_all limit_at (take m set))) (length-take-le m set many) (limits_late (take m set)))
-            (pos-lt all_late)
-
-        above : (m s : ℕ) (d b : ℤ) → ((pos m *ℤ d) +ℤ (pos m *ℤ b)) <ℤ pos (m * s) → b <ℤ (pos s -ℤ d)
-        above m s d b h =
-            let sum : (d +ℤ b) <ℤ pos s = *ℤ-cancel_lt m (subst (λ x. x <ℤ (pos m *ℤ pos s)) (sym (*ℤ-add (pos m) d b)) h) in
-            omega (arith, ints)
+        sum : (dates_together i (last set) +ℤ bound) <ℤ pos (sum_by (time_at i) (last set ++ others set))
+        sum =
+            let parts = *ℤ-add (pos m) (dates_together i (last set)) bound in
+            let count = ap (λ q. pos q *ℤ bound) (length-take-le m set many) in
+            *ℤ-cancel_lt m (omega (arith, ints, parts, count, limits_late (take m set), all_late))
 
     pub forced_above : IsTooLate i order (no_later bound) → (y : ℤ) × IsForced i y × (bound <ℤ y)
     forced_above (set, below, late) = elim (cases_lt (length set) m) [

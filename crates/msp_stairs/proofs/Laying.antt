@@ -10,6 +10,8 @@ use Rattle.msp_pieces.specs.declared.Piece.{Piece}
 use Rattle.msp_stairs.specs.declared.climb.Stair.{Stair}
 use Rattle.msp_stairs.specs.declared.climb.Task.{Task}
 use Rattle.msp_stairs.specs.Steps.{no_stair, ends_of, Falls, parts, level, HasTooHigh, IsBetween, raised, to_front, IsWhole, IsCut, IsLaid}
+use Rattle.std.specs.List.{prefix_len}
+use Rattle.std.proofs.lemmas.List.Sums.{prefix_len-le-length, prefix_len_passes, prefix_len_stops}
 
 -- ---- the ends
 Falls-all : (t : ℕ) (xs : List Stair) → Falls t (ends_of xs) → (k : ℕ) (d : Stair) → k < length xs → (get_or xs k d).end ≤ t
@@ -40,8 +42,8 @@ pub cut_made : (t : Task) (old one two new : List Stair) (before begun after : L
     → new ≡ to_front p two → IsCut t old before new after
 cut_made t old one two new before begun after p q end next h l is e1 b1 e2 b2 e3 = record {
   ahead = s.ahead;
-  high = high;
-  low = low;
+  high = get_or old p no_stair;
+  low = get_or old q no_stair;
   behind = s.behind;
   end = end;
   is = is;
@@ -55,19 +57,13 @@ cut_made t old one two new before begun after p q end next h l is e1 b1 e2 b2 e3
     s : IsSplit old p q
     s = subst (IsSplit old p) (sym next) (split_at old p (omega (arith, next, l)))
 
-    high : Stair
-    high = get_or old p no_stair
-
-    low : Stair
-    low = get_or old q no_stair
-
     top : Stair
-    top = record { machine = high.machine; end = t.due }
+    top = record { machine = (get_or old p no_stair).machine; end = t.due }
 
     bottom : Stair
-    bottom = record { machine = low.machine; end = end }
+    bottom = record { machine = (get_or old q no_stair).machine; end = end }
 
-    same : get_or one q no_stair ≡ low
+    same : get_or one q no_stair ≡ get_or old q no_stair
     same = ap (λ xs. get_or xs q no_stair) e1 ∙ get_or-set_other old p q top no_stair (λ e. omega (arith, e, next))
 
     both : two ≡ set (set old p top) q bottom
@@ -92,15 +88,15 @@ late_made t old place h e k d l = subst (λ s. t.due < s.end + t.time) (get_or_d
 
 -- ---- there is such a place, and so each task is laid or fits on no machine
 place_of : (t : Task) (xs : List Stair) → (place : ℕ) × HasTooHigh t xs place
-place_of t [] = (0, record { inside = omega arith; high = λ k l. absurd (omega (arith, l)); low = λ l. absurd (omega (arith, l)) })
-place_of t (s ∷ ss) = elim (cases_lt t.due (s.end + t.time)) [
-  | inl over ↦ let (p, h) = place_of t ss in (suc p, record { inside = omega (arith, h.inside); high = high p over h; low = λ l. h.low (omega (arith, l)) })
-  | inr within ↦ (0, record { inside = omega arith; high = λ k l. absurd (omega (arith, l)); low = λ l. within })
-]
-  where
-    high : (p : ℕ) → t.due < s.end + t.time → HasTooHigh t ss p → (k : ℕ) → k < suc p → t.due < (get_or (s ∷ ss) k no_stair).end + t.time
-    high p over h zero l = over
-    high p over h (suc k) l = h.high k (omega (arith, l))
+place_of t xs =
+    let over = λ (s : Stair). ltb t.due (s.end + t.time) in (
+      prefix_len over xs,
+      record {
+        inside = prefix_len-le-length over xs;
+        high = λ k l. ltb-true t.due ((get_or xs k no_stair).end + t.time) (prefix_len_passes over xs k no_stair l);
+        low = λ l. ltb-false t.due ((get_or xs (prefix_len over xs) no_stair).end + t.time) (prefix_len_stops over xs no_stair l);
+      },
+    )
 
 pub laying : (t : Task) (old : List Stair) (before : List Piece)
     → 0 < length old → ((new : List Stair) × (after : List Piece) × IsLaid t old before true new after) ⊎ All (λ s. t.due < s.end + t.time) old

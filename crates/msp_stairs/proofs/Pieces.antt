@@ -1,9 +1,9 @@
 -- One job more on the stairs: its pieces, on the machines and by jobs.
-use Rattle.std.proofs.Common.{◌≡◌, ◌≢◌, ℕ, ◌+◌, ◌-◌, ◌<◌, ◌≤◌, inl, inr, Bool, true, false, cond, eqb, ltb, List, [], ◌∷◌, ◌++◌, length, get_or, map, All, AllPairs, sum_by}
+use Rattle.std.proofs.Common.{◌≡◌, ◌≢◌, ℕ, ◌+◌, ◌-◌, ◌<◌, ◌≤◌, inl, inr, cond, eqb, ltb, List, [], ◌∷◌, ◌++◌, length, get_or, map, All, AllPairs, sum_by, below_more}
 use Rattle.std.proofs.Common.{refl, sym, ap, subst, subst₂, ◌∙◌, arith, append-nil, append_assoc, length-append}
 use Rattle.std.specs.Prelude.{◌==◌}
 use Rattle.std.specs.List.{filter, count_by}
-use Rattle.std.proofs.lemmas.Bool.{cases_lt, eq-eqb, ne_eqb, ltb-true, ltb-false}
+use Rattle.std.proofs.lemmas.Bool.{eq-eqb, ne_eqb, ltb-true, ltb-false, cond_both}
 use Rattle.std.proofs.lemmas.List.{length-map, get_or-map, map-append}
 use Rattle.std.proofs.lemmas.List.Elements.{All-nil, All-cons, All-head, All-tail, All-append, All-push, filter-append}
 use Rattle.std.proofs.lemmas.List.Sorted.{IsPermutation-middle}
@@ -78,13 +78,10 @@ module _ (m : ℕ) (xs : List Stair) (a : Stair) (zs : List Stair) (ps : List Pi
       still ss differ h k d l = Holds-push ps p (get_or ss k d) (λ same. absurd (differ k d l (sym same))) (h k d l)
 
   pub ran_to : (j e : ℕ) → a.end ≤ e → AreOnStairs m (xs ++ busy e ∷ zs) (ps ++ parts j a.machine a.end e)
-  ran_to j e l = by (ltb a.end e) refl
-    where
-      by : (b : Bool) → ltb a.end e ≡ b → AreOnStairs m (xs ++ busy e ∷ zs) (ps ++ cond b (part j a.machine a.end e ∷ []) [])
-      by true f = ran j e (ltb-true a.end e f)
-      by false f =
-          let same : a.end ≡ e = omega (arith, l, ltb-false a.end e f) in
-          subst₂ (λ x qs. AreOnStairs m (xs ++ busy x ∷ zs) qs) same (sym (append-nil ps)) o
+  ran_to j e l = cond_both (ltb a.end e) (part j a.machine a.end e ∷ []) [] (λ qs. AreOnStairs m (xs ++ busy e ∷ zs) (ps ++ qs))
+      (λ f. ran j e (ltb-true a.end e f)) (λ f.
+      let same : a.end ≡ e = omega (arith, l, ltb-false a.end e f) in
+      subst₂ (λ x qs. AreOnStairs m (xs ++ busy x ∷ zs) qs) same (sym (append-nil ps)) o)
 
   pub in_front : AreOnStairs m (a ∷ (xs ++ zs)) ps
   in_front = record {
@@ -104,16 +101,13 @@ pub record AreParts (job a b : ℕ) (ps : List Piece) : Type 0 where
   pub size : sum_by (size_of start finish) ps ≡ b - a
 
 pub AreParts-parts : (job machine a b : ℕ) → AreParts job a b (parts job machine a b)
-AreParts-parts job machine a b = by (ltb a b) refl
-  where
-    by : (t : Bool) → ltb a b ≡ t → AreParts job a b (cond t (part job machine a b ∷ []) [])
-    by true e = record {
+AreParts-parts job machine a b = cond_both (ltb a b) (part job machine a b ∷ []) [] (AreParts job a b)
+    (λ _. record {
       each = All-cons (λ p. (p.job ≡ job) × (start p ≡ a) × (finish p ≡ b)) (part job machine a b) [] (refl, refl, refl) (All-nil (λ p. (p.job ≡ job) × (start p ≡ a) × (finish p ≡ b)));
       few = omega arith;
       size = omega (arith, sum_by-cons (size_of start finish) (part job machine a b) []);
-    }
-    by false e =
-        record { each = All-nil (λ p. (p.job ≡ job) × (start p ≡ a) × (finish p ≡ b)); few = omega arith; size = omega (arith, ltb-false a b e) }
+    })
+    (λ e. record { each = All-nil (λ p. (p.job ≡ job) × (start p ≡ a) × (finish p ≡ b)); few = omega arith; size = omega (arith, ltb-false a b e) })
 
 -- all pieces of one job: they are apart, and last as long as it takes
 pub record AreOfJob (job work due : ℕ) (ps : List Piece) : Type 0 where
@@ -126,15 +120,6 @@ pub record AreOfJob (job work due : ℕ) (ps : List Piece) : Type 0 where
 single : (ps : List Piece) → length ps ≤ 1 → AllPairs (IsApartOn job_of start finish) ps
 single ps h a b d l k = absurd (omega (arith, h, l, k))
 
-pub AreOfJob-one : (job work due a b : ℕ) (ps : List Piece) → b ≡ a + work → b ≤ due → AreParts job a b ps → AreOfJob job work due ps
-AreOfJob-one job work due a b ps e l h = record {
-  jobs = λ k d m. (h.each k d m).0;
-  apart = single ps h.few;
-  size = omega (arith, h.size, e);
-  ends = λ k d m. omega (arith, (h.each k d m).2, l);
-  few = omega (arith, h.few);
-}
-
 pub AreOfJob-two : (job work due a b c e : ℕ) (ps qs : List Piece)
     → a ≤ b → c ≤ e → e ≤ a → (b - a) + (e - c) ≡ work → b ≤ due → AreParts job a b ps → AreParts job c e qs → AreOfJob job work due (ps ++ qs)
 AreOfJob-two job work due a b c e ps qs l k before is in_time h g = record {
@@ -144,6 +129,12 @@ AreOfJob-two job work due a b c e ps qs l k before is in_time h g = record {
   ends = All-append (λ p. finish p ≤ due) ps qs (λ n d m. omega (arith, (h.each n d m).2, in_time)) (λ n d m. omega (arith, (g.each n d m).2, before, l, in_time));
   few = omega (arith, length-append ps qs, h.few, g.few);
 }
+
+pub AreOfJob-one : (job work due a b : ℕ) (ps : List Piece) → b ≡ a + work → b ≤ due → AreParts job a b ps → AreOfJob job work due ps
+AreOfJob-one job work due a b ps e l h =
+    let none = All-nil (λ (p : Piece). (p.job ≡ job) × (start p ≡ a) × (finish p ≡ a)) in
+    subst (AreOfJob job work due) (append-nil ps) (AreOfJob-two job work due a b a a ps [] (omega (arith, e)) (omega arith) (omega arith)
+    (omega (arith, e)) l h (record { each = none; few = omega arith; size = omega arith }))
 
 -- ---- the work of each job
 work_of-append : (ps qs : List Piece) (j : ℕ) → work_of job_of start finish (ps ++ qs) j ≡ work_of job_of start finish ps j + work_of job_of start finish qs j
@@ -173,10 +164,15 @@ module _ (i : Instance) (order : List ℕ) (limits : Limits) (k : ℕ) (ps qs : 
   HaveWork-more = record {
     jobs = All-append (λ p. (x : ℕ) × (x < k + 1) × (p.job ≡ at order x)) ps qs (λ n d l. let (x, b, e) = h.jobs n d l in (x, omega (arith, b), e)) (λ n d l. (k, omega arith, g.jobs n d l));
     apart = AllPairs-append (IsApartOn job_of start finish) ps qs h.apart g.apart (λ n d l x f y same. let (z, b, e) = h.jobs n d l in absurd (apart_places z b (sym e ∙ same ∙ g.jobs x f y)));
-    work = works;
+    work = below_more (λ x. work_of job_of start finish (ps ++ qs) (at order x) ≡ work_at i (at order x)) k
+        (λ x l. omega (arith, work_of-append ps qs (at order x), work_of-none qs (at order x) (other x l), h.work x l))
+        (omega (arith, work_of-append ps qs (at order k), work_of-none ps (at order k) new, work_of-all qs (at order k) g.jobs, g.size));
     ends = All-append (λ p. finish p ≤ deadline i limits p.job) ps qs h.ends (λ n d l. subst (λ j. finish (get_or qs n d) ≤ deadline i limits j) (sym (g.jobs n d l)) (g.ends n d l));
     few = omega (arith, length-append ps qs, h.few, g.few);
-    cuts = cuts;
+    cuts = below_more (λ x. count_by (λ p. p.job == at order x) (ps ++ qs) ≤ 2) k
+        (λ x l. omega (arith, count-append ps qs (at order x), count-none qs (at order x) (other x l), h.cuts x l))
+        (let all = count_by-le-length (λ (p : Piece). p.job == at order k) qs in
+        omega (arith, count-append ps qs (at order k), count-none ps (at order k) new, all, g.few));
   }
     where
       other : (x : ℕ) → x < k → All (λ p. p.job ≢ at order x) qs
@@ -184,21 +180,3 @@ module _ (i : Instance) (order : List ℕ) (limits : Limits) (k : ℕ) (ps qs : 
 
       new : All (λ p. p.job ≢ at order k) ps
       new n d m e = let (z, b, f) = h.jobs n d m in apart_places z b (sym f ∙ e)
-
-      cuts : (x : ℕ) → x < k + 1 → count_by (λ p. p.job == at order x) (ps ++ qs) ≤ 2
-      cuts x l = elim (cases_lt x k) [
-        | inl before ↦ omega (arith, count-append ps qs (at order x), count-none qs (at order x) (other x before), h.cuts x before)
-        | inr last ↦
-            let same : k ≡ x = omega (arith, l, last) in
-            subst (λ y. count_by (λ p. p.job == at order y) (ps ++ qs) ≤ 2) same
-            (omega (arith, count-append ps qs (at order k), count-none ps (at order k) new, count_by-le-length (λ (p : Piece). p.job == at order k) qs, g.few))
-      ]
-
-      works : (x : ℕ) → x < k + 1 → work_of job_of start finish (ps ++ qs) (at order x) ≡ work_at i (at order x)
-      works x l = elim (cases_lt x k) [
-        | inl before ↦ omega (arith, work_of-append ps qs (at order x), work_of-none qs (at order x) (other x before), h.work x before)
-        | inr last ↦
-            let same : k ≡ x = omega (arith, l, last) in
-            subst (λ y. work_of job_of start finish (ps ++ qs) (at order y) ≡ work_at i (at order y))
-            same (omega (arith, work_of-append ps qs (at order k), work_of-none ps (at order k) new, work_of-all qs (at order k) g.jobs ∙ g.size))
-      ]

@@ -28,7 +28,6 @@ use Rattle.msp_route.specs.Bounds.{IsAnswer, answer_unit}
 use Rattle.msp_route.proofs.Owed.{timed_answer}
 use Rattle.msp_route.proofs.Laid.{at_zero, cut_is_feasible}
 use Rattle.msp_stairs.specs.declared.climb.Limits.{Limits}
-use Rattle.msp_stairs.specs.declared.climb.Stair.{Stair}
 use Rattle.msp_stairs.specs.Stairs.{stairs_class, makespan, HasTwoPiecesAtMost}
 use Rattle.msp_stairs.specs.Bounds.{greatest_bound, CanMeet, CanEnd, work_at, capped, last_moment, deadline, at, greatest_date, latest_deadline}
 use Rattle.msp_stairs.specs.Steps.{HasClimbed, IsClimbed}
@@ -44,9 +43,6 @@ stairs_schedule i ps = record { unit = pos i.machines; pieces = ps }
 capped-late : (end : Option ℤ) (moment : ℤ) → capped end moment ≤ℤ moment
 capped-late None moment = ≤ℤ_refl moment
 capped-late (Some end) moment = omega (arith, ints, clamps)
-
-capped-end : (end moment : ℤ) → capped (Some end) moment ≤ℤ end
-capped-end end moment = omega (arith, ints, clamps)
 
 -- a deadline that a piece keeps is not cut off at 0
 deadline-exact : (i : Instance) (limits : Limits) (j : ℕ) → 0 < deadline i limits j → pos (deadline i limits j) ≡ last_moment i limits j
@@ -66,10 +62,7 @@ module _ (i : Instance) (h : IsOfClass i stairs_class) (order : List ℕ) (limit
   abbrev n : ℕ
   n = length i.jobs
 
-  abbrev stairs : List Stair
-  stairs = made.0
-
-  abbrev c : HasClimbed i order limits (length order) stairs ps
+  abbrev c : HasClimbed i order limits (length order) made.0 ps
   c = made.1
 
   abbrev s : Schedule
@@ -143,13 +136,13 @@ module _ (i : Instance) (h : IsOfClass i stairs_class) (order : List ℕ) (limit
   ends_by end e = makespan-least s end (≤ℤ_trans (not_before 0 h.some) (before 0)) (λ k d l. ≤ℤ_trans (in_time k d l) (before (get_or ps k d).job))
     where
       before : (j : ℕ) → last_moment i limits j ≤ℤ end
-      before j = subst (λ x. capped x ((pos i.machines *ℤ (job_at i j).due) +ℤ limits.late) ≤ℤ end) (sym e) (capped-end end ((pos i.machines *ℤ (job_at i j).due) +ℤ limits.late))
+      before j = subst (λ x. capped x ((pos i.machines *ℤ (job_at i j).due) +ℤ limits.late) ≤ℤ end) (sym e) (omega (arith, ints, clamps))
 
   pub can_end : (end : ℤ) → limits.end ≡ Some end → CanEnd i limits.late end
   can_end end e = (s, is_feasible, late_enough, subst (λ x. (pos i.machines *ℤ makespan s) ≤ℤ x) (*ℤ_comm (pos i.machines) end) (*ℤ-mono i.machines (ends_by end e)))
 
   -- ---- bounds
-  module _ (small : LiesWithin greatest_bound limits.late) where
-    pub is_answer : IsAnswer i s
-    is_answer = timed_answer i s latest_deadline (subst (λ k. pos i.machines ≤ℤ answer_unit k) (sym h.kind) (omega (arith, ints, h.machines))) (omega (arith, c.worked.few, many, h.few))
-        c.on_stairs.timed (λ k d l. omega (arith, c.worked.ends k d l, deadline-small i h limits small (get_or ps k d).job (job_inside k d l))) (omega (arith, ints))
+  pub is_answer : LiesWithin greatest_bound limits.late → IsAnswer i s
+  is_answer small = timed_answer i s latest_deadline (subst (λ k. pos i.machines ≤ℤ answer_unit k) (sym h.kind) (omega (arith, ints, h.machines)))
+      (omega (arith, c.worked.few, many, h.few)) c.on_stairs.timed
+      (λ k d l. omega (arith, c.worked.ends k d l, deadline-small i h limits small (get_or ps k d).job (job_inside k d l))) (omega (arith, ints))

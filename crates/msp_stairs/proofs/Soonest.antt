@@ -24,7 +24,7 @@ use Rattle.msp_stairs.specs.Bounds.{CanEnd, AreLeast, AreByDate, IsReady}
 use Rattle.msp_stairs.specs.Steps.{IsClimbed, IsTooLate}
 use Rattle.msp_stairs.proofs.Forced.{forced_bounds}
 use Rattle.msp_stairs.proofs.Schedules.{stairs_schedule, is_feasible, at_most_bound, ends_by, is_answer, cut_once}
-use Rattle.msp_stairs.proofs.Tasks.{held, kept, count_within}
+use Rattle.msp_stairs.proofs.Tasks.{held, count_kept}
 use Rattle.msp_stairs.proofs.Bounds.{h, CanLay-ready, all_forced, reached, not_ended, bound_kept}
 
 -- what is claimed of the answer, whose cost is the one number over the other
@@ -42,12 +42,9 @@ IsReady-shown i order shown class inner all sorted e =
     record { inner = inner; class = class; by_date = subst (AreByDate i) (sym e) (record { all = all; rising = dates_rise (λ a b. a < b) (λ j. (job_at i j).due) order sorted }) }
 
 -- ---- the least limits
-ended : (i : Instance) (limits : Limits) → AreLeast i limits → (end : ℤ) × (limits.end ≡ Some end) × IsLeastBound (CanEnd i limits.late) end
-ended i limits least = by limits.end refl least.end
-  where
-    by : (x : Option ℤ) → limits.end ≡ x → MatchOption x ⊥ (IsLeastBound (CanEnd i limits.late)) → (end : ℤ) × (limits.end ≡ Some end) × IsLeastBound (CanEnd i limits.late) end
-    by None e h = absurd h
-    by (Some end) e h = (end, e, h)
+ended : (Q : ℤ → Type 0) (x : Option ℤ) → MatchOption x ⊥ Q → (end : ℤ) × (x ≡ Some end) × Q end
+ended Q None h = absurd h
+ended Q (Some end) h = (end, refl, h)
 
 -- m ends of a schedule that ends a part sooner
 sooner : (m : ℕ) (u x e end : ℤ) → 0 < m → pos 1 ≤ℤ u → e ≤ℤ end
@@ -60,7 +57,9 @@ sooner m u x e end some unit within l = ≤ℤ_trans (*ℤ-cancel m some (subst�
 
 module _ (i : Instance) (order : List ℕ) (r : IsReady i order) (limits : Limits) (least : AreLeast i limits) where
   pub never_climbed : IsTooLate i order limits → ⊥
-  never_climbed over = let (end, e, first) = ended i limits least in not_ended i order r limits.late end (subst (λ x. IsTooLate i order (record { late = limits.late; end = x })) e over) first.met
+  never_climbed over =
+      let (end, e, first) = ended (IsLeastBound (CanEnd i limits.late)) limits.end least.end in
+      not_ended i order r limits.late end (subst (λ x. IsTooLate i order (record { late = limits.late; end = x })) e over) first.met
 
   module _ (ps : List Piece) (made : IsClimbed i order limits ps) where
     feasible : Feasible i (stairs_schedule i ps)
@@ -76,7 +75,7 @@ module _ (i : Instance) (order : List ℕ) (r : IsReady i order) (limits : Limit
     ends_soonest : EndsSoonest i (stairs_schedule i ps)
     ends_soonest t f costs = elim (≤ℤ_total ((pos i.machines *ℤ makespan t) *ℤ pos i.machines) (t.unit *ℤ ((pos i.machines *ℤ makespan (stairs_schedule i ps)) -ℤ pos i.machines))) [
       | inl sooner_too ↦
-          let (end, e, first) = ended i limits least in
+          let (end, e, first) = ended (IsLeastBound (CanEnd i limits.late)) limits.end least.end in
           let within = ends_by i (h i order r) order limits (CanLay-ready i order r limits) ps made end e in
           let part = sooner i.machines t.unit (makespan t) (makespan (stairs_schedule i ps)) end (omega (arith, (h i order r).machine)) f.unit within sooner_too in
           absurd (omega (arith, ints, first.least (end -ℤ pos 1) (t, f, in_time, part)))
@@ -101,4 +100,4 @@ module _ (i : Instance) (order : List ℕ) (r : IsReady i order) (limits : Limit
 
     pub solved : (unit : ℤ) → unit ≡ pos i.machines → IsSolved i (record { unit = held unit; pieces = ps }) (held limits.late) (held unit)
     solved unit e =
-        subst₂ (λ u b. IsSolved i (record { unit = u; pieces = ps }) b u) (sym (ap held e ∙ kept (pos i.machines) (count_within i.machines (h i order r).machines))) (sym (bound_kept limits.late least.small)) plainly
+        subst₂ (λ u b. IsSolved i (record { unit = u; pieces = ps }) b u) (sym (ap held e ∙ count_kept i.machines (h i order r).machines)) (sym (bound_kept limits.late least.small)) plainly
