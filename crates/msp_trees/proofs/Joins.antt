@@ -107,17 +107,10 @@ module _ (n : ℕ) (before p w : ℕ → ℕ) (tree : IsTree n before p) where
       middle = concat between
 
       flat : concat ((front ++ vs ∷ between) ++ us ∷ back) ≡ early ++ (middle ++ (us ++ concat back))
-      flat =
-          concat-append (front ++ vs ∷ between) (us ∷ back)
-          ∙ ap (λ l. l ++ (us ++ concat back)) (concat-append front (vs ∷ between) ∙ sym (append_assoc (concat front) vs middle))
-          ∙ append_assoc early middle (us ++ concat back)
+      flat = simp (concat-append, append_assoc)
 
       flat_joined : concat (front ++ (vs ++ us) ∷ (between ++ back)) ≡ early ++ (us ++ (middle ++ concat back))
-      flat_joined =
-          concat-append front ((vs ++ us) ∷ (between ++ back))
-          ∙ ap (λ l. concat front ++ ((vs ++ us) ++ l)) (concat-append between back)
-          ∙ ap (λ l. concat front ++ l) (append_assoc vs us (middle ++ concat back))
-          ∙ sym (append_assoc (concat front) vs (us ++ (middle ++ concat back)))
+      flat_joined = simp (concat-append, append_assoc)
 
       once_flat : OnceBelow (n + 1) (early ++ (middle ++ (us ++ concat back)))
       once_flat = subst (OnceBelow (n + 1)) flat once

@@ -28,11 +28,8 @@ load i blocks k = make k (get_or (get_or blocks k []) 0 0) (time_of i (get_or bl
 
 module _ (i : Instance) (blocks : List (List ℕ)) where
   pub load_is : (x : Load) (jobs : List ℕ) (k : ℕ) → x.place ≡ k → x.first ≡ get_or jobs 0 0 → jobs ≡ get_or blocks k [] → x.time ≡ time_of i jobs → x.weight ≡ weight_of i jobs → x ≡ load i blocks k
-  load_is x jobs k place first e time weight =
-      made x.place k x.first _ x.time _ x.weight _ place (first ∙ ap (λ l. get_or l 0 0) e) (time ∙ ap (time_of i) e) (weight ∙ ap (weight_of i) e)
-    where
-      made : (p q f g t u w v : ℕ) → p ≡ q → f ≡ g → t ≡ u → w ≡ v → make p f t w ≡ make q g u v
-      made p q f g t u w v a b c d = ap₂ (λ p f. make p f t w) a b ∙ ap₂ (λ t w. make q g t w) c d
+  load_is x jobs k place first e time weight = ap₂ (λ p f. make p f x.time x.weight) place (first ∙ ap (λ l. get_or l 0 0) e)
+      ∙ ap₂ (make k (get_or (get_or blocks k []) 0 0)) (time ∙ ap (time_of i) e) (weight ∙ ap (weight_of i) e)
 
   -- a block among so many, by its load
   pub record IsOneOf (x : Load) (count : ℕ) : Type 0 where
