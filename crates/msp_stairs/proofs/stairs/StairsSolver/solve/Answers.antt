@@ -3,7 +3,7 @@ use Rattle.std.specs.Prelude.{MatchOption}
 use Rattle.msp_stairs.specs.Steps.{IsTooLate, IsClimbed}
 use Rattle.msp_stairs.proofs.Tasks.{held}
 use Rattle.msp_stairs.specs.Bounds.{IsReady}
-use Rattle.msp_stairs.proofs.Bounds.{IsSolved, IsReady-shown, never_climbed, solved}
+use Rattle.msp_stairs.proofs.Soonest.{IsSolved, IsReady-shown, never_climbed, solved}
 use Rattle.msp_stairs.proofs.stairs.StairsSolver.solve.Goals as goal
 use Rattle.msp_stairs.proofs.stairs.StairsSolver.solve.Goals.{After-as_slice-2, After-from-unit}
 
