@@ -7,7 +7,7 @@ use Rattle.std.proofs.lemmas.List.{length-map, get_or-map, get_or_default}
 use Rattle.std.proofs.lemmas.List.Elements.{Contains-get_or}
 use native.Mathlib.Nat.{mul-le-mul_left}
 use Rattle.msp_class.specs.Sums.{total_below}
-use Rattle.msp_class.proofs.Sums.{OnceBelow, OnceBelow-from_permutation, OnceBelow-distinct, length-OnceBelow, sum_by-OnceBelow, cond-le, cond-count, total_below-mono}
+use Rattle.msp_class.proofs.Sums.{OnceBelow, OnceBelow-from_permutation, OnceBelow-distinct, length-OnceBelow, sum_by-OnceBelow, cond-le, cond-yes, cond-count, total_below-mono}
 use Rattle.msp_class.proofs.Sums.{total_below-same, total_below-add, total_below-scale}
 use Rattle.msp_instance.specs.declared.Instance.{Instance}
 use Rattle.msp_instance.specs.Instance.{common_time}
@@ -25,7 +25,7 @@ use Rattle.msp_route.proofs.OneInstances.{takes_time}
 use Rattle.msp_srpt.specs.EqualHeads.{piece_number, end_before, RunInOrder}
 use Rattle.msp_srpt.proofs.Counts.{at_most}
 use Rattle.msp_srpt.proofs.EqualInstances.{IsEqualInstance}
-use Rattle.msp_srpt.proofs.SortedEnds.{count-yes, few, many, Rises}
+use Rattle.msp_srpt.proofs.SortedEnds.{few, many, Rises}
 
 -- ---- begins that grow step by step
 rises_by_steps : (n : ℕ) (x : ℕ → ℕ) → ((k : ℕ) → suc k < n → x k ≤ x (suc k)) → Rises n x
@@ -54,18 +54,11 @@ runs n time begin head start next (suc k) l = elim (cases_lt (begin k + time) (h
     longer : (a b c d m : ℕ) → a ≡ max (b + time) c → c ≤ b + time → b ≡ d + m * time → a ≡ d + suc m * time
     longer a b c d m e h f = omega (arith, e, h, f)
 
--- what the jobs of a run and one job more need
-fits : (unit time more count first moment : ℕ) → 0 < unit * time → more + 1 ≤ count → unit * time * count ≤ moment - unit * first → unit * (first + more * time + time) ≤ moment
-fits unit time more count first moment some enough room =
-    let least = mul-le-mul_left (unit * time) enough in
-    omega (arith, some, least, room)
-
 -- a job that passes the first test passes both, or not the second
 either : (a b : Bool) → cond a 1 0 ≤ cond (a && b) 1 0 + cond (not b) 1 0
 either true true = omega arith
 either true false = omega arith
-either false true = omega arith
-either false false = omega arith
+either false _ = omega arith
 
 module _ (i : Instance) (h : IsEqualInstance i) (heads : List ℕ) (are : AreHeads i heads) (pieces : List Piece) (r : RunInOrder i heads pieces) where
   abbrev n : ℕ
@@ -111,10 +104,7 @@ module _ (i : Instance) (h : IsEqualInstance i) (heads : List ℕ) (are : AreHea
   ends_at k l = ap finish (piece_is k l)
 
   pub heads_rise : Rises n head
-  heads_rise p q b l = elim (cases_lt p q) [
-    | inl less ↦ elim (r.rising p q 0 less (omega (arith, l, jobs_many))) [ inl g ↦ omega (arith, g) | inr e ↦ omega (arith, e.0) ]
-    | inr more ↦ let e : p ≡ q = omega (arith, b, more) in omega (arith, ap head e)
-  ]
+  heads_rise p q b l = grind (arith, r.rising p q 0, jobs_many)
 
   begins_at : (k : ℕ) → k < n → begin k ≡ max (end_before pieces k) (head k)
   begins_at k l = r.early k (omega (arith, l, pieces_many)) ∙ ap (λ j. max (end_before pieces k) (head_in heads j)) (number_is k l)
@@ -198,8 +188,8 @@ module _ (i : Instance) (h : IsEqualInstance i) (heads : List ℕ) (are : AreHea
       -- where more than k jobs end by a moment, the job of place k can
       pub no_earlier : unit * (begin k + time) ≤ moment
       no_earlier =
-          let needed = fits unit time run.more count from moment (some (omega (arith, l))) (omega (arith, all, before, more, run.place)) work in
-          subst (λ x. unit * (x + time) ≤ moment) (sym run.begin_is) needed
+          let enough : run.more + 1 ≤ count = omega (arith, all, before, more, run.place) in
+          rw run.begin_is (omega (arith, some (omega (arith, l)), mul-le-mul_left (unit * time) enough, work))
 
   -- ---- the rule's own ends
   pub ends_by : (k : ℕ) → k < n → last_of job_of finish pieces (number k) ≤ begin k + time
@@ -222,4 +212,5 @@ module _ (i : Instance) (h : IsEqualInstance i) (heads : List ℕ) (are : AreHea
   -- where the values of the first jobs are at most a moment, as many are
   pub enough : (x : ℕ → ℕ) (k moment : ℕ) → k < n → ((p : ℕ) → p ≤ k → x (number p) ≤ moment) → k < at_most n x moment
   enough x k moment l small =
-      subst (λ m. k < m) (sym (by_number (λ j. cond (leb (x j) moment) 1 0))) (many n k (λ p. cond (leb (x (number p)) moment) 1 0) l (λ p e. count-yes (x (number p)) moment (small p e)))
+      subst (λ m. k < m) (sym (by_number (λ j. cond (leb (x j) moment) 1 0)))
+      (many n k (λ p. cond (leb (x (number p)) moment) 1 0) l (λ p e. cond-yes 1 (le-leb (x (number p)) moment (small p e))))
