@@ -1,15 +1,15 @@
 -- One label more, and the labels of all jobs.
-use Rattle.std.proofs.Common.{◌≡◌, ◌≢◌, ℕ, zero, suc, ◌+◌, ◌<◌, ◌≤◌, ◌⊎◌, inl, inr, Bool, true, false, not, List, ◌∷◌, ◌++◌, length, get_or, set, filter, slice_index, All}
+use Rattle.std.proofs.Common.{◌≡◌, ◌≢◌, ℕ, ◌+◌, ◌<◌, ◌≤◌, ◌⊎◌, inl, inr, Bool, true, false, not, List, [], ◌∷◌, ◌++◌, length, get_or, set, filter, slice_index, All}
 use Rattle.std.proofs.Common.{AllPairs, Contains, IsTrue, ◌↔◌, IsPermutation, refl, sym, ap, subst, subst₂, ◌∙◌, arith}
 use Rattle.std.specs.List.{remove, range_with_len}
 use Rattle.std.proofs.lemmas.List.{get_or_default, get_or-set_same, get_or-set_other}
 use Rattle.std.proofs.lemmas.Bool.{cases_Bool, cases_lt, cases_eq, false_from_ne_true, false≢true, not-true}
-use Rattle.std.proofs.lemmas.List.Elements.{All-contains, Contains-get_or, filter_passes}
+use Rattle.std.proofs.lemmas.List.Elements.{All-contains, Contains-append_right, Contains-get_or, filter_passes}
 use Rattle.std.proofs.lemmas.List.Kept.{AllPairs-filter}
 use Rattle.std.proofs.lemmas.List.Quantifiers.{all_pairs_remove}
 use Rattle.std.proofs.lemmas.List.Sorted.{Contains-permutation, length_permutation, IsPermutation-sym, IsPermutation-trans, IsPermutation-cons, IsPermutation-remove, IsPermutation-filter_both}
 use Rattle.msp_class.specs.declared.sizes.TheConstants.{MOST_JOBS}
-use Rattle.msp_class.proofs.Sums.{AllPairs-head, AllPairs-tail, OnceBelow-range, OnceBelow-contains, OnceBelow-distinct, length-OnceBelow}
+use Rattle.msp_class.proofs.Sums.{AllPairs-head, AllPairs-tail, Contains-tail, OnceBelow-range, OnceBelow-contains, OnceBelow-distinct, length-OnceBelow}
 use Rattle.msp_instance.specs.declared.Instance.{Instance}
 use Rattle.msp_instance.specs.Conditions.{IsAcyclic}
 use Rattle.msp_instance.specs.Paths.{HasStep, HasPath, one, more}
@@ -90,19 +90,12 @@ module _ (i : Instance) (leads : ℕ → ℕ → Bool) (shows : Shows i leads)
 
     from_parted : (j : ℕ) → Contains parted j → Contains left j × (j ≢ job)
     from_parted j c = (
-      Contains-permutation (job ∷ parted) left j (IsPermutation-sym left (job ∷ parted) leaves) (later c),
+      Contains-permutation (job ∷ parted) left j (IsPermutation-sym left (job ∷ parted) leaves) (Contains-append_right (job ∷ []) parted j c),
       λ e. All-contains (λ k. job ≢ k) parted j (AllPairs-head (λ j k. j ≢ k) job parted distinct_all) c (sym e),
     )
-      where
-        later : Contains parted j → Contains (job ∷ parted) j
-        later (k, b, e) = (suc k, omega (arith, b), e)
 
     to_parted : (j : ℕ) → j ≢ job → Contains left j → Contains parted j
-    to_parted j differ c = by (Contains-permutation left (job ∷ parted) j leaves c)
-      where
-        by : Contains (job ∷ parted) j → Contains parted j
-        by (zero, b, e) = absurd (differ (sym e))
-        by (suc k, b, e) = (k, omega (arith, b), e)
+    to_parted j differ c = Contains-tail job parted j (Contains-permutation left (job ∷ parted) j leaves c) (λ e. differ (sym e))
 
     size_next : count + 1 + length parted ≡ n
     size_next = let s = length_permutation left (job ∷ parted) leaves in omega (arith, s, h.size)
@@ -135,16 +128,16 @@ module _ (i : Instance) (leads : ℕ → ℕ → Bool) (shows : Shows i leads)
         by : (k : ℕ) → label k < MOST_JOBS + 1 → label j < label k → label j < label b → next j ≡ label j → (next k < MOST_JOBS + 1) × (next j < next k)
         by k bound greater less same = (grind (arith, small, kept k), grind (arith, kept k))
 
+    has_old : (j : ℕ) → j < n → j ≢ job → next j < count + 1 → label j < count
+    has_old j b differ s = elim (h.each j b) [ inl q ↦ omega (arith, q.1, s, kept j differ, small) | inr q ↦ q ]
+
     ranked_next : (a b : ℕ) → a < n → b < n → next b < count + 1 → next b < next a → Outranks n leads next (MOST_JOBS + 1) a b
     ranked_next a b in_a in_b has more_ = elim (cases_eq b job) [
       | inl e ↦ subst (λ x. Outranks n leads next (MOST_JOBS + 1) a x) (sym e) (newest (omega (arith, ap next e, given, more_)))
-      | inr differ ↦ let at = kept b differ in let small_b = labelled b in_b differ (omega (arith, at, has)) in
+      | inr differ ↦ let at = kept b differ in let small_b = has_old b in_b differ has in
           Outranks-kept a b in_a in_b small_b (h.ranked a b in_a in_b small_b (before (omega (arith, at, more_)) small_b))
     ]
       where
-        labelled : (j : ℕ) → j < n → j ≢ job → label j < count + 1 → label j < count
-        labelled j b differ s = elim (h.each j b) [ inl q ↦ absurd (omega (arith, q.1, s, small)) | inr q ↦ q ]
-
         before : label b < next a → label b < count → label b < label a
         before less has = grind (arith, job_is.1, small, kept a)
 
@@ -189,9 +182,6 @@ module _ (i : Instance) (leads : ℕ → ℕ → Bool) (shows : Shows i leads)
     -- ---- the order of those that are left
     abbrev Later : ℕ → ℕ → Type 0
     Later b a = Outranks n leads next (count + 1) a b
-
-    has_old : (j : ℕ) → j < n → j ≢ job → next j < count + 1 → label j < count
-    has_old j b differ s = elim (h.each j b) [ inl q ↦ omega (arith, q.1, s, kept j differ, small) | inr q ↦ q ]
 
     -- two jobs that both lead to the new job, or neither
     alike : (b a : ℕ) → leads b job ≡ leads a job → Outranks n leads label count a b → Later b a
