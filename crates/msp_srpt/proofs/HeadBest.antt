@@ -1,5 +1,5 @@
 -- Jobs of one time that run by rising head: their schedule is feasible, its ends come first, and it is best.
-use Rattle.std.proofs.Common.{◌≡◌, ℕ, zero, suc, ◌+◌, ◌*◌, ◌<◌, ◌≤◌, inl, inr, cond, leb, List, length, get_or, map, All, ℤ, pos, nat_abs, ◌-ℤ◌, ◌*ℤ◌, ◌≤ℤ◌, ◌<ℤ◌, refl, sym, ap}
+use Rattle.std.proofs.Common.{◌≡◌, ℕ, zero, suc, ◌+◌, ◌*◌, ◌<◌, ◌≤◌, inl, inr, cond, leb, List, length, get_or, map, All, pos, nat_abs, ◌*ℤ◌, ◌≤ℤ◌, ◌<ℤ◌, refl, sym, ap}
 use Rattle.std.proofs.Common.{subst, subst₂, ◌∙◌, arith, le_trans}
 use Rattle.std.proofs.lemmas.Bool.{cases_lt}
 use Rattle.std.proofs.lemmas.Int.{ints}
@@ -30,14 +30,11 @@ use Rattle.msp_route.proofs.Owed.{unit_one, over_units}
 use Rattle.msp_route.proofs.OneEach.{one_each_is_answer}
 use Rattle.msp_route.proofs.OneInstances.{takes_time, is_short}
 use Rattle.msp_srpt.specs.EqualHeads.{equal_heads_class, piece_number, RunInOrder, RunByHeads, end_number, EndsFirst}
-use Rattle.msp_srpt.proofs.Best.{ends_cost}
+use Rattle.msp_srpt.proofs.Best.{ends_cost, as_schedule}
 use Rattle.msp_srpt.proofs.Counts.{at_most, total_from_counts}
 use Rattle.msp_srpt.proofs.EqualInstances.{IsEqualInstance, IsEqualInstance-from_class, uncut}
 use Rattle.msp_srpt.proofs.HeadEnds.{pieces_many, once, number_inside, piece_is, heads_rise, from_head, in_order, run_of, no_earlier, ends_up_to, enough}
 use Rattle.msp_srpt.proofs.SortedEnds.{AreCounted-from_sorted, number_at, low_from_count, count_from_low}
-
-abbrev pub as_schedule : List Piece → Schedule
-as_schedule pieces = record { unit = pos 1; pieces = pieces }
 
 -- what the answer has
 pub record IsHeadsAnswer (i : Instance) (s : Schedule) : Type 0 where
@@ -77,10 +74,8 @@ module _ (i : Instance) (h : IsEqualInstance i) (heads : List ℕ) (are : AreHea
   soon k l =
       let run = run_of i h heads are pieces r k l in
       let lf : number run.first < length heads = omega (arith, number_inside i h heads are pieces r run.first (omega (arith, run.place, l)), are.each) in
-      early (begin k) (head_in heads (number run.first)) run.more time run.begin_is (are.small (number run.first) 0 lf) (omega (arith, run.place, l, h.one.few)) (short k l)
-    where
-      early : (b x m t : ℕ) → b ≡ x + m * t → x ≤ GREATEST * (2 + MOST_JOBS) → m ≤ MOST_JOBS → t ≤ GREATEST → b + t ≤ (2 * MOST_JOBS + 3) * GREATEST
-      early b x m t e p q u = omega (arith, e, p, u, mul-le m t MOST_JOBS GREATEST q u)
+      let rest = mul-le run.more time MOST_JOBS GREATEST (omega (arith, run.place, l, h.one.few)) (short k l) in
+      omega (arith, run.begin_is, are.small (number run.first) 0 lf, short k l, rest)
 
   apart : (a b : ℕ) (d : Piece) → a < b → b < length pieces → IsBefore (get_or pieces a d) (get_or pieces b d)
   apart a b d l m =
@@ -110,19 +105,13 @@ module _ (i : Instance) (h : IsEqualInstance i) (heads : List ℕ) (are : AreHea
     span = each (λ p. (pos 0 ≤ℤ p.from) × (p.from <ℤ p.to)) (λ k l. (zero-le-pos (begin k), pos-lt (omega (arith, takes k l))));
     apart = λ a b d l m _. inl (apart a b d l m);
     released = each (λ p. (pos 1 *ℤ pos (job_at i p.job).release) ≤ℤ p.from) (λ k l.
-        released (job_at i (number k)).release (begin k) (omega (arith, are.release (number k) (number_inside i h heads are pieces r k l), from_head i h heads are pieces r k l)));
+        omega (arith, ints, are.release (number k) (number_inside i h heads are pieces r k l), from_head i h heads are pieces r k l));
     forward = forward;
     whole = each (IsWholeWork (kind_of i.class.env) i (pos 1)) (λ k l.
         subst (λ e. IsWholeWork e i (pos 1) (piece (number k) (begin k) (begin k + time)))
-        (sym h.one.machine.kind) (work (begin k) time (time_at i (number k)) (h.same (number k) (number_inside i h heads are pieces r k l))));
+        (sym h.one.machine.kind) (omega (arith, ints, h.same (number k) (number_inside i h heads are pieces r k l))));
     ends = each (λ p. p.to ≤ℤ GREATEST_ANSWER_MOMENT) (λ k l. pos-le (omega (arith, soon k l)));
   }
-    where
-      released : (x y : ℕ) → x ≤ y → (pos 1 *ℤ pos x) ≤ℤ pos y
-      released x y e = omega (arith, ints, e)
-
-      work : (x t u : ℕ) → u ≡ t → (pos (x + t) -ℤ pos x) ≡ pos 1 *ℤ pos u
-      work x t u e = omega (arith, ints, e)
 
   feasible : Feasible i s
   feasible = one_each_is_feasible i (uncut i h) 1 pieces one_each

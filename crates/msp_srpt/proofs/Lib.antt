@@ -1,6 +1,5 @@
 pub mod Counts
 pub mod Lower
-pub mod Lists
 pub mod Laying
 pub mod Steps
 pub mod Queue

@@ -1,5 +1,5 @@
 use Rattle.std.proofs.Common.{sym, subst}
-use Rattle.msp_srpt.specs.EqualHeads.{RunByHeads, EndsFirst}
+use Rattle.msp_srpt.specs.EqualHeads.{EndsFirst}
 use Rattle.msp_srpt.proofs.HeadBest.{IsHeadsAnswer-read}
 use Rattle.msp_srpt.proofs.equal_heads.EqualHeadsSolver.solve.Goals as goal
 
