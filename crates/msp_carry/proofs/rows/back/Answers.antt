@@ -3,9 +3,6 @@ use Rattle.std.proofs.lemmas.Result.{IfOk-weaker}
 use Rattle.msp_pieces.specs.Cost.{IsSolution, IsBest}
 use Rattle.msp_carry.proofs.rows.back.Goals as goal
 
-pub back_at_row-requires-clause-comes : goal.back_at_row-requires-clause-comes
-back_at_row-requires-clause-comes c = record { inner = c.requires.inner; applies = c.requires.applies; solution = c.requires.solution; bounded = c.requires.bounded }
-
 pub returns-clause-solution : goal.returns-clause-solution
 returns-clause-solution c = IfOk-weaker c.back_at_row.result _ (IsSolution c.args.inst.now) (λ s is. is.solution) c.back_at_row.ensures
 
