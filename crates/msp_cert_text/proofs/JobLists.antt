@@ -2,7 +2,7 @@
 use Rattle.std.proofs.Common.{◌≡◌, ℕ, suc, ◌+◌, ◌<◌, ◌≤◌, Bool, true, false, not, ◌&&◌, ◌||◌, ◌==◌, if◌then◌else◌, List, [], ◌∷◌, ◌++◌, length, Ok, None, Some, All, bytes_eq, codes}
 use Rattle.std.proofs.Common.{refl, sym, ap, subst, ◌∙◌, append_assoc, append-nil, length-append, arith}
 use Rattle.std.specs.List.{AllByRecursion}
-use Rattle.std.proofs.lemmas.Bool.{and_parts, eqb-true}
+use Rattle.std.proofs.lemmas.Bool.{and_parts, eqb-true, ne_eqb}
 use Rattle.std.proofs.lemmas.List.{nil_from_length}
 use Rattle.std.proofs.lemmas.List.Elements.{All-nil, All-head, All-tail, All-push, All-pop}
 use Rattle.msp_job_name.specs.JobName.{IsJobName, AreDistinct}
@@ -91,11 +91,7 @@ jobs_again names before (j ∷ more) jobs at rest apart spelled inside room =
 -- ---- lists of jobs
 
 nonzero : (n : ℕ) → not (suc n == 0) ≡ true
-nonzero n = by (suc n == 0) refl
-  where
-    by : (b : Bool) → (suc n == 0) ≡ b → not b ≡ true
-    by true e = absurd (omega (arith, eqb-true (suc n) 0 e))
-    by false e = refl
+nonzero n = ap not (ne_eqb (suc n) 0 (λ e. omega (arith, e)))
 
 -- Lists that are some and a last one.
 record EndsWith (lists : List (List ℕ)) : Type 0 where
