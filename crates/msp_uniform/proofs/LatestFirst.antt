@@ -192,9 +192,6 @@ module _ (n : ℕ) (before jobs : List ℕ) (t : ℕ) (old : List ℕ) (first : 
       next : length jobs - (b + 1) ≡ m
       next = omega (arith, is)
 
-      rest : List Piece
-      rest = begun n before jobs t (at old) m
-
       whole : pieces ++ (cond (eqb (at jobs m) (at before m)) [] (part_on n m (at jobs m) t (at old m)) ++ begun n before jobs t (at old) m) ≡ first ++ begun n before jobs t (at old) (length jobs)
       whole = ap (λ k. pieces ++ begun n before jobs t (at old) k) (sym now) ∙ s.laid
 
