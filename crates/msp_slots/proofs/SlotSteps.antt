@@ -4,7 +4,7 @@ use Rattle.std.proofs.Common.{Contains, IsPermutation, refl, sym, ap, ap₂, sub
 use Rattle.std.specs.Prelude.{◌==◌, ◌||◌}
 use Rattle.std.specs.List.{list_any}
 use Rattle.std.proofs.lemmas.Bool.{false≢true, ltb-true}
-use Rattle.std.proofs.lemmas.List.{take_more, take_all, length-append, length-take, get_or_append_left, get_or-append_right, get_or_default}
+use Rattle.std.proofs.lemmas.List.{take_more, take_all, length-append, length-take, get_or_append_left, get_or_default, get_or_push}
 use Rattle.std.proofs.lemmas.List.Elements.{All-head, All-tail, All-push, All-contains, Contains-get_or, Contains-append_left, Contains-append_right}
 use Rattle.std.proofs.lemmas.List.Quantifiers.{all_pairs_push}
 use Rattle.std.proofs.lemmas.List.Sorted.{list_any-IsPermutation, All-permutation, Contains-permutation, IsPermutation-refl, IsPermutation-sym, IsPermutation-trans}
@@ -29,11 +29,8 @@ stands-last xs a j (k, l, e) = (
   omega (arith, length-append xs (j ∷ [])),
   get_or_append_left xs (j ∷ []) 0 k l ∙ get_or_default xs k 0 a l
       ∙ e,
-  get_or-append_right xs (j ∷ []) (length xs) (length xs) 0 refl (omega arith) ∙ ap (λ i. get_or (j ∷ []) i 0) (same (length xs)),
+  get_or_push xs j 0 (length xs) refl,
 )
-  where
-    same : (k : ℕ) → k - k ≡ 0
-    same k = omega arith
 
 -- ---- one more job
 pub IsSlot-none : (blocked : ℕ → Bool) (machines : ℕ) → IsSlot [] blocked machines [] []

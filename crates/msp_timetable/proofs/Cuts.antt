@@ -1,11 +1,12 @@
 -- A slice is taken off the square, row after row.
 use Rattle.std.proofs.Common.{◌≡◌, ◌≢◌, ℕ, ◌+◌, ◌-◌, ◌*◌, ◌<◌, ◌≤◌, ◌⊎◌, inl, inr, refl, List, true, false, ltb, length, set, cond, sym, ap, subst, ◌∙◌, arith}
-use Rattle.std.proofs.lemmas.Bool.{eq-eqb, ne_eqb}
+use Rattle.std.proofs.lemmas.Bool.{eq-eqb, ne_eqb, lt-ltb, le-ltb}
 use Rattle.std.proofs.lemmas.Bool.Decides.{nat_tests}
 use Rattle.msp_matching.specs.Passing.{at}
 use Rattle.msp_timetable.specs.declared.square.Square.{Square}
 use Rattle.msp_timetable.specs.Square.{cell_at, stocks, used, used_at, given_share, padding_share, IsSquare, IsPermuted, IsTaken, IsCut}
-use Rattle.msp_timetable.proofs.Places.{cell-same, cell-other, stocks-set, positive-one, cond-one, ltb-yes, ltb-no}
+use Rattle.msp_timetable.proofs.Places.{cell-same, cell-other, stocks-set, positive-one}
+use Rattle.msp_class.proofs.Sums.{cond-le}
 
 -- one list of stocks: some rows have lost their shares, and the next one
 module _ (n : ℕ) (column : List ℕ) (p : IsPermuted n column) (base now next : List ℕ) (share : ℕ → ℕ → ℕ) (k : ℕ) (lk : k < n) (size : length now ≡ n * n)
@@ -13,7 +14,7 @@ module _ (n : ℕ) (column : List ℕ) (p : IsPermuted n column) (base now next 
     (h : (r c : ℕ) → r < n → c < n → cell_at n now r c + cond (ltb r k) (share r c) 0 ≡ cell_at n base r c) where
   -- the row is as it was
   pub row-now : (c : ℕ) → c < n → cell_at n now k c ≡ cell_at n base k c
-  row-now c l = omega (arith, h k c lk l, ap (λ b. cond b (share k c) 0) (ltb-no k k (omega arith)))
+  row-now c l = omega (arith, h k c lk l, ap (λ b. cond b (share k c) 0) (le-ltb k k (omega arith)))
 
   module _ (v : ℕ) (taken : v + share k (at column k) ≡ cell_at n base k (at column k)) (e : next ≡ set now (k * n + at column k) v) where
     lj : at column k < n
@@ -72,7 +73,7 @@ module _ (s : Square) (column : List ℕ) (p : IsPermuted s.size column) (d low 
     count-next a b c u v t lu lv z q f = grind (arith, nat_tests)
 
     one_of : (x : ℕ) → x ≡ 0 → 0 + cond (ltb 0 x) 1 0 ≡ 0 + 0
-    one_of x e = ap (λ m. 0 + cond m 1 0) (ltb-no 0 x (omega arith))
+    one_of x e = ap (λ m. 0 + cond m 1 0) (le-ltb 0 x (omega arith))
 
     module _ (next : Square) (positive : 0 < d) (enough : d ≤ used_at s column k) (tight : low ≡ k → used_at s column k ≡ d) (t : IsTaken now next k (at column k) d) where
       a : ℕ
@@ -84,7 +85,7 @@ module _ (s : Square) (column : List ℕ) (p : IsPermuted s.size column) (d low 
       from_given : 0 < cell_at s.size now.given.items k (at column k) → next.given.items ≡ set now.given.items (k * s.size + at column k) (cell_at s.size now.given.items k (at column k) - d)
           → next.padding.items ≡ now.padding.items → IsCutting s column d low next (k + 1)
       from_given w e f =
-          let yes : ltb 0 (cell_at s.size s.given.items k (at column k)) ≡ true = ltb-yes 0 (cell_at s.size s.given.items k (at column k)) (omega (arith, now_given)) in
+          let yes : ltb 0 (cell_at s.size s.given.items k (at column k)) ≡ true = lt-ltb 0 (cell_at s.size s.given.items k (at column k)) (omega (arith, now_given)) in
           let is : used_at s column k ≡ cell_at s.size s.given.items k (at column k) =
           ap (λ v. cond v (cell_at s.size s.given.items k (at column k)) (cell_at s.size s.padding.items k (at column k))) yes in
           let here : given_share s column d k (at column k) ≡ d = given_here k ∙ ap (λ v. cond v d 0) yes in
@@ -95,7 +96,7 @@ module _ (s : Square) (column : List ℕ) (p : IsPermuted s.size column) (d low 
           let given_count : stocks next.given.items ≡ stocks (set now.given.items (k * s.size + at column k) v) = ap stocks e in
           let more = count-next (stocks (set now.given.items (k * s.size + at column k) v)) (stocks now.given.items) (stocks now.padding.items)
           (cond (ltb 0 (cell_at s.size now.given.items k (at column k))) 1 0) (cond (ltb 0 v) 1 0) (stocks s.given.items + stocks s.padding.items)
-          (positive-one (cell_at s.size now.given.items k (at column k)) w) (cond-one (ltb 0 v)) (λ q. omega (arith, lost q)) count h.fewer in
+          (positive-one (cell_at s.size now.given.items k (at column k)) w) (cond-le (ltb 0 v) 1) (λ q. omega (arith, lost q)) count h.fewer in
           record {
             square = t.square;
             size = t.size ∙ h.size;
@@ -109,7 +110,7 @@ module _ (s : Square) (column : List ℕ) (p : IsPermuted s.size column) (d low 
       from_padding : cell_at s.size now.given.items k (at column k) ≡ 0 → next.given.items ≡ now.given.items
           → next.padding.items ≡ set now.padding.items (k * s.size + at column k) (cell_at s.size now.padding.items k (at column k) - d) → IsCutting s column d low next (k + 1)
       from_padding w f e =
-          let no : ltb 0 (cell_at s.size s.given.items k (at column k)) ≡ false = ltb-no 0 (cell_at s.size s.given.items k (at column k)) (omega (arith, now_given)) in
+          let no : ltb 0 (cell_at s.size s.given.items k (at column k)) ≡ false = le-ltb 0 (cell_at s.size s.given.items k (at column k)) (omega (arith, now_given)) in
           let is : used_at s column k ≡ cell_at s.size s.padding.items k (at column k) =
           ap (λ v. cond v (cell_at s.size s.given.items k (at column k)) (cell_at s.size s.padding.items k (at column k))) no in
           let here : padding_share s column d k (at column k) ≡ d = padding_here k ∙ ap (λ v. cond v 0 d) no in
@@ -121,7 +122,7 @@ module _ (s : Square) (column : List ℕ) (p : IsPermuted s.size column) (d low 
           let more = count-next (stocks (set now.padding.items (k * s.size + at column k) v)) (stocks now.padding.items) (stocks now.given.items)
           (cond (ltb 0 (cell_at s.size now.padding.items k (at column k))) 1 0) (cond (ltb 0 v) 1 0) (stocks s.given.items + stocks s.padding.items)
           (positive-one (cell_at s.size now.padding.items k (at column k)) (omega (arith, now_padding, is, enough, positive)))
-          (cond-one (ltb 0 v)) (λ q. omega (arith, lost q)) count (omega (arith, h.fewer)) in
+          (cond-le (ltb 0 v) 1) (λ q. omega (arith, lost q)) count (omega (arith, h.fewer)) in
           record {
             square = t.square;
             size = t.size ∙ h.size;
@@ -151,16 +152,16 @@ module _ (s : Square) (column : List ℕ) (p : IsPermuted s.size column) (d low 
   IsCutting-start q = record {
     square = q;
     size = refl;
-    given = λ r c lr lc. omega (arith, ap (λ b. cond b (given_share s column d r c) 0) (ltb-no r 0 (omega arith)));
-    padding = λ r c lr lc. omega (arith, ap (λ b. cond b (padding_share s column d r c) 0) (ltb-no r 0 (omega arith)));
-    fewer = let z : 0 + cond (ltb low 0) 1 0 ≡ 0 + 0 = ap (λ m. 0 + cond m 1 0) (ltb-no low 0 (omega arith)) in omega (arith, z);
+    given = λ r c lr lc. omega (arith, ap (λ b. cond b (given_share s column d r c) 0) (le-ltb r 0 (omega arith)));
+    padding = λ r c lr lc. omega (arith, ap (λ b. cond b (padding_share s column d r c) 0) (le-ltb r 0 (omega arith)));
+    fewer = let z : 0 + cond (ltb low 0) 1 0 ≡ 0 + 0 = ap (λ m. 0 + cond m 1 0) (le-ltb low 0 (omega arith)) in omega (arith, z);
   }
 
   pub IsCut-end : (now : Square) → low < s.size → IsCutting s column d low now s.size → IsCut s now column d
   IsCut-end now l h = record {
     square = h.square;
     size = h.size;
-    given = λ r c lr lc. omega (arith, h.given r c lr lc, ap (λ b. cond b (given_share s column d r c) 0) (ltb-yes r s.size lr));
-    padding = λ r c lr lc. omega (arith, h.padding r c lr lc, ap (λ b. cond b (padding_share s column d r c) 0) (ltb-yes r s.size lr));
-    fewer = let z : 0 + cond (ltb low s.size) 1 0 ≡ 0 + 1 = ap (λ m. 0 + cond m 1 0) (ltb-yes low s.size l) in omega (arith, h.fewer, z);
+    given = λ r c lr lc. omega (arith, h.given r c lr lc, ap (λ b. cond b (given_share s column d r c) 0) (lt-ltb r s.size lr));
+    padding = λ r c lr lc. omega (arith, h.padding r c lr lc, ap (λ b. cond b (padding_share s column d r c) 0) (lt-ltb r s.size lr));
+    fewer = let z : 0 + cond (ltb low s.size) 1 0 ≡ 0 + 1 = ap (λ m. 0 + cond m 1 0) (lt-ltb low s.size l) in omega (arith, h.fewer, z);
   }

@@ -7,14 +7,15 @@ use Rattle.std.proofs.lemmas.Int.{ints}
 use Rattle.std.proofs.lemmas.List.{get_or-set_same, get_or-set_other, length-set}
 use Rattle.msp_class.specs.declared.sizes.TheConstants.{MOST_JOBS}
 use Rattle.msp_class.specs.Sums.{total_below}
-use Rattle.msp_class.proofs.Sums.{total_below-add, total_below-same, total_below-none, total_below-only, total_below-exchange, total_below-term, int_total_below-natural}
+use Rattle.msp_class.proofs.Sums.{total_below-add, total_below-same, total_below-none, total_below-only, total_below-exchange, total_below-term, int_total_below-natural, cond-le}
 use Rattle.msp_matching.specs.Passing.{at}
 use Rattle.msp_class.proofs.Cases.{same_or_not, less_or_not}
+use Rattle.msp_class.proofs.IntegerRing.{natural}
 use Rattle.msp_timetable.specs.declared.matrix.Matrix.{Matrix}
 use Rattle.msp_timetable.specs.declared.square.Square.{Square}
 use Rattle.msp_timetable.specs.Split.{cell, row_sum, column_sum, greatest_sum, IsMatrix, IsGreatestSum}
 use Rattle.msp_timetable.specs.Square.{cell_at, stocks, row_total, column_total, IsSpreadRow, IsSpread, HasSmallLines, IsGreatest, IsLacking, IsPadding, IsFilled, IsCornerFilled}
-use Rattle.msp_timetable.proofs.Places.{cell-same, cell-other, stocks-set, cond-one}
+use Rattle.msp_timetable.proofs.Places.{cell-same, cell-other, stocks-set}
 
 -- ---- the matrix is copied
 pub record IsSpreading (n : ℕ) (m : Matrix) (row : ℕ) (old now : List ℕ) (k : ℕ) : Type 0 where
@@ -22,9 +23,6 @@ pub record IsSpreading (n : ℕ) (m : Matrix) (row : ℕ) (old now : List ℕ) (
   pub cells : (c : ℕ) → c < k → pos (cell_at n now row c) ≡ cell m row c
   pub others : (r c : ℕ) → r < n → c < n → (r ≢ row) ⊎ (k ≤ c) → cell_at n now r c ≡ cell_at n old r c
   pub few : stocks now ≤ stocks old + k
-
-abs-is : (z : ℤ) → pos 0 ≤ℤ z → pos (nat_abs z) ≡ z
-abs-is z l = omega (arith, ints)
 
 pub IsSpreading-next : (n : ℕ) (m : Matrix) (row : ℕ) (old now : List ℕ) (k : ℕ) → length old ≡ n * n
     → row < n → k < n → IsSpreading n m row old now k → (v : ℕ) → pos v ≡ cell m row k → IsSpreading n m row old (set now (row * n + k) v) (k + 1)
@@ -34,21 +32,15 @@ IsSpreading-next n m row old now k size lr lk h v e = record {
     | inl q ↦ subst (λ x. pos (cell_at n (set now (row * n + k) v) row x) ≡ cell m row x) (sym q) (ap pos (cell-same n now row k v here lr lk) ∙ e)
     | inr q ↦ ap pos (cell-other n now row k v here lr lk row c (omega (arith, lk)) (inr q)) ∙ h.cells c (omega arith)
   ];
-  others = λ r c a b q. cell-other n now row k v here lr lk r c b (other r c q) ∙ h.others r c a b (weaker r c q);
-  few = let s = stocks-set n now row k v here lr lk in let o = cond-one (ltb 0 v) in omega (arith, s, o, h.few);
+  others = λ r c a b q. cell-other n now row k v here lr lk r c b (grind arith) ∙ h.others r c a b (grind arith);
+  few = let s = stocks-set n now row k v here lr lk in let o = cond-le (ltb 0 v) 1 in omega (arith, s, o, h.few);
 }
   where
     here : length now ≡ n * n
     here = h.size ∙ size
 
-    other : (r c : ℕ) → (r ≢ row) ⊎ (k + 1 ≤ c) → (r ≢ row) ⊎ (c ≢ k)
-    other r c q = grind arith
-
-    weaker : (r c : ℕ) → (r ≢ row) ⊎ (k + 1 ≤ c) → (r ≢ row) ⊎ (k ≤ c)
-    weaker r c q = grind arith
-
 pub cell-abs : (m : Matrix) (r c : ℕ) → IsMatrix m → r < m.rows → c < m.columns → pos (nat_abs (cell m r c)) ≡ cell m r c
-cell-abs m r c h lr lc = abs-is (cell m r c) (h.cells r c lr lc)
+cell-abs m r c h lr lc = sym (natural (cell m r c) (h.cells r c lr lc))
 
 -- the rows before k are copied
 pub record IsSpreadBelow (n : ℕ) (m : Matrix) (now : List ℕ) (k : ℕ) : Type 0 where
@@ -65,15 +57,9 @@ IsSpreadBelow-next n m now next k a b lk h s = record {
     | inl q ↦ subst (λ x. pos (cell_at n next x c) ≡ cell m x c) (sym q) (s.cells c lc)
     | inr q ↦ ap pos (s.others r c (omega (arith, lk, a)) (omega (arith, lc, b)) (inl q)) ∙ h.cells r c (omega arith) lc
   ];
-  outside = λ r c lr lc q. s.others r c lr lc (other r c q) ∙ h.outside r c lr lc (weaker r c q);
+  outside = λ r c lr lc q. s.others r c lr lc (grind arith) ∙ h.outside r c lr lc (grind arith);
   few = omega (arith, s.few, h.few);
 }
-  where
-    other : (r c : ℕ) → (k + 1 ≤ r) ⊎ (m.columns ≤ c) → (r ≢ k) ⊎ (m.columns ≤ c)
-    other r c q = grind arith
-
-    weaker : (r c : ℕ) → (k + 1 ≤ r) ⊎ (m.columns ≤ c) → (k ≤ r) ⊎ (m.columns ≤ c)
-    weaker r c q = grind arith
 
 -- ---- lines
 pub total_below-part : (n k : ℕ) (f : ℕ → ℕ) → k < n → total_below k f + f k ≤ total_below n f
@@ -197,7 +183,7 @@ module _ (n : ℕ) (rows columns : List ℕ) where
     few_more =
         let v = cell_at n padding i j + s.both in
         let c = stocks-set n padding i j v h.size li lj in
-        let o = cond-one (ltb 0 v) in
+        let o = cond-le (ltb 0 v) 1 in
         let q : stocks padding2 ≡ stocks (set padding (i * n + j) v) = ap stocks s.padding in
         omega (arith, c, o, q, h.few)
 
