@@ -18,10 +18,11 @@ use Rattle.msp_grammar.specs.declared.lines.fault.FileFault.TheVariants.{Count, 
 use Rattle.msp_grammar.specs.InstanceText.{line_text, where_wanted, step_fields, curve_fields}
 use Rattle.msp_grammar.specs.lines.Reading.{Place, worded_at, natural_at, integer_at}
 use Rattle.msp_file.specs.instance.Reading.{steps_at, curve_fields_at, steps_in, curve_line_at, curve_at}
-use Rattle.msp_grammar.proofs.reading.LineLaws.{bind_ok, provided_ok, ok_is, Takes, Gets, IsField, worded_takes, worded_again, reads, bind_again, provided_again}
+use Rattle.msp_grammar.proofs.reading.LineLaws.{bind_ok, provided_ok, ok_is, Takes, Gets, IsField, worded_takes, worded_again, bind_again, provided_again}
 use Rattle.msp_grammar.proofs.reading.FieldLaws.{natural_takes, natural_again, natural_field, integer_takes, integer_again, integer_field}
 use Rattle.msp_file.proofs.instances.KeyLaws.{limit}
-use Rattle.msp_file.proofs.instances.NeedLaws.{two_parts, word_field}
+use Rattle.msp_grammar.proofs.reading.CostLaws.{plain_word}
+use Rattle.msp_file.proofs.instances.NeedLaws.{two_parts, none_takes, none_again}
 
 -- A step in range.
 abbrev IsStep : Step → Type 0
@@ -115,7 +116,7 @@ curve_line_takes p x e =
 curve_line_again : (at : ℕ) (v : Curve) (rest : List ℕ) → IsCurve text_limits v → Gets (curve_line_at (record { at = at; rest = line_text (curve_fields v) ++ rest })) v rest
 unfolding curve_line_at
 curve_line_again at v rest h =
-    let fields : AllByRecursion IsField (curve_fields v) = (word_field (codes "curve") refl refl, (natural_field v.slope h.slope, (integer_field v.base h.base, steps_fields v.steps h.steps))) in
+    let fields : AllByRecursion IsField (curve_fields v) = (plain_word (codes "curve") refl refl, (natural_field v.slope h.slope, (integer_field v.base h.base, steps_fields v.steps h.steps))) in
     let line = worded_again (codes "curve") (curve_words v) at rest fields in
     let counted = length-steps v.steps in (
       line.0,
@@ -137,26 +138,20 @@ curve_line_again at v rest h =
 abbrev pub curve_line : Crit → Curve → List ℕ
 curve_line crit v = where_wanted (uses_curve crit) (line_text (curve_fields v))
 
-none_takes : (p : Place) (x : Curve × Place) → reads (no_curve, p) ≡ Ok x → Takes p [] x.1 × (x.0 ≡ no_curve)
-none_takes p x e = subst (λ (y : Curve × Place). Takes p [] y.1 × (y.0 ≡ no_curve)) (ok_is (no_curve, p) x e) (refl, refl)
-
 curve_by_takes : (curved : Bool) (p : Place) (x : Curve × Place) → (if curved then curve_line_at p else Ok (no_curve, p)) ≡ Ok x
     → Takes p (where_wanted curved (line_text (curve_fields x.0))) x.1 × HasCurve text_limits curved x.0
 curve_by_takes true p x e = curve_line_takes p x e
-curve_by_takes false p x e = none_takes p x e
+curve_by_takes false p x e = none_takes no_curve p x e
 
 pub curve_takes : (crit : Crit) (p : Place) (x : Curve × Place) → curve_at crit p ≡ Ok x → Takes p (curve_line crit x.0) x.1 × HasCurve text_limits (uses_curve crit) x.0
 unfolding curve_at
 curve_takes crit p x e = curve_by_takes (uses_curve crit) p x e
 
-none_again : (at : ℕ) (v : Curve) (rest : List ℕ) → v ≡ no_curve → Gets (reads (no_curve, record { at = at; rest = rest })) v rest
-none_again at v rest e = (at, ap (λ c. reads (c, record { at = at; rest = rest })) (sym e))
-
 curve_by_again : (curved : Bool) (at : ℕ) (v : Curve) (rest : List ℕ) → HasCurve text_limits curved v
     → Gets {A = Curve} (if curved then curve_line_at (record { at = at; rest = where_wanted curved (line_text (curve_fields v)) ++ rest }) else Ok
     (no_curve, record { at = at; rest = where_wanted curved (line_text (curve_fields v)) ++ rest })) v rest
 curve_by_again true at v rest h = curve_line_again at v rest h
-curve_by_again false at v rest h = none_again at v rest h
+curve_by_again false at v rest h = none_again no_curve v at rest h
 
 pub curve_again : (crit : Crit) (at : ℕ) (v : Curve) (rest : List ℕ) → HasCurve text_limits (uses_curve crit) v → Gets (curve_at crit (record { at = at; rest = curve_line crit v ++ rest })) v rest
 unfolding curve_at

@@ -1,7 +1,7 @@
 -- The flags of arcs.
 use Rattle.std.proofs.Common.{◌≡◌, ◌≢◌, ℕ, ◌+◌, ◌-◌, ◌*◌, ◌<◌, ◌≤◌, Bool, true, false, ◌&&◌, ◌||◌, ◌==◌, ltb, ltb-true, List, [], ◌∷◌, ◌++◌, length, replicate, refl, sym, ap, ◌∙◌, arith}
 use Rattle.std.proofs.Math.ListN.{set}
-use Rattle.std.proofs.lemmas.Bool.{and_parts, eqb-true, eqb-false, eq-eqb, ltb-false}
+use Rattle.std.proofs.lemmas.Bool.{and_parts, eqb-true, eqb-false, eq-eqb, ltb-false, or_left, or_right, false_from_ne_true}
 use Rattle.std.proofs.lemmas.List.{get_or-set_same, get_or-set_other, get_or_append_left, get_or-append_right, get_or-replicate, get_or_past, length-replicate}
 use Rattle.std.proofs.lemmas.List.Folds.{list_any-append}
 use Rattle.msp_class.specs.declared.sizes.TheConstants.{MOST_JOBS}
@@ -38,16 +38,8 @@ ends_found : (a b x y : ℕ) → a ≡ x → b ≡ y → ((a == x) && (b == y)) 
 ends_found a b x y e f = rw (eq-eqb a x e, eq-eqb b y f) refl
 
 ends_missed : (a b x y : ℕ) → flag_place x y ≢ flag_place a b → ((a == x) && (b == y)) ≡ false
-ends_missed a b x y other = by ((a == x) && (b == y)) refl
-  where
-    by : (t : Bool) → ((a == x) && (b == y)) ≡ t → t ≡ false
-    by true e = let both = and_parts (a == x) (b == y) e in let p = eqb-true a x both.0 in let q = eqb-true b y both.1 in absurd (other (omega arith))
-    by false e = refl
-
-or_true : (s t : Bool) → t ≡ true → (s || (t || false)) ≡ true
-or_true true t e = refl
-or_true false true e = refl
-or_true false false e = absurd cc
+ends_missed a b x y other = false_from_ne_true _ (λ e.
+    let both = and_parts (a == x) (b == y) e in let p = eqb-true a x both.0 in let q = eqb-true b y both.1 in absurd (other (omega arith)))
 
 or_false : (s t : Bool) → t ≡ false → (s || (t || false)) ≡ s
 or_false true t e = refl
@@ -67,7 +59,7 @@ arc_flagged arcs flags arc h low high room x y within inside = by (flag_place x 
         let ends = same_ends arc.before arc.after x y low high within inside same in
         ap (flag_at (set flags (flag_place arc.before arc.after) true)) same
         ∙ get_or-set_same flags (flag_place arc.before arc.after) true false (omega arith)
-        ∙ sym (or_true (is_arc_among arcs x y) ((arc.before == x) && (arc.after == y)) (ends_found arc.before arc.after x y ends.0 ends.1))
+        ∙ sym (or_right (is_arc_among arcs x y) _ (or_left _ false (ends_found arc.before arc.after x y ends.0 ends.1)))
         ∙ sym one_more
     by false e =
         let other = eqb-false (flag_place x y) (flag_place arc.before arc.after) e in

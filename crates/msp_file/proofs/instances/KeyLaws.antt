@@ -1,7 +1,7 @@
 -- The first line of a job: the name and the keys that are read are those that were written, and what was written is read again.
 use Rattle.std.proofs.Common.{◌≡◌, ℕ, ◌≤◌, Bool, true, false, ◌&&◌, ◌==◌, List, [], ◌∷◌, ◌++◌, Ok, ℤ, pos, refl, sym, ap, subst, ◌∙◌, decimal, suc, ◌+◌, not, length, Contains, bytes_eq, arith}
 use Rattle.std.specs.Fmt.{signed_decimal}
-use Rattle.std.proofs.lemmas.Bool.{and_parts, eqb-true, eq-eqb}
+use Rattle.std.proofs.lemmas.Bool.{and_parts, eqb-true, eq-eqb, not-true, not_from_false, false_from_ne_true}
 use Rattle.msp_instance.specs.Conditions.{LiesWithin}
 use Rattle.msp_class.specs.declared.sizes.TheConstants.{GREATEST}
 use Rattle.msp_grammar.specs.declared.lines.fault.FileFault.TheVariants.{Key, Count, Again}
@@ -172,14 +172,10 @@ job_line_takes c at names (w ∷ ws) x e =
     let nothing : keyed.0 ≡ [] = nil_from_length keyed.0 (counted (length ws) (count_of_keys c) (length keyed.0) g.0 (ap length keyed.1 ∙ length_keys c b.0 keyed.0)) in
     let text : w ∷ ws ≡ a.0 ∷ key_words c b.0 [] = cc (named.0, keyed.1 ∙ ap (key_words c b.0) nothing) in
     subst (λ (y : List ℕ × Keys). (w ∷ ws ≡ y.0 ∷ key_words c y.1 []) × IsJobName y.0 × (¬ Contains names y.0) × AreKeys c y.1)
-    (ok_is (a.0, b.0) x last.1) (text, named.1, not_among names a.0 (flip (list_any (bytes_eq a.0) names) last.0), keyed.2)
+    (ok_is (a.0, b.0) x last.1) (text, named.1, not_among names a.0 (not-true (list_any (bytes_eq a.0) names) last.0), keyed.2)
   where
     counted : (n k m : ℕ) → (suc n == 1 + k) ≡ true → n ≡ k + m → m ≡ 0
     counted n k m h e = let same = eqb-true (suc n) (1 + k) h in omega arith
-
-    flip : (t : Bool) → not t ≡ true → t ≡ false
-    flip true h = absurd cc
-    flip false h = refl
 
 pub job_line_again : (c : Class) (at : ℕ) (names : List (List ℕ)) (name : List ℕ) (k : Keys)
     → IsJobName name → ¬ Contains names name → AreKeys c k → job_line_at c at names (name ∷ key_words c k []) ≡ Ok (name, k)
@@ -188,14 +184,10 @@ job_line_again c at names name k spelled fresh h =
     provided_again _ _ _ _ (eq-eqb _ _ (counted _ _ (length_keys c k []))) (
     bind_again _ _ _ _ (name_again at name spelled) (
     bind_again _ _ _ _ (keys_again c at k [] h) (
-    provided_again _ _ _ _ (by (list_any (bytes_eq name) names) refl) refl)))
+    provided_again _ _ _ _ (not_from_false _ (false_from_ne_true _ (λ e. fresh (is_among names name e)))) refl)))
   where
     counted : (n k : ℕ) → n ≡ k + 0 → suc n ≡ 1 + k
     counted n k e = omega arith
-
-    by : (t : Bool) → list_any (bytes_eq name) names ≡ t → not t ≡ true
-    by true e = absurd (fresh (is_among names name e))
-    by false e = refl
 
 -- the fields of the keys can stand in a line
 key_field : (there : Bool) (letter : ℕ) (text : List ℕ) (more : List (List ℕ)) → (letter == 32) ≡ false → (letter == 10) ≡ false → (there ≡ true → IsField text) → AllByRecursion IsField more

@@ -2,7 +2,7 @@
 use Rattle.std.proofs.Common.{◌≡◌, ◌≢◌, ℕ, zero, suc, ◌+◌, ◌<◌, ◌⊎◌, inl, inr, ◌==◌, ◌&&◌, ◌||◌, true, false, Bool, List, [], ◌∷◌, ◌++◌, length, get_or, take, All, AllPairs}
 use Rattle.std.proofs.Common.{Contains, refl, sym, ap, ◌∙◌, subst, arith, length-append}
 use Rattle.std.specs.List.{list_any}
-use Rattle.std.proofs.lemmas.Bool.{cases_Bool, cases_lt, eqb-true, eq-eqb, and_parts, or_cases, false≢true}
+use Rattle.std.proofs.lemmas.Bool.{cases_Bool, cases_lt, eqb-true, eq-eqb, and_parts, or_cases, or_left, or_right, false≢true}
 use Rattle.std.proofs.lemmas.List.{take_all, take-append-le, get_or_append_left, get_or-append-add}
 use Rattle.std.proofs.lemmas.List.Elements.{All-nil, All-push, All-contains}
 use Rattle.std.proofs.lemmas.List.Sorted.{IsPermutation-refl}
@@ -18,7 +18,7 @@ use Rattle.msp_instance.proofs.OrderLemmas.{Contains-from_waiting, waiting-some}
 use Rattle.msp_instance.proofs.SearchLemmas.{HasPath-push, HasPath-closed}
 use Rattle.msp_instance.proofs.CycleLemmas.{IsSequence-from_longest, GoesForward-from_longest, cycle_from_short}
 use Rattle.msp_file.proofs.instances.Apart.{apart_push}
-use Rattle.msp_file.proofs.instances.Deciding.{Told, both, unless, equal_told, true_told, false_told, first_broken, some_below, or_right, or_left}
+use Rattle.msp_file.proofs.instances.Deciding.{Told, both, unless, equal_told, true_told, false_told, first_broken, some_below}
 
 not_in : (xs : List ℕ) (k : ℕ) → list_any (λ x. x == k) xs ≡ false → ¬ Contains xs k
 not_in xs k e c = false≢true (sym e ∙ list_any-from_Contains xs k c)

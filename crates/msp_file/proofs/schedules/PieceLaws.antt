@@ -48,8 +48,7 @@ five_fields : (fields : List (List ℕ)) → (length fields == 5) ≡ true
     → fields ≡ first_of fields ∷ first_of (others_of fields) ∷ first_of (others_of (others_of fields))
     ∷ first_of (others_of (others_of (others_of fields))) ∷ first_of (others_of (others_of (others_of (others_of fields)))) ∷ []
 five_fields (a ∷ b ∷ c ∷ d ∷ e ∷ []) h = refl
-five_fields (a ∷ b ∷ c ∷ d ∷ e ∷ f ∷ fs) h = absurd (omega (arith, eqb-true _ _ h))
-five_fields _ h = absurd cc
+five_fields fields h = absurd (omega (arith, eqb-true (length fields) 5 h))
 
 -- What the fields of a piece say.
 pub record SaysPiece (names : List (List ℕ)) (fields : List (List ℕ)) (x : Piece) : Type 0 where

@@ -1,10 +1,10 @@
 -- A field that is read is the field that was written, and what was written is read again.
-use Rattle.std.proofs.Common.{◌≡◌, ◌≢◌, ℕ, suc, ◌<◌, ◌≤◌, ◌^◌, Bool, true, false, ◌&&◌, ◌||◌, ◌==◌, nat_le, List, [], ◌∷◌, length, get_or, position, bytes_eq, Option, Some, None}
+use Rattle.std.proofs.Common.{◌≡◌, ℕ, suc, ◌<◌, ◌≤◌, ◌^◌, Bool, true, false, ◌&&◌, ◌||◌, ◌==◌, nat_le, List, [], ◌∷◌, length, get_or, position, bytes_eq, Option, Some, None}
 use Rattle.std.proofs.Common.{ok_or, Ok, ℤ, pos, negsuc, unsigned_abs, All, refl, sym, ap, subst, ◌∙◌, arith, decimal, ◌++◌, ◌+◌, ◌-◌}
 use Rattle.std.specs.Char.{is_ascii_digit}
 use Rattle.std.specs.Fmt.{signed_decimal}
 use Rattle.std.specs.List.{list_all, list_any, position_or_len}
-use Rattle.std.proofs.lemmas.Bool.{and_parts, eqb-true, leb-true, le-leb, lt-ltb}
+use Rattle.std.proofs.lemmas.Bool.{and_parts, eqb-true, leb-true, le-leb, lt-ltb, false_from_ne_true}
 use Rattle.std.proofs.lemmas.Int.{ints}
 use Rattle.std.proofs.lemmas.Fmt.{decimal_is_IsNumeral_wide}
 use Rattle.std.proofs.lemmas.Slice.Eq.{bytes_eq-Decides}
@@ -164,18 +164,11 @@ known_takes at names w k e =
     let there = position-Some (bytes_eq b.0) names k [] found in
     ((name_takes at w b.0 b.1).0 ∙ same_bytes b.0 (get_or names k []) there.1, there.0)
 
-differs : (a b : List ℕ) → a ≢ b → bytes_eq b a ≡ false
-differs a b h = by (bytes_eq b a) refl
-  where
-    by : (t : Bool) → bytes_eq b a ≡ t → t ≡ false
-    by true e = absurd (h (sym (same_bytes b a e)))
-    by false e = refl
-
 -- a name of distinct ones is found at its place
 found_again : (names : List (List ℕ)) (k : ℕ) → AreDistinct names → k < length names → position (bytes_eq (get_or names k [])) names ≡ Some k
 found_again names k apart h =
     let place : position_or_len (bytes_eq (get_or names k [])) names ≡ k = position_or_len_is (bytes_eq (get_or names k [])) names k [] (omega arith)
-    (λ j before. differs (get_or names j []) (get_or names k []) (apart j k [] before h)) (λ within. (bytes_eq-Decides (get_or names k []) (get_or names k [])).1 refl) in
+    (λ j l. false_from_ne_true _ (λ e. apart j k [] l h (sym (same_bytes _ _ e)))) (λ within. (bytes_eq-Decides (get_or names k []) (get_or names k [])).1 refl) in
     rw (place, lt-ltb k (length names) h) refl
 
 pub known_again : (at : ℕ) (names : List (List ℕ)) (k : ℕ) → AreDistinct names → All IsJobName names → k < length names → known_at at names (name_at names k) ≡ Ok k
