@@ -112,20 +112,14 @@ group : (i : Instance) (jobs : List ℕ) (num : ℤ) (den : ℕ) (s : Schedule) 
     → (1 ≤ den) × ((num *ℤ s.unit) ≤ℤ (cost_of i s *ℤ pos den))
 group i jobs num den s c g e v f =
     let (t, above) = fastest_above i (length jobs) den g.some v in
-    let room = law_of_speeds.room i s (among i jobs g.inside g.apart) t (cost_of i s) g.speeds f (nonneg i s c f g.makespan) (λ j l _. ends i s c f g.makespan j l) in (
+    let room = law_of_speeds.room i s (among i jobs g.inside g.apart) t (cost_of i s) g.speeds f (nonneg i s c f g.makespan) (λ j l _. ends i s c f g.makespan j l) in
+    let less = subst (λ n. n * t + speed_above i t ≤ den) (sym (many i jobs g.inside g.apart)) above in
+    let same = *ℤ_comm num s.unit ∙ ap (λ x. s.unit *ℤ x) (e ∙ ap pos (sym (together i jobs g.inside g.apart))) in (
       subst (λ d. 1 ≤ d) (sym v.first) (first_some v.order (length jobs) g.some
           (omega (arith, length_permutation (speeds_of i) v.order v.all, speeds_many i, c.conditions.machines.0))
           (All-permutation (λ x. 1 ≤ x) (speeds_of i) v.order v.all (λ k d l. (speeds_between i c k d l).0))),
-      by t room above,
+      ≤ℤ_trans (≤ℤ_of_same same) (≤ℤ_trans room (*ℤ-mono_nonneg (cost_of i s) (nonneg i s c f g.makespan) (pos-le less))),
     )
-  where
-    by : (t : ℕ) → (s.unit *ℤ pos (time_together i (among i jobs g.inside g.apart))) ≤ℤ (cost_of i s *ℤ pos (jobs_together i (among i jobs g.inside g.apart) * t + speed_above i t))
-        → length jobs * t + speed_above i t ≤ den
-        → (num *ℤ s.unit) ≤ℤ (cost_of i s *ℤ pos den)
-    by t room above =
-        ≤ℤ_trans (≤ℤ_of_same (*ℤ_comm num s.unit ∙ ap (λ x. s.unit *ℤ x) (e ∙ ap pos (sym (together i jobs g.inside g.apart)))))
-        (≤ℤ_trans room
-        (*ℤ-mono_nonneg (cost_of i s) (nonneg i s c f g.makespan) (pos-le (subst (λ n. n * t + speed_above i t ≤ den) (sym (many i jobs g.inside g.apart)) above))))
 
 -- ---- each kind
 value : (i : Instance) (proof : Proof) (num : ℤ) (den : ℕ) (s : Schedule) → InClass i → HoldsFor i proof → IsValue i proof num den → Feasible i s

@@ -17,7 +17,7 @@ use Rattle.msp_cert_text.specs.declared.kinds.TheConstants.{MOST_LINES}
 use Rattle.msp_grammar.specs.InstanceText.{where_wanted}
 use Rattle.msp_cert_text.specs.CertificateText.{column_line, column_lines, IsColumnPrice, lines_text}
 use Rattle.msp_cert_text.specs.Reading.{filled, position_at, column_price_at, price_at, column_added, columns_by, columns_step}
-use Rattle.msp_grammar.specs.lines.Reading.{◌>>=◌, Place, line_at, fields_of, first_of, others_of, machine_at, ordinal_at, LineRead, more_read}
+use Rattle.msp_grammar.specs.lines.Reading.{Place, line_at, fields_of, first_of, others_of, machine_at, ordinal_at, LineRead, more_read}
 use Rattle.msp_grammar.proofs.reading.LineLaws.{bind_ok, provided_ok, reads, ok_is, bind_again, provided_again, IsField, fields_takes, end_text}
 use Rattle.msp_grammar.proofs.reading.Lines.{GetsLines}
 use Rattle.msp_grammar.proofs.reading.FieldLaws.{wide_field, signed_takes, signed_again, signed_field, ordinal_takes, ordinal_again}
@@ -268,10 +268,6 @@ module _ (n machines : ℕ) (narrow : n < 10 ^ 64) (small : machines < 10 ^ 64) 
       let second : k % n < n = mod-lt k some in
       (record { no_space = refl; no_line_feed = refl }, (wide_field (k / n + 1) (omega arith), (wide_field (k % n + 1) (omega arith), (signed_field x (omega arith) price.0, tt))))
 
-  columns_is : (before : ℕ) (xs : List ℤ) (p : Place) → columns_step n machines before xs p ≡ (line_at p >>= λ l. columns_by n machines before xs p.at (fields_of l.0) l.1)
-  unfolding columns_step
-  columns_is before xs p = refl
-
   -- Reading gives prices which, filled up, are these, and leaves the rest.
   record GetsColumns (before : ℕ) (xs : List ℤ) (lines : List (List (List ℕ))) (all : List ℤ) (rest : List ℕ) : Type 0 where
     prices : List ℤ
@@ -281,12 +277,13 @@ module _ (n machines : ℕ) (narrow : n < 10 ^ 64) (small : machines < 10 ^ 64) 
   columns_from : (before : ℕ) (more xs : List ℤ) (gap : ℕ) (rest : List ℕ) → length xs + gap + length more ≡ machines * n → All IsColumnPrice more
       → before + length (column_lines n 0 xs) + length (column_lines n (length xs + gap) more) ≤ MOST_LINES
       → GetsColumns before xs (column_lines n (length xs + gap) more) (xs ++ (replicate gap (pos 0) ++ more)) rest
+  unfolding columns_step
   columns_from before [] xs gap rest total prices room = record {
     prices = xs;
     filled_up =
         let left : machines * n - length xs ≡ gap = omega arith in
         ap (λ m. xs ++ replicate m (pos 0)) left ∙ ap (λ ys. xs ++ ys) (sym (append-nil (replicate gap (pos 0))));
-    gets = λ at. end_on (columns_step n machines before) (columns_by n machines before) (columns_is before) xs at rest (λ q. refl);
+    gets = λ at. end_on (columns_step n machines before) (columns_by n machines before) (λ d p. refl) xs at rest (λ q. refl);
   }
   columns_from before (pos zero ∷ more) xs gap rest total prices room =
       let place : suc (length xs + gap) ≡ length xs + (gap + 1) = omega arith in
@@ -315,7 +312,7 @@ module _ (n machines : ℕ) (narrow : n < 10 ^ 64) (small : machines < 10 ^ 64) 
       record {
         prices = g.prices;
         filled_up = g.filled_up ∙ all;
-        gets = λ at. line_on (columns_step n machines before) (columns_by n machines before) (columns_is before)
+        gets = λ at. line_on (columns_step n machines before) (columns_by n machines before) (λ d p. refl)
             xs after g.prices (codes "column") (others_of (column_line n k x)) (column_lines n (suc k) more) at rest (column_fields k x inside price (m, refl))
             (λ q. may_again (before + length (column_lines n 0 xs)) (bytes_eq (codes "column") (codes "column"))
             (column_added n machines) xs after at (column_line n k x) q refl (omega (arith, room)) (column_again at k xs x inside later price (m, refl)))

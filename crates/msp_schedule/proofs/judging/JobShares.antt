@@ -4,11 +4,12 @@ use Rattle.std.proofs.Common.{ℤ, pos, ◌*ℤ◌, ◌≤ℤ◌, refl, sym, ap,
 use Rattle.std.specs.Prelude.{◌==◌, ◌&&◌, MatchBool, IfSome, IsTrue, ◌↔◌}
 use Rattle.std.specs.List.{AllWithin}
 use Rattle.std.proofs.lemmas.Bool.{eq-eqb, ne_eqb}
-use Rattle.std.proofs.lemmas.Int.{ints, clamps}
+use Rattle.std.proofs.lemmas.Int.{ints}
 use Rattle.std.specs.Int.{int_max}
 use Rattle.std.proofs.lemmas.List.{take-append-drop, append-nil, length-take, length-drop, get_or-take, get_or-drop}
 use Rattle.std.proofs.lemmas.List.Elements.{All-nil, All-more, All-take, All-filter, All-contains, filter-append, filter_agree, Contains-get_or}
 use Rattle.std.proofs.lemmas.List.Filters.{length-filter_both}
+use Rattle.msp_class.proofs.IntegerRing.{≤ℤ_trans, ≤ℤ-int_max_left, ≤ℤ-int_max_right, int_max-least}
 use Rattle.msp_class.proofs.Sums.{Contains-filter}
 use Rattle.msp_class.specs.Env.{kind_of}
 use Rattle.msp_instance.specs.declared.Instance.{Instance}
@@ -141,21 +142,12 @@ pub earlier_more : (xs : List Piece) (k j o : ℕ) (d p : Piece) (x : ℤ)
     → k < length xs → p ≡ get_or xs k d → (p.job ≡ j) × (p.op < o) → IsEarlierEnd (take k xs) j o x → IsEarlierEnd (take (k + 1) xs) j o (int_max p.to x)
 earlier_more xs k j o d p x h is counts so_far = subst (λ q. (q.job ≡ j) × (q.op < o) → IsEarlierEnd (take (k + 1) xs) j o (int_max q.to x)) (sym is) next counts
   where
-    left : (a x b : ℤ) → b ≤ℤ x → b ≤ℤ int_max a x
-    left a x b h = omega (arith, ints, clamps)
-
-    right : (a x : ℤ) → a ≤ℤ int_max a x
-    right a x = omega (arith, ints, clamps)
-
-    both : (a x b : ℤ) → a ≤ℤ b → x ≤ℤ b → int_max a x ≤ℤ b
-    both a x b h k = omega (arith, ints, clamps)
-
     next : ((get_or xs k d).job ≡ j) × ((get_or xs k d).op < o) → IsEarlierEnd (take (k + 1) xs) j o (int_max (get_or xs k d).to x)
     next c = record {
-      natural = left (get_or xs k d).to x (pos 0) so_far.natural;
+      natural = ≤ℤ_trans so_far.natural (≤ℤ-int_max_right (get_or xs k d).to x);
       bound = All-more (λ q. q.job ≡ j → q.op < o → q.to ≤ℤ int_max (get_or xs k d).to x)
-          xs k d h (λ i f l s t. left (get_or xs k d).to x (get_or (take k xs) i f).to (so_far.bound i f l s t)) (λ s t. right (get_or xs k d).to x);
-      least = λ b n all. let f = fewer (λ q. q.job ≡ j → q.op < o → q.to ≤ℤ b) xs k d h all in both (get_or xs k d).to x b (f.1 c.0 c.1) (so_far.least b n f.0);
+          xs k d h (λ i f l s t. ≤ℤ_trans (so_far.bound i f l s t) (≤ℤ-int_max_right (get_or xs k d).to x)) (λ s t. ≤ℤ-int_max_left (get_or xs k d).to x);
+      least = λ b n all. let f = fewer (λ q. q.job ≡ j → q.op < o → q.to ≤ℤ b) xs k d h all in int_max-least (f.1 c.0 c.1) (so_far.least b n f.0);
     }
 
 pub earlier_same : (xs : List Piece) (k j o : ℕ) (d p : Piece) (x : ℤ)
@@ -170,9 +162,6 @@ earlier_same xs k j o d p x h is not_later so_far = record {
 pub route_from_end : (xs : List Piece) (j o : ℕ) (x y : ℤ) (result : Bool) → y ≡ x → All (λ p. IsMoment p.from × IsMoment p.to) xs
     → IsEarlierEnd xs j o x → IsTrue result ↔ All (λ q. q.job ≡ j → q.op ≡ o → y ≤ℤ q.from) xs → IsTrue result ↔ KeepsRoute xs j o
 route_from_end xs j o x y result e moments end (to, from) = (
-  λ h k d l m f n mine other less same. joined (get_or xs k d).to x y (get_or xs m f).from e (end.bound k d l mine less) (to h m f n other same),
+  λ h k d l m f n mine other less same. ≤ℤ_trans (end.bound k d l mine less) (subst (λ z. z ≤ℤ (get_or xs m f).from) e (to h m f n other same)),
   λ kept. from (λ m f n mine same. subst (λ z. z ≤ℤ (get_or xs m f).from) (sym e) (end.least (get_or xs m f).from (moments m f n).0.0 (λ k d l own less. kept k d l m f n own mine less same))),
 )
-  where
-    joined : (a x y b : ℤ) → y ≡ x → a ≤ℤ x → y ≤ℤ b → a ≤ℤ b
-    joined a x y b e h k = omega (arith, ints, e)
