@@ -15,9 +15,8 @@ use Rattle.msp_pieces.proofs.changes.Shrunk.{All-from_map}
 use Rattle.msp_single.specs.declared.moore.Task.{Task}
 use Rattle.msp_route.specs.Dates.{IsDueBefore}
 use Rattle.msp_single.specs.Moore.{IsLongest, IsChoice, none, kept, overrun, IsMooreOrder}
-use Rattle.msp_pieces.proofs.lists.Parts.{All-front, All-back}
+use Rattle.msp_pieces.proofs.lists.Parts.{All-front, All-back, AllPairs-back}
 use Rattle.msp_single.proofs.MooreChoice.{accepted_of, keeps, drops, choice-permutation}
-use Rattle.msp_pieces.proofs.lists.Parts.{AllPairs-back}
 use Rattle.msp_single.proofs.MooreSteps.{IsTaskOf, Chooses}
 
 remove-map : {X Y : Type 0} (f : X → Y) (xs : List X) (k : ℕ) → map f (remove xs k) ≡ remove (map f xs) k
@@ -114,7 +113,7 @@ module _ (i : Instance) (ts : List Task) (numbers : map (λ x. x.job) ts ≡ ran
     sorted = by_date up;
     choice = chosen;
     moved = IsPermutation-map job dropped late swapped;
-    by_number = λ a b d l k. strict (get_or (map job late) a d) (get_or (map job late) b d) (distinct a b d l k) (ties a b d l k);
+    by_number = λ a b d l k. let apart = distinct a b d l k in omega (arith, apart, ties a b d l k);
     whole = e ∙ map-append job accepted late;
   }
     where
@@ -130,6 +129,3 @@ module _ (i : Instance) (ts : List Task) (numbers : map (λ x. x.job) ts ≡ ran
 
       ties : AllPairs (λ a b. a ≤ b) (map job late)
       ties = AllPairs-map (λ a b. a ≤ b) job late by_number
-
-      strict : (x y : ℕ) → x ≢ y → x ≤ y → x < y
-      strict x y n h = omega (arith, h, n)
