@@ -57,11 +57,8 @@ Contains-from_waiting arcs xs j k quiet step = elim (cases_Bool (list_any (λ x.
 ]
 
 pub waiting-some : (arcs : List Arc) (xs : List ℕ) (k : ℕ) → 0 < waiting arcs xs k → (j : ℕ) × HasStep arcs j k × (¬ Contains xs j)
-waiting-some arcs xs k some = let s = sum_by-some (awaits xs k) arcs some in found s.0 s.1 (passes _ s.2)
+waiting-some arcs xs k some = let s = sum_by-some (awaits xs k) arcs some in found s.0 s.1 (let h = s.2 in grind (arith, h))
   where
-    passes : (b : Bool) → 0 < cond {A = ℕ} b 1 0 → b ≡ true
-    passes b h = grind arith
-
     found : (a : Arc) → Contains arcs a → (a.after == k && not (list_any (λ x. x == a.before) xs)) ≡ true → (j : ℕ) × HasStep arcs j k × (¬ Contains xs j)
     found a c h =
         let parts = and_parts _ _ h in

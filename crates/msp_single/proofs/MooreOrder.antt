@@ -91,11 +91,10 @@ module _ (i : Instance) (ts : List Task) (numbers : map (λ x. x.job) ts ≡ ran
   GoesOrIs x y = ((job_at i x).due <ℤ (job_at i y).due) ⊎ (((job_at i x).due ≡ (job_at i y).due) × (x ≤ y))
 
   by_date : AllPairs DueFirst sorted → AllPairs (IsDueBefore i) (map job sorted)
-  by_date up a b d l k = strict (get_or (map job sorted) a d) (get_or (map job sorted) b d) (OnceBelow-distinct (OnceBelow-from_permutation all_once) a b d l k) (ties a b d l k)
+  by_date up a b d l k =
+      let apart = OnceBelow-distinct (OnceBelow-from_permutation all_once) a b d l k in
+      elim (ties a b d l k) [ inl less ↦ inl less | inr e ↦ inr (e.0, omega (arith, e.1, apart)) ]
     where
-      strict : (x y : ℕ) → x ≢ y → GoesOrIs x y → IsDueBefore i x y
-      strict x y n h = elim h [ inl l ↦ inl l | inr e ↦ inr (e.0, omega (arith, e.1, n)) ]
-
       here : (a b : Task) → IsTaskOf i a → IsTaskOf i b → DueFirst a b → GoesOrIs a.job b.job
       here a b ta tb h = elim h [ inl l ↦ inl (subst₂ (λ x y. x <ℤ y) ta.1 tb.1 l) | inr e ↦ inr (sym ta.1 ∙ e.0 ∙ tb.1, e.1) ]
 
