@@ -35,9 +35,6 @@ module _ (jobs : List ℕ) (blocked : ℕ → Bool) (cost : ℕ → ℤ) (k : �
     first = more (λ x. blocked x ≡ false → Precedes c (cost x) x) h.first (λ e. absurd (false≢true (sym e ∙ b)));
   }
 
-  precedes_on : (a b : Candidate) (z : ℤ) (m : ℕ) → Precedes a b.cost b.job → Precedes b z m → Precedes a z m
-  precedes_on a b z m h g = grind (arith, ints)
-
   abbrev Chosen : Candidate → Type 0
   Chosen c = (c.place < k + 1) × (c.job ≡ get_or jobs c.place 0) × (c.cost ≡ cost c.job) × (blocked c.job ≡ false)
 
@@ -57,7 +54,7 @@ module _ (jobs : List ℕ) (blocked : ℕ → Bool) (cost : ℕ → ℤ) (k : �
 
       earlier : (b : Option Candidate) → IsFound jobs blocked cost k b → IfSome b (λ b. Precedes result b.cost b.job) → All (λ x. blocked x ≡ false → Precedes result (cost x) x) (take k jobs)
       earlier None f g = λ n d l e. absurd (false≢true (sym e ∙ f n d l))
-      earlier (Some b) f g = λ n d l e. precedes_on result b (cost (get_or (take k jobs) n d)) (get_or (take k jobs) n d) g (f.first n d l e)
+      earlier (Some b) f g = λ n d l e. let old = f.first n d l e in grind (arith, ints, g, old)
 
       newest : Chosen next
       newest = (omega (arith, place), job ∙ at ∙ ap (λ n. get_or jobs n 0) (sym place), price ∙ ap cost (sym job), ap blocked job ∙ free)
