@@ -1,10 +1,9 @@
 -- What a row pays stays within bounds.
-use Rattle.std.proofs.Common.{◌≡◌, ℕ, ◌<◌, ◌≤◌, ℤ, pos, List, arith}
+use Rattle.std.proofs.Common.{◌≡◌, ℕ, ◌<◌, ◌≤◌, ℤ, pos, List, arith, sym}
 use Rattle.std.proofs.lemmas.Int.{ints}
 use Rattle.msp_matching.specs.Passing.{at}
 use Rattle.msp_assign.specs.Search.{HasCharges, greatest_charge, sizes, paid, greatest_payment}
 use Rattle.msp_class.proofs.IntegerRing.{natural}
-use Rattle.std.proofs.Common.{sym}
 
 pub sizes-at_most : (rows columns : ℕ) (cost : ℕ → ℕ → ℤ) → HasCharges rows columns cost → (r c : ℕ) → r < rows → c < columns → sizes cost r c ≤ greatest_charge
 sizes-at_most rows columns cost h r c lr lc = omega (arith, ints, (h r c lr lc).0, (h r c lr lc).1)

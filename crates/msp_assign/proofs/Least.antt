@@ -7,7 +7,7 @@ use Rattle.std.proofs.lemmas.List.{get_or_default}
 use Rattle.std.proofs.lemmas.List.Elements.{All-get_or}
 use Rattle.msp_class.specs.Sums.{total_below, int_total_below}
 use Rattle.msp_class.proofs.Sums.{total_below-mono, int_total_below-same, int_total_below-mono, int_total_below-add, sum_by_counts}
-use Rattle.msp_class.proofs.Sums.{sum_by-distinct_test}
+use Rattle.msp_class.proofs.Sums.{sum_by-distinct_test, count-from_contains, sum_by-places}
 use Rattle.msp_class.proofs.IntegerRing.{≤ℤ_of_same}
 use Rattle.msp_matching.specs.Passing.{at}
 use Rattle.msp_assign.specs.declared.assignment.Assignment.{Assignment}
@@ -20,7 +20,6 @@ use Rattle.msp_assign.proofs.Lists.{Contains-at, at-Contains}
 use Rattle.msp_assign.proofs.Bounds.{sizes-is}
 use Rattle.msp_assign.proofs.Views.{number-inside, number-once, line-inside}
 use Rattle.msp_assign.proofs.Placements.{Rises, some_places}
-use Rattle.msp_class.proofs.Sums.{count-from_contains, sum_by-places}
 
 int_total_below-negative : (n : ℕ) (f : ℕ → ℕ) → int_total_below n (λ i. neg_ℤ (pos (f i))) ≡ neg_ℤ (pos (total_below n f))
 int_total_below-negative zero f = refl

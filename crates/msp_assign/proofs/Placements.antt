@@ -46,9 +46,6 @@ IsPlacing-start rows lines lines2 long count cost columns k falls used whole el 
 
 module _ (rows lines long count : ℕ) (cost : ℕ → ℕ → ℤ) (columns : List Column)
     (falls used : List ℕ) (whole : lines * long ≡ count) (costs : HasCharges rows count cost) (h : IsPlacing rows lines long cost columns falls used) where
-  costs_all : HasCharges rows (lines * long) cost
-  costs_all = subst (λ x. HasCharges rows x cost) (sym whole) costs
-
   pub HasCharges-placing : (columns2 : List Column) → columns2 ≡ columns → HasCharges rows (length columns2) (seen cost long columns2)
   HasCharges-placing columns2 e = HasCharges-read rows count lines long cost columns columns2 whole e costs h.view.inside
 
@@ -67,7 +64,8 @@ module _ (rows lines long count : ℕ) (cost : ℕ → ℕ → ℤ) (columns : L
       let one = rw ec at o in
       let wider = rw (eg, el) at w in
       record {
-        placed = IsPlaced-next lines long columns used lowered after f h.view one rows cost costs_all rise placed (omega (arith, longer, more)) wide wide_falls wider;
+        placed = IsPlaced-next lines long columns used lowered after f h.view one rows cost (subst (λ x. HasCharges rows x cost) (sym whole) costs)
+            rise placed (omega (arith, longer, more)) wide wide_falls wider;
         view = IsView-next lines long columns used lowered after f h.view one wide wide_falls placed.inside wider;
         at_most = omega (arith, longer, more);
         few = omega (arith, longer, h.few, (longer-next long columns lowered f wide wide_falls wider).1);

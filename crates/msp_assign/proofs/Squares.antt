@@ -73,9 +73,6 @@ module _ (cost : ℕ → ℕ → ℕ) (columns : ℕ) (fall column : List ℕ) (
   unused : ¬ Contains column free
   unused = m.free free f.inside f.free
 
-  longer : length (column ++ free ∷ []) ≡ length column + 1
-  longer = length-append column (free ∷ [])
-
   pub IsOneMore-free : IsOneMore columns column fall (column ++ free ∷ []) free
   IsOneMore-free = record { same = IsPermutation-refl (column ++ free ∷ []); inside = f.inside; free_before = unused; unfallen = p.unused free f.inside unused }
 
@@ -89,7 +86,7 @@ module _ (cost : ℕ → ℕ → ℕ) (columns : ℕ) (fall column : List ℕ) (
       | inl s ↦ subst (λ r. IsCheapest cost columns fall r (at (column ++ free ∷ []) r)) (sym s)
           (subst (IsCheapest cost columns fall (length column)) (sym (get_or-append_seam column free [] 0)) f.cheapest)
       | inr n ↦
-          let lr : r < length column = omega (arith, l, longer) in
+          let lr : r < length column = omega (arith, l, length-append column (free ∷ [])) in
           subst (IsCheapest cost columns fall r) (sym (get_or_append_left column (free ∷ []) 0 r lr)) (p.cheapest r lr)
     ];
     unused = λ c l n. p.unused c l (λ x. n (Contains-append_left column (free ∷ []) c x));

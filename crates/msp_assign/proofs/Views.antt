@@ -198,9 +198,6 @@ module _ (lines long : ℕ) (columns : List Column) (used falls after : List ℕ
     paid_old : (r k : ℕ) → k < length columns → paid (sizes (seen cost long wide)) (falls ++ 0 ∷ []) r k ≡ paid (sizes (seen cost long columns)) falls r k
     paid_old r k l = omega (arith, ap (sizes cost r) (number_old k l), fall_old k l)
 
-    paid_new : (r : ℕ) → paid (sizes (seen cost long wide)) (falls ++ 0 ∷ []) r (length columns) ≡ sizes cost r (number_of long (column_after columns f))
-    paid_new r = omega (arith, ap (sizes cost r) number_new, fall_new)
-
     dearer : (r : ℕ) → r < rows → sizes cost r (number_at long columns f) ≤ sizes cost r (number_of long (column_after columns f))
     dearer r l =
         let i = place_inside f o.inside in
@@ -221,7 +218,7 @@ module _ (lines long : ℕ) (columns : List Column) (used falls after : List ℕ
         → paid (sizes (seen cost long wide)) (falls ++ 0 ∷ []) r (at after r) ≤ paid (sizes (seen cost long wide)) (falls ++ 0 ∷ []) r d
     cheapest r d l (inl a) = omega (arith, paid_old r (at after r) (own r l), paid_old r d a, (p.cheapest r l).cheapest d a)
     cheapest r d l (inr e) = subst (λ x. paid (sizes (seen cost long wide)) (falls ++ 0 ∷ []) r (at after r) ≤ paid (sizes (seen cost long wide)) (falls ++ 0 ∷ []) r x) (sym e)
-        (omega (arith, paid_old r (at after r) (own r l), paid_new r, (p.cheapest r l).cheapest f o.inside, o.unfallen, dearer r (omega arith)))
+        (omega (arith, paid_old r (at after r) (own r l), ap (sizes cost r) number_new, fall_new, (p.cheapest r l).cheapest f o.inside, o.unfallen, dearer r (omega arith)))
 
     IsPlaced-wider : IsPlaced (sizes (seen cost long wide)) (length wide) (falls ++ 0 ∷ []) after
     IsPlaced-wider = record {

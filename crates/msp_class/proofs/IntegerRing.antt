@@ -1,9 +1,8 @@
 -- The laws of ℤ as an ordered ring, and how it holds ℕ. Sums, differences and order alone are `omega (arith, ints)`'s.
 use Rattle.std.proofs.Common.{◌≡◌, ℕ, zero, suc, ◌+◌, ◌*◌, ◌-◌, ◌≤◌, ◌<◌, ℤ, pos, negsuc, ◌+ℤ◌, ◌-ℤ◌, ◌*ℤ◌, neg_ℤ, ◌≤ℤ◌, ◌<ℤ◌, nat_abs, ◌⊎◌, inl, inr, arith, refl, sym, ap, subst, ◌∙◌}
-use Rattle.std.proofs.lemmas.Int.{ints}
+use Rattle.std.proofs.lemmas.Int.{ints, clamps}
 use Rattle.std.specs.Int.{int_max}
 use Rattle.msp_class.proofs.Cases.{less_or_not}
-use Rattle.std.proofs.lemmas.Int.{clamps}
 use native.Mathlib.Nat.{mul-le-mul_left, mul-lt-mul_of_pos_left, le_of_mul-le-mul_left, lt_of_mul-lt-mul_left}
 use borrow.Author.Differences.{up, down, product_is, sum_is_lem, neg_is, le_out, lt_out, at_most_in, below_in}
 pub use lib.IntN.{+ℤ_assoc, +ℤ_comm, +ℤ_idl, +ℤ_idr, +ℤ_invl, +ℤ_invr, neg_ℤ-+ℤ, neg_ℤ-neg_ℤ, pos-+ℤ-pos, pos-*ℤ-pos, zero-*ℤ, *ℤ-zero, *ℤ_comm, ℤ_discrete, ℤ_set}

@@ -1,12 +1,11 @@
 -- A condition as a factor, and finite sums of natural numbers over a list (std's `sum_by`).
 use Rattle.std.proofs.Common.{◌≡◌, ℕ, zero, suc, ◌+◌, ◌*◌, ◌≤◌, ◌<◌, Bool, true, false, cond, eqb, ◌≢◌, List, [], ◌∷◌, map, length, get_or, take, All}
-use Rattle.std.proofs.Common.{Contains, filter, sum_by, arith, refl, sym, ap, subst, ◌∙◌}
+use Rattle.std.proofs.Common.{Contains, filter, sum_by, arith, refl, sym, ap, subst, ◌∙◌, inl, inr}
 use Rattle.std.proofs.lemmas.List.Sums.{sum_by-cons, sum_by_push}
 use Rattle.std.proofs.lemmas.List.Elements.{All-head, All-tail, All-contains, All-filter, All-contains_itself, filter_passes}
 use Rattle.std.proofs.lemmas.List.{take_more}
 use Rattle.std.proofs.lemmas.Bool.Decides.{nat_tests}
 use Rattle.std.proofs.lemmas.Bool.{cases_lt, cond_both}
-use Rattle.std.proofs.Common.{inl, inr}
 
 -- ---- a condition as a factor: x where b, else 0
 pub cond-zero : (b : Bool) {n : ℕ} → n ≡ 0 → cond b n 0 ≡ 0

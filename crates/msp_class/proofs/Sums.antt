@@ -4,11 +4,11 @@ use Rattle.std.proofs.Common.{Contains, filter, sum_by, count_by, IsPermutation,
 use Rattle.std.specs.List.{range_with_len, AllAdjacentBelow}
 use Rattle.std.proofs.lemmas.List.Elements.{Contains-get_or}
 use Rattle.std.proofs.lemmas.List.Sorted.{All-permutation}
-use Rattle.std.proofs.lemmas.List.{get_or_default}
+use Rattle.std.proofs.lemmas.List.{get_or_default, take_all}
 use Rattle.std.proofs.lemmas.List.Kept.{AllPairs-cons}
 use Rattle.msp_class.specs.Sums.{total_below}
 use Rattle.std.proofs.lemmas.List.FromFn.{length-range_with_len, get_or-range_with_len}
-use Rattle.std.proofs.lemmas.Bool.{eq-eqb, ne_eqb}
+use Rattle.std.proofs.lemmas.Bool.{eq-eqb, ne_eqb, cases_eq, cases_lt, cases_order}
 use native.Mathlib.Nat.{mul-le-mul_left}
 pub use Rattle.std.proofs.lemmas.List.Sums.{sum_by-cons, sum_by-append, sum_by_push}
 pub use Rattle.std.proofs.lemmas.List.Sorted.{sum_by-IsPermutation}
@@ -19,11 +19,8 @@ pub use Rattle.msp_class.proofs.Totals.{total_below-mono, total_below-same, tota
 pub use Rattle.msp_class.proofs.Totals.{total_below-none, total_below-bound, total_below-term, total_below-some, total_below-tight, total_below-only, total_below-split, total_below-exchange}
 pub use Rattle.msp_class.proofs.Totals.{int_total_below-same, int_total_below-mono, int_total_below-add, int_total_below-scale, int_total_below-pos}
 pub use Rattle.msp_class.proofs.Totals.{int_total_below-natural}
-use Rattle.std.proofs.lemmas.Bool.{cases_eq, cases_lt, cases_order}
 use Rattle.std.proofs.lemmas.Bool.Decides.{nat_tests}
-use Rattle.std.proofs.Common.{◌-◌}
-use Rattle.std.proofs.Common.{take, add-one}
-use Rattle.std.proofs.lemmas.List.{take_all}
+use Rattle.std.proofs.Common.{◌-◌, take, add-one}
 use Rattle.msp_class.proofs.ListSums.{sum_by-take_more}
 
 pub range_with_len_last : (a n : ℕ) → range_with_len a (suc n) ≡ range_with_len a n ++ (a + n) ∷ []

@@ -1,7 +1,6 @@
 -- Lemmas on the bits of jobs: read, written, and apart in the words of two jobs.
 use Rattle.std.proofs.Common.{◌≡◌, ◌≢◌, ◌⊎◌, ℕ, ◌<◌, ◌≤◌, ◌+◌, ◌*◌, ◌/◌, ◌%◌, ◌^◌, true, false, eqb, max, bit_or, bit_and, List, length, get_or}
-use Rattle.std.proofs.Common.{set, replicate, Some, None, unwrap_or, w64, ap, ap₂, sym, ◌∙◌, inl, inr, arith, get_or-set_same}
-use Rattle.std.proofs.Common.{get_or-set_other}
+use Rattle.std.proofs.Common.{set, replicate, Some, None, unwrap_or, w64, ap, ap₂, sym, ◌∙◌, inl, inr, arith, get_or-set_same, get_or-set_other}
 use Rattle.std.specs.Int.{bit_at}
 use Rattle.std.proofs.Math.Nat.{mul-le-mul_right}
 use Rattle.std.proofs.lemmas.Nat.{mod_below, same_from_place, div-add-mod'}

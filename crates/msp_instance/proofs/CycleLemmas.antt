@@ -11,18 +11,15 @@ use Rattle.std.proofs.lemmas.List.Sorted.{Contains-permutation, All-permutation,
 use Rattle.std.proofs.lemmas.List.Kept.{AllPairs-cons}
 use Rattle.std.proofs.lemmas.Option.{slice_get-get_or, slice_get_within, get_or_from_slice_get}
 use Rattle.msp_class.specs.Sums.{total_below}
-use Rattle.msp_class.proofs.Sums.{total_below-constant}
+use Rattle.msp_class.proofs.Sums.{total_below-constant, counts_below, missing, total_below-within, OnceBelow-distinct}
 use Rattle.msp_class.proofs.Sums.{total_below-mono, total_below-tight, count_by-distinct, OnceBelow, OnceBelow-from_distinct, OnceBelow-contains}
 use Rattle.msp_instance.specs.declared.Arc.{Arc}
 use Rattle.msp_instance.specs.declared.Instance.{Instance}
 use Rattle.msp_instance.specs.Conditions.{IsSequence, GoesForward, IsAcyclic}
 use Rattle.msp_instance.specs.Paths.{HasStep, HasPath, one, more, IsLeastOnCycle}
 use Rattle.msp_instance.specs.Listing.{IsLongestOrder}
-use Rattle.msp_instance.proofs.ListingLemmas.{list_any-from_Contains, Contains-from_list_any, count-from_contains, length-once}
+use Rattle.msp_instance.proofs.ListingLemmas.{list_any-from_Contains, Contains-from_list_any, count-from_contains, length-once, one_place}
 use Rattle.msp_instance.proofs.SearchLemmas.{HasPath-permutation}
-use Rattle.std.proofs.lemmas.List.Elements.{Contains-get_or}
-use Rattle.msp_class.proofs.Sums.{counts_below, missing, total_below-within, OnceBelow-distinct}
-use Rattle.msp_instance.proofs.ListingLemmas.{one_place}
 
 -- ---- an order of all jobs from the longest one
 pub IsSequence-from_longest : (i : Instance) (arcs : List Arc) (order : List ℕ) → IsLongestOrder arcs (length i.jobs) order → length order ≡ length i.jobs → IsSequence i order

@@ -2,7 +2,7 @@
 use Rattle.std.proofs.Common.{◌≡◌, ◌≢◌, ℕ, ◌+◌, ◌*◌, ◌<◌, ◌≤◌, Bool, true, false, cond, ◌==◌, eqb, ltb, List, [], ◌∷◌, ◌++◌, length, get_or, take, filter, count_by, All, AllPairs}
 use Rattle.std.proofs.Common.{Contains, inl, inr, refl, sym, ap, ◌∙◌, subst, arith}
 use Rattle.std.specs.List.{list_any, range_with_len}
-use Rattle.std.proofs.lemmas.Bool.{cases_Bool, eqb-true, eqb-false, eq-eqb, ne_eqb, ltb-true, ltb-false}
+use Rattle.std.proofs.lemmas.Bool.{cases_Bool, eqb-true, eqb-false, eq-eqb, ne_eqb, ltb-true, ltb-false, cases_order}
 use Rattle.std.proofs.lemmas.List.{get_or_default, get_or-take, length-take}
 use Rattle.std.proofs.lemmas.List.Folds.{Any-from_list_any, list_any-from_Any}
 use Rattle.std.proofs.lemmas.List.Sums.{sum_by_push}
@@ -11,7 +11,6 @@ use Rattle.msp_class.proofs.Sums.{cond-yes, cond-no, eqb_comm, sum_by-constant, 
 use Rattle.msp_class.proofs.Sums.{total_below-range, total_below-mono, total_below-only, total_below-constant, OnceBelow-range, distinct_from_counts}
 use Rattle.msp_instance.specs.Listing.{IsListing}
 pub use Rattle.msp_class.proofs.Sums.{count-from_contains, Contains-from_count}
-use Rattle.std.proofs.lemmas.Bool.{cases_order}
 use Rattle.msp_class.proofs.Sums.{cond-zero, cond-le}
 
 -- ---- membership as a test

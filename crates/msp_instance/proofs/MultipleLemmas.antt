@@ -1,18 +1,16 @@
 -- Lemmas on greatest common divisors and least common multiples.
 use Rattle.std.proofs.Common.{◌≡◌, ℕ, ◌+◌, ◌*◌, ◌/◌, ◌%◌, ◌<◌, ◌≤◌, ◌^◌, List, [], ◌∷◌, ◌++◌, length, get_or, take, All, Contains, IsTrue, true, false, ◌↔◌}
-use Rattle.std.proofs.Common.{refl, sym, ap, ◌∙◌, subst, subst₂, arith}
+use Rattle.std.proofs.Common.{refl, sym, ap, ◌∙◌, subst, subst₂, arith, inl, inr}
 use Rattle.std.specs.Int.{◌∣◌, IsGcd}
 use Rattle.std.proofs.lemmas.Nat.Gcd.{IsGcd-from_mod, dvd_trans, le_of_dvd}
 use Rattle.std.proofs.Math.Nat.{dvd-add_iff_right, dvd-mul_right_of_dvd, div-mul_cancel, mul-dvd-mul_left, mul-dvd-mul_right, dvd_of_mul-dvd-mul_right, pos_of_dvd_of_pos}
 use Rattle.std.proofs.Math.Nat.{dvd-mul_right, dvd-mul_left, div-add-mod, one-dvd}
-use Rattle.std.proofs.lemmas.Bool.{false≢true}
+use Rattle.std.proofs.lemmas.Bool.{false≢true, cases_lt}
 use Rattle.std.proofs.lemmas.Nat.{mul-le}
 use Rattle.std.proofs.lemmas.List.Elements.{All-more, All-take, All-weaker, All-contains, All-nil, All-cons, All-head, All-tail, Contains-push}
 use Rattle.std.proofs.lemmas.List.{take_more}
 use Rattle.msp_instance.specs.Conditions.{HasSmallMultiple}
 use Rattle.msp_instance.specs.Multiples.{IsLeastMultiple, IsLeastOfAll}
-use Rattle.std.proofs.lemmas.Bool.{cases_lt}
-use Rattle.std.proofs.Common.{inl, inr}
 
 -- a greatest common divisor of x and y is one of a and b, and what divides multiples of a and b by one factor divides those of x and y
 pub record SharesDivisors (a b x y : ℕ) : Type 0 where

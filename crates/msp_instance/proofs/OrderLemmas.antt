@@ -2,23 +2,20 @@
 use Rattle.std.proofs.Common.{◌≡◌, ◌≢◌, ℕ, ◌+◌, ◌-◌, ◌<◌, ◌≤◌, Bool, true, false, cond, not, ◌==◌, ◌&&◌, ◌||◌, List, [], ◌∷◌, ◌++◌, length, get_or, take, set, filter, All}
 use Rattle.std.proofs.Common.{Contains, inl, inr, refl, sym, ap, ◌∙◌, subst, arith}
 use Rattle.std.specs.List.{list_any, range_with_len}
-use Rattle.std.proofs.lemmas.Bool.{cases_Bool, cases_lt, eqb-true, eqb-false, eq-eqb, ne_eqb, and_parts}
+use Rattle.std.proofs.lemmas.Bool.{cases_Bool, cases_lt, eqb-true, eqb-false, eq-eqb, ne_eqb, and_parts, both_ways, not-true}
 use Rattle.std.proofs.lemmas.List.{take_all, take_more, take-take, take-append-le, get_or_default, get_or-take, get_or-set_other, length-take, length-set}
 use Rattle.std.proofs.lemmas.List.Folds.{list_any-append}
 use Rattle.std.proofs.lemmas.List.Sums.{sum_by-take-le}
 use Rattle.std.proofs.lemmas.List.Elements.{All-filter, Contains-get_or}
 use Rattle.std.proofs.lemmas.Grind.{get_or-set_at}
-use Rattle.msp_class.proofs.Sums.{cond-yes, cond-no, sum_by-agree, sum_by-add, sum_by-filter, sum_by-some, sum_by-contains}
+use Rattle.msp_class.proofs.Sums.{cond-yes, cond-no, sum_by-agree, sum_by-add, sum_by-filter, sum_by-some, sum_by-contains, eqb_comm}
 use Rattle.msp_instance.specs.declared.Arc.{Arc}
 use Rattle.msp_instance.specs.Conditions.{entering}
 use Rattle.msp_instance.specs.Paths.{HasStep}
 use Rattle.msp_instance.specs.Listing.{IsListing, waiting, IsLongestOrder}
 use Rattle.msp_instance.proofs.ArcLemmas.{entering_more}
 use Rattle.msp_instance.proofs.ListingLemmas.{list_any-from_Contains, Contains-from_list_any, Contains-take, IsListing-filter, IsListing-same, IsListing-push, IsListing-distinct}
-use Rattle.msp_instance.proofs.ListingLemmas.{IsListing-length, IsListing-contains, IsListing-passes, not_before_itself}
-use Rattle.std.proofs.lemmas.Bool.{both_ways, not-true}
-use Rattle.msp_instance.proofs.ListingLemmas.{length-kept}
-use Rattle.msp_class.proofs.Sums.{eqb_comm}
+use Rattle.msp_instance.proofs.ListingLemmas.{IsListing-length, IsListing-contains, IsListing-passes, not_before_itself, length-kept}
 
 -- ---- arcs from outside a list
 abbrev awaits : List ℕ → ℕ → Arc → ℕ
@@ -60,11 +57,8 @@ Contains-from_waiting arcs xs j k quiet step = elim (cases_Bool (list_any (λ x.
 ]
 
 pub waiting-some : (arcs : List Arc) (xs : List ℕ) (k : ℕ) → 0 < waiting arcs xs k → (j : ℕ) × HasStep arcs j k × (¬ Contains xs j)
-waiting-some arcs xs k some = let s = sum_by-some (awaits xs k) arcs some in found s.0 s.1 (passes _ s.2)
+waiting-some arcs xs k some = let s = sum_by-some (awaits xs k) arcs some in found s.0 s.1 (let h = s.2 in grind (arith, h))
   where
-    passes : (b : Bool) → 0 < cond {A = ℕ} b 1 0 → b ≡ true
-    passes b h = grind arith
-
     found : (a : Arc) → Contains arcs a → (a.after == k && not (list_any (λ x. x == a.before) xs)) ≡ true → (j : ℕ) × HasStep arcs j k × (¬ Contains xs j)
     found a c h =
         let parts = and_parts _ _ h in

@@ -2,7 +2,7 @@
 use Rattle.std.proofs.Common.{◌≡◌, ◌≢◌, ℕ, ◌+◌, ◌-◌, ◌<◌, ◌≤◌, Bool, true, false, cond, ◌==◌, List, [], ◌∷◌, ◌++◌, length, get_or, take, set, filter, replicate, All, Any, Contains}
 use Rattle.std.proofs.Common.{◌⊎◌, inl, inr, IsTrue, ◌↔◌, refl, sym, ap, ◌∙◌, subst, arith}
 use Rattle.std.specs.List.Sorted.{IsPermutation}
-use Rattle.std.proofs.lemmas.Bool.{cases_Bool, cases_lt, eqb-true, eq-eqb}
+use Rattle.std.proofs.lemmas.Bool.{cases_Bool, cases_lt, eqb-true, eq-eqb, cases_eq}
 use Rattle.std.proofs.lemmas.List.{take_all, take_more, take-append-le, get_or_default, get_or-set_other, length-set, length-replicate}
 use Rattle.std.proofs.lemmas.List.Elements.{All-nil, All-push, All-filter, All-weaker, All-contains, Contains-get_or, Contains-push, Contains-append_left}
 use Rattle.std.proofs.lemmas.List.Sorted.{Contains-permutation}
@@ -12,7 +12,6 @@ use Rattle.msp_instance.specs.declared.Arc.{Arc}
 use Rattle.msp_instance.specs.Paths.{HasStep, HasPath, one, more}
 use Rattle.msp_instance.specs.Listing.{IsListing, IsMet}
 use Rattle.msp_instance.proofs.ListingLemmas.{Contains-take, Contains-kept, get_or-kept, length-kept, IsListing-same, IsListing-push, IsListing-length, IsListing-contains, IsListing-passes}
-use Rattle.std.proofs.lemmas.Bool.{cases_eq}
 
 -- ---- paths
 pub HasPath-permutation : (xs ys : List Arc) → IsPermutation xs ys → {j k : ℕ} → HasPath xs j k → HasPath ys j k

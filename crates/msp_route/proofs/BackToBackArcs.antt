@@ -3,7 +3,6 @@ use Rattle.std.proofs.Common.{◌≡◌, ℕ, List, length, get_or, All, AllPair
 use Rattle.std.proofs.lemmas.Int.{ints}
 use Rattle.std.proofs.lemmas.List.Elements.{Contains-get_or}
 use Rattle.msp_class.proofs.Sums.{OnceBelow}
-use Rattle.msp_instance.specs.declared.Arc.{Arc}
 use Rattle.msp_instance.specs.declared.Instance.{Instance}
 use Rattle.msp_instance.specs.Paths.{HasStep}
 use Rattle.msp_pieces.specs.declared.Piece.{Piece}
@@ -24,14 +23,11 @@ module _ (i : Instance) (h : IsPlain i) (order : List ℕ)
   in_order k d l x u lx y v ly e e' =
       let p = get_or pieces x u in
       let q = get_or pieces y v in
-      let step : HasStep i.arcs p.job q.job = subst (Contains i.arcs) (same (get_or i.arcs k d) p.job q.job e e') (Contains-get_or i.arcs k d l) in
+      let step : HasStep i.arcs p.job q.job = subst (Contains i.arcs) (sym (ap₂ (λ b c. record { before = b; after = c }) e e')) (Contains-get_or i.arcs k d l) in
       let there = Contains-get_or pieces y v ly in
       let here = Contains-get_or pieces x u lx in
       let less = back_to_back-arcs piece (time_at i) piece_makes (HasStep i.arcs) 0 order loose forward p q here there step in
       omega (arith, ints, (timed i h order once x u lx).to, (timed i h order once y v ly).from, less)
-    where
-      same : (a : Arc) (m n : ℕ) → m ≡ a.before → n ≡ a.after → a ≡ record { before = m; after = n }
-      same a m n f g = sym (ap₂ (λ b c. record { before = b; after = c }) f g)
 
   pub forward_is_feasible : Feasible i (schedule_in_order i order)
   forward_is_feasible = back_to_back_is_feasible i order once (takes_time i h) h.machine (released i h order once) in_order

@@ -1,5 +1,5 @@
 -- A reduction and a solver behind it keep what a solver owes.
-use Rattle.std.proofs.Common.{if◌then◌else◌, ◌≡◌, ℕ, Bool, true, false, ℤ, ◌+ℤ◌, ◌≤ℤ◌, Result, Ok, Err, refl, sym, ap, ◌∙◌, subst, arith}
+use Rattle.std.proofs.Common.{if◌then◌else◌, ◌≡◌, ℕ, Bool, true, false, ℤ, ◌+ℤ◌, ◌≤ℤ◌, Result, Ok, Err, refl, sym, ap, ◌∙◌, subst, arith, inl, inr}
 use Rattle.std.specs.Prelude.{IfOk, ◌==◌, ◌||◌}
 use Rattle.std.proofs.lemmas.Int.{ints}
 use Rattle.msp_class.proofs.IntegerRing.{≤ℤ_refl, ≤ℤ_trans}
@@ -19,7 +19,6 @@ use Rattle.msp_route.specs.declared.bounds.TheConstants.{GREATEST_ANSWER_MOMENT,
 use Rattle.msp_route.proofs.Kept.{from_uniform}
 use Rattle.msp_route.proofs.BestBack.{Best-from_back}
 use Rattle.std.proofs.lemmas.Bool.{cases_Bool}
-use Rattle.std.proofs.Common.{inl, inr}
 
 -- the unit of an answer is one that a way back takes
 unit-wider : (k : EnvKind) → answer_unit k ≤ℤ greatest_unit k

@@ -1,6 +1,6 @@
 -- Jobs one after another, of which the first ones are on time: what the late ones weigh, and when no schedule has late jobs of less weight.
 use Rattle.std.proofs.Common.{◌≡◌, ◌≢◌, ℕ, ◌+◌, ◌*◌, ◌<◌, ◌≤◌, Bool, true, false, cond, not, List, [], ◌∷◌, ◌++◌, length, get_or, filter, pos, nat_abs, ◌*ℤ◌, ◌≤ℤ◌, All, AllPairs}
-use Rattle.std.proofs.Common.{sum_by, refl, sym, ap, ◌∙◌, subst, arith}
+use Rattle.std.proofs.Common.{sum_by, refl, sym, ap, ◌∙◌, subst, arith, le_trans}
 use native.Mathlib.Nat.{mul-le-mul_left}
 use Rattle.std.proofs.lemmas.List.Sums.{sum_by-cons, sum_by-append}
 use Rattle.msp_class.specs.Sums.{total_below}
@@ -19,7 +19,6 @@ use Rattle.msp_pieces.proofs.costs.LateJobs.{due_at, is_late, not_late, OnTime, 
 use Rattle.msp_route.proofs.Owed.{over_units}
 use Rattle.msp_route.proofs.PlainJobs.{IsPlain}
 use Rattle.msp_route.proofs.BackToBackAnswer.{timed}
-use Rattle.std.proofs.Common.{le_trans}
 
 -- late jobs and those on time weigh as much as all
 late_and_on_time : (f : ℕ → Bool) (w : ℕ → ℕ) (xs : List ℕ) → sum_by (λ j. cond (f j) (w j) 0) xs + sum_by w (filter (λ j. not (f j)) xs) ≡ sum_by w xs

@@ -8,14 +8,12 @@ use Rattle.std.proofs.Math.Nat.{mul-le-mul_right}
 use Rattle.std.proofs.lemmas.Bool.Decides.{nat_tests}
 use Rattle.std.proofs.lemmas.Int.{ints}
 use Rattle.std.proofs.lemmas.List.{length-map, get_or-map}
-use Rattle.std.proofs.lemmas.List.Elements.{All-nil}
 use Rattle.std.proofs.lemmas.List.FromFn.{get_or-map-range_with_len, length-map-range_with_len}
 use Rattle.msp_class.specs.declared.sizes.TheConstants.{MOST_JOBS, MOST_MACHINES, GREATEST}
 use Rattle.msp_class.specs.Env.{kind_of, is_mirror_kind}
-use Rattle.msp_class.proofs.IntegerRing.{pos-le, pos-lt, zero-le-pos, *ℤ-one, +ℤ_idl}
+use Rattle.msp_class.proofs.IntegerRing.{pos-le, pos-lt, zero-le-pos, *ℤ-one, +ℤ_idl, one-*ℤ}
 use Rattle.msp_class.proofs.Quotients.{same_block}
 use Rattle.msp_class.proofs.Sums.{OnceBelow, OnceBelow-from_distinct}
-use Rattle.msp_instance.specs.declared.Arc.{Arc}
 use Rattle.msp_instance.specs.declared.Instance.{Instance}
 use Rattle.msp_instance.specs.Instance.{job_at, need_at}
 use Rattle.msp_pieces.specs.declared.Piece.{Piece}
@@ -31,7 +29,7 @@ use Rattle.msp_pieces.proofs.feasible.Frames.{IsShaped, rate_on, frame_of, Stand
 use Rattle.msp_route.specs.declared.bounds.TheConstants.{GREATEST_ANSWER_MOMENT}
 use Rattle.msp_route.specs.Bounds.{IsAnswer, answer_unit}
 use Rattle.std.proofs.lemmas.Bool.{not-true}
-use Rattle.msp_class.proofs.IntegerRing.{one-*ℤ}
+use Rattle.msp_pieces.proofs.feasible.BackToBack.{ordered_without_arcs}
 
 -- what is read of an instance without arcs, each of whose jobs has as many operations
 pub record HasOperations (i : Instance) (ops : ℕ) : Type 0 where
@@ -149,8 +147,7 @@ module _ (i : Instance) (ops : ℕ) (ps : Places) (h : HasOperations i ops) (pla
     machine = pairs (λ p q. p.machine ≡ q.machine → IsApart p q) (λ x y l b e. apart (placed.on_machine x y l b e));
     job = pairs (λ p q. p.job ≡ q.job → IsApart p q) (λ x y l b e. apart (placed.of_job x y l b e));
     release = all (λ p. (pos 1 *ℤ pos (job_at i p.job).release) ≤ℤ p.from) (λ x b. omega (arith, ints, placed.released x b));
-    arc = subst (λ arcs. All (λ a. All (λ p. All (λ q. p.job ≡ a.before → q.job ≡ a.after → IsBefore p q) pieces) pieces) arcs)
-        (sym h.arcs) (All-nil (λ (a : Arc). All (λ p. All (λ q. p.job ≡ a.before → q.job ≡ a.after → IsBefore p q) pieces) pieces));
+    arc = ordered_without_arcs i.arcs pieces h.arcs;
     route = λ e. all (λ p. All (From p) pieces) (λ x b. all (From (piece_at ps x)) (λ y c f l. pos-le (placed.routed (not-true _ e) x y b c f l)));
     work = λ j o l has. gets j o l (h.has j o l has);
   }
@@ -159,8 +156,7 @@ module _ (i : Instance) (ops : ℕ) (ps : Places) (h : HasOperations i ops) (pla
       From p q = p.job ≡ q.job → p.op < q.op → IsBefore p q
 
       apart : {a b c d : ℕ} → (a ≤ b) ⊎ (c ≤ d) → (pos a ≤ℤ pos b) ⊎ (pos c ≤ℤ pos d)
-      apart (inl l) = inl (pos-le l)
-      apart (inr l) = inr (pos-le l)
+      apart e = elim e [ inl l ↦ inl (pos-le l) | inr l ↦ inr (pos-le l) ]
 
   pub placed_is_feasible : Feasible i (schedule_at ps)
   placed_is_feasible = Feasible-from_fits i (schedule_at ps) h.shaped fits

@@ -218,10 +218,7 @@ module _ (i : Instance) (m : IsOneMachine i) (takes : (j : ℕ) → j < length i
     where
       no_arc : (k : ℕ) → LeadsToNone i c.jobs k → HasNoSuccessor i c.jobs k
       no_arc k none n d l e there = All-contains (λ x. ¬ HasPath i.arcs k x)
-          c.jobs (get_or i.arcs n d).after none there (one (subst (Contains i.arcs) (same (get_or i.arcs n d) k e) (Contains-get_or i.arcs n d l)))
-        where
-          same : (a : Arc) (k : ℕ) → a.before ≡ k → a ≡ record { before = k; after = a.after }
-          same a k e = ap (λ b. record { before = b; after = a.after }) e
+          c.jobs (get_or i.arcs n d).after none there (one (subst (Contains i.arcs) (ap (λ b. record { before = b; after = (get_or i.arcs n d).after }) e) (Contains-get_or i.arcs n d l)))
 
 -- ---- a feasible schedule is best whose jobs end by moments at which they are certified
 pub best_by_certificates : (i : Instance) → IsOneMachine i → ((j : ℕ) → j < length i.jobs → 0 < time_at i j)

@@ -1,7 +1,7 @@
 -- The law of groups, and what it says of one job and of all jobs: a job runs on one machine at a time, so few jobs do not use more machines than they are.
 use Rattle.std.proofs.Common.{◌≡◌, ℕ, ◌+◌, ◌*◌, ◌<◌, ◌≤◌, inl, inr, min, Bool, true, false, cond, eqb, length, filter, pos, nat_abs, ◌*ℤ◌, ◌-ℤ◌, ◌≤ℤ◌, All}
 use Rattle.std.proofs.Common.{refl, sym, ap, subst, subst₂, ◌∙◌, arith}
-use Rattle.std.proofs.Math.Nat.{mul-le-mul_left}
+use Rattle.std.proofs.Math.Nat.{mul-le-mul_left, min-eq_left, min-eq_right}
 use Rattle.std.proofs.lemmas.Bool.{cases_lt}
 use Rattle.msp_class.specs.declared.environments.EnvKind.TheVariants.{Identical}
 use Rattle.msp_class.specs.Env.{kind_of}
@@ -18,7 +18,6 @@ use Rattle.msp_pieces.specs.Piece.{job_of, start, finish, IsTimed}
 use Rattle.msp_pieces.proofs.feasible.OneMachine.{unit_in_parts, jobs_apart, timed_pieces, full_work, last_end-is}
 use Rattle.msp_pieces.specs.BackToBack.{time_at}
 use Rattle.msp_pieces.proofs.bounds.EndsAndFloors.{law_of_ends}
-use Rattle.std.proofs.Math.Nat.{min-eq_left, min-eq_right}
 
 -- where a job passes a test, one that does ends last
 pub ends_last : (i : Instance) (s : Schedule) → All IsTimed s.pieces → (test : ℕ → Bool) (j : ℕ) → j < length i.jobs → test j ≡ true → (k : ℕ) × EndsLast i s test k

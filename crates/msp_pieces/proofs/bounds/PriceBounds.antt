@@ -92,11 +92,9 @@ module _ (i : Instance) (s : Schedule) (job : ℕ → ℤ) (position : ℕ → �
 
   -- the ends together are no less than the unit times what the jobs lengthen them by
   ends_take : unit * total_below n (λ j. count j * time j) ≤ total_below n end
-  ends_take = subst (λ t. t ≤ total_below n end) (total_below-same n _ (λ j. unit * (count j * time j)) (λ j l. turned _ _ _ _ (size j l)) ∙ total_below-scale n unit (λ j. count j * time j))
+  ends_take = subst (λ t. t ≤ total_below n end)
+      (total_below-same n _ (λ j. unit * (count j * time j)) (λ j l. ap (λ y. y * count j) (size j l) ∙ omega arith) ∙ total_below-scale n unit (λ j. count j * time j))
       (sum_of_ends n machine end begin lasts apart)
-    where
-      turned : (x u t c : ℕ) → x ≡ u * t → x * c ≡ u * (c * t)
-      turned x u t c e = ap (λ y. y * c) e ∙ omega arith
 
   -- and the prices of the jobs and of their positions are no more than that
   priced : (j : ℕ) → j < n → (job j +ℤ position (machine j) (count j - 1)) ≤ℤ pos (count j * time j)

@@ -100,18 +100,15 @@ module _ {X : Type 0} (job machine from to : X → ℕ) (speed : ℕ → ℕ) (t
 
     -- the work on the jobs that pass the test
     pub speeds_hold : total_below n (λ j. cond (test j) (sum_by done (filter (λ q. eqb (job q) j) xs)) 0) ≤ c * (total_below n (λ j. cond (test j) 1 0) * threshold + total_below m above)
-    speeds_hold = along _ _ threshold _ _ _ _ c
-        (sum_by-filter done (λ q. test (job q)) xs ∙ sum_by-by_key_test job done test n xs jobs)
-        (omega (
-          arith,
-          sum_by-mono done (λ q. threshold * size q + extra q) picked (λ k d l. done-split (get_or picked k d)),
-          sum_by-add (λ q. threshold * size q) extra picked,
-          sum_by-scale threshold size picked,
-        ))
-        by_job by_machine
-      where
-        along : (d l t s b k a c : ℕ) → d ≡ l → d ≤ t * s + b → s ≤ k * c → b ≤ a * c → l ≤ c * (k * t + a)
-        along d l t s b k a c e h p q = omega (arith, e, h, q, mul-le-mul_left t p)
+    speeds_hold = omega (
+      arith,
+      sum_by-filter done (λ q. test (job q)) xs ∙ sum_by-by_key_test job done test n xs jobs,
+      sum_by-mono done (λ q. threshold * size q + extra q) picked (λ k d l. done-split (get_or picked k d)),
+      sum_by-add (λ q. threshold * size q) extra picked,
+      sum_by-scale threshold size picked,
+      mul-le-mul_left threshold by_job,
+      by_machine,
+    )
 
 -- ---- identical and uniform machines
 -- what feasibility reads of them

@@ -2,7 +2,7 @@
 use Rattle.std.proofs.Common.{◌≡◌, ℕ, zero, suc, ◌+◌, ◌*◌, ◌-◌, ◌≤◌, ◌<◌, ◌⊎◌, inl, inr, min, max, true, false, cond, List, [], ◌∷◌, length, get_or}
 use Rattle.std.proofs.Common.{All, AllPairs, Contains, sum_by, ℤ, pos, nat_abs, ◌-ℤ◌, ◌*ℤ◌, ◌≤ℤ◌, refl, sym, ap, ap₂, subst, ◌∙◌, arith}
 use Rattle.std.proofs.lemmas.List.{get_or_default}
-use Rattle.std.proofs.lemmas.Bool.{cases_lt}
+use Rattle.std.proofs.lemmas.Bool.{cases_lt, and_from, and_left, and_right, or_left, or_right, lt-ltb, le-ltb, le-leb, lt-leb}
 use Rattle.std.proofs.lemmas.Int.{ints}
 use Rattle.std.proofs.lemmas.List.Sums.{sum_by-cons}
 use Rattle.std.proofs.lemmas.List.Folds.{list_any_none}
@@ -19,7 +19,6 @@ use Rattle.msp_pieces.proofs.feasible.Frames.{Frame, Lasts, Fits}
 use Rattle.msp_pieces.proofs.changes.Moves.{Suits}
 use Rattle.msp_pieces.proofs.changes.Transport.{Stretches, Carries}
 use Rattle.msp_pieces.specs.Busy.{runs, some_runs, busy, busy_moment}
-use Rattle.std.proofs.lemmas.Bool.{and_from, and_left, and_right, or_left, or_right, lt-ltb, le-ltb, le-leb, lt-leb}
 use Rattle.std.proofs.lemmas.Bool.Decides.{nat_tests}
 
 -- ---- in ℕ, for elements of any type with the moments at which they begin and end
@@ -55,11 +54,8 @@ module _ {X : Type 0} (from to : X → ℕ) where
   pub busy-idle : (xs : List X) (a b : ℕ) → a ≤ b → All (λ q. (to q ≤ a) ⊎ (b ≤ from q)) xs → busy from to xs b ≡ busy from to xs a
   busy-idle xs a b k h =
       busy-add xs a b k ∙ ap (λ n. busy from to xs a + n)
-      (total_below-none (b - a) _ (λ i m. ap (λ t. cond t 1 0) (some_runs-no xs (a + i) (λ j d l. outside a b i (from (get_or xs j d)) (to (get_or xs j d)) m (h j d l)))))
+      (total_below-none (b - a) _ (λ i m. ap (λ t. cond t 1 0) (some_runs-no xs (a + i) (λ j d l. let out = h j d l in grind (arith, out)))))
       ∙ omega arith
-    where
-      outside : (a b i u v : ℕ) → i < b - a → (v ≤ a) ⊎ (b ≤ u) → (a + i < u) ⊎ (v ≤ a + i)
-      outside a b i u v m h = grind arith
 
   -- one element runs as long as it lasts
   runs-length : (q : X) (t : ℕ) → total_below t (λ u. cond (runs from to u q) 1 0) ≤ min t (to q) - from q
@@ -174,11 +170,9 @@ module _ (e : ℕ) (ps : List Piece) where
       long p c h =
           let t = IsTimed-from_span p h in
           let more = busy-runs start finish ps p c (start p) (finish p) (omega arith) (omega (arith, t.lasts)) (omega arith) in
+          let grown : pos (busy start finish ps (finish p)) -ℤ pos (busy start finish ps (start p)) ≡ pos (finish p) -ℤ pos (start p) = omega (arith, ints, more, t.lasts) in
           sym (*ℤ-sub (pos e) (pos (busy start finish ps (finish p))) (pos (busy start finish ps (start p))))
-          ∙ ap (λ z. pos e *ℤ z) (grown (busy start finish ps (start p)) (busy start finish ps (finish p)) (start p) (finish p) more (omega (arith, t.lasts)) ∙ sym (ap₂ ◌-ℤ◌ t.to t.from))
-        where
-          grown : (m n a b : ℕ) → n ≡ m + (b - a) → a ≤ b → pos n -ℤ pos m ≡ pos b -ℤ pos a
-          grown m n a b h k = omega (arith, ints)
+          ∙ ap (λ z. pos e *ℤ z) (grown ∙ sym (ap₂ ◌-ℤ◌ t.to t.from))
 
   -- no moment is later than e times what it was, or than e times all pieces together
   pub busy_moment-le : (x : ℤ) → pos 0 ≤ℤ x → busy_moment e ps x ≤ℤ (pos e *ℤ x)

@@ -1,10 +1,10 @@
 -- One machine without release dates: the jobs in the order of their ends, lined up without gaps, end no later.
 use Rattle.std.proofs.Common.{◌≡◌, ◌≢◌, ◌⊎◌, inl, inr, ℕ, zero, suc, ◌+◌, ◌*◌, ◌≤◌, ◌<◌, Bool, true, false, cond, eqb, leb, List, [], ◌∷◌, get_or, length, All}
-use Rattle.std.proofs.Common.{AllPairs, Contains, count_by, ℤ, pos, nat_abs, ◌≤ℤ◌, ◌<ℤ◌, refl, sym, ap, ap₂, subst, subst₂, ◌∙◌, arith}
+use Rattle.std.proofs.Common.{AllPairs, Contains, count_by, ℤ, pos, nat_abs, ◌≤ℤ◌, ◌<ℤ◌, refl, sym, ap, ap₂, subst, subst₂, ◌∙◌, arith, sum_by}
 use Rattle.std.specs.Prelude.{int_lt}
 use Rattle.std.specs.List.{range_with_len}
 use Rattle.std.proofs.lemmas.List.Kept.{AllPairs-cons}
-use Rattle.std.proofs.lemmas.Bool.{eqb-true, eqb-false, le-leb}
+use Rattle.std.proofs.lemmas.Bool.{eqb-true, eqb-false, le-leb, cond_both}
 use Rattle.std.proofs.Math.Nat.{mul-pos, mul-one, one-mul}
 use Rattle.std.proofs.lemmas.Int.{ints}
 use Rattle.std.proofs.lemmas.List.Sums.{sum_by-cons}
@@ -33,8 +33,6 @@ use Rattle.msp_pieces.proofs.feasible.LastEnds.{last_end-contains, last_end-reac
 use Rattle.msp_pieces.proofs.costs.Charges.{SameCharges, cost-by_ends, cost-same_charges}
 use Rattle.msp_pieces.proofs.feasible.Series.{IsSerial, MayPrecede, tasks, piece_on, zero_only, Fits-series}
 use Rattle.msp_pieces.specs.LineUp.{lined_up, insert_by, sorted_by, order_of_ends}
-use Rattle.std.proofs.lemmas.Bool.{cond_both}
-use Rattle.std.proofs.Common.{sum_by}
 
 -- one machine, jobs that take time, and arcs between them
 pub record IsLine (i : Instance) : Type 0 where

@@ -1,8 +1,8 @@
 -- Pieces that are moved one by one to a schedule for another frame: places, machines, jobs and work. Moments are moved in any way.
 use Rattle.std.proofs.Common.{◌≡◌, ℕ, ◌<◌, Bool, true, false, cond, eqb, ltb, List, [], ◌∷◌, get_or, map, filter, All, AllPairs, Contains, ℤ, pos, ◌+ℤ◌, ◌*ℤ◌, refl, sym, ap}
-use Rattle.std.proofs.Common.{ap₂, subst, subst₂, ◌∙◌, arith}
+use Rattle.std.proofs.Common.{ap₂, subst, subst₂, ◌∙◌, arith, inl, inr}
 use Rattle.std.specs.Prelude.{◌==◌, ◌&&◌}
-use Rattle.std.proofs.lemmas.Bool.{eqb-true, eqb-false, eq-eqb, ne_eqb, ltb-true, ltb-false}
+use Rattle.std.proofs.lemmas.Bool.{eqb-true, eqb-false, eq-eqb, ne_eqb, ltb-true, ltb-false, cases_order}
 use Rattle.std.proofs.lemmas.List.{length-map, get_or-map}
 use Rattle.std.proofs.lemmas.Simd.{map-map}
 use Rattle.std.proofs.lemmas.List.Elements.{All-head, All-tail, All-filter, All-map}
@@ -14,8 +14,6 @@ use Rattle.msp_pieces.specs.Piece.{length_of, IsApart}
 use Rattle.msp_pieces.specs.Feasible.{total}
 pub use Rattle.msp_pieces.proofs.feasible.OneMachine.{total-cons}
 use Rattle.msp_pieces.proofs.feasible.Frames.{Frame, Lasts, Stands, Gets, Fits, of_operation, of_operation-named, part}
-use Rattle.std.proofs.lemmas.Bool.{cases_order}
-use Rattle.std.proofs.Common.{inl, inr}
 
 -- ---- lists
 pub AllPairs-map : {X Y : Type 0} (R : Y → Y → Type 0) (f : X → Y) (xs : List X) → AllPairs (λ x y. R (f x) (f y)) xs → AllPairs R (map f xs)

@@ -1,6 +1,6 @@
 -- Dividing a schedule by its greatest common divisor, and putting its pieces in order.
 use Rattle.std.proofs.Common.{◌≡◌, ◌≢◌, ℕ, slice_set, negsuc, ◌+◌, ◌*◌, ◌<◌, ◌≤◌, Bool, List, [], ◌∷◌, ◌++◌, length, get_or, take, map, All, AllPairs}
-use Rattle.std.proofs.Common.{IsPermutation, inl, inr, ℤ, pos, ◌*ℤ◌, ◌≤ℤ◌, ◌<ℤ◌, unsigned_abs, refl, sym, ap, ap₂, subst, ◌∙◌, arith}
+use Rattle.std.proofs.Common.{IsPermutation, inl, inr, ℤ, pos, ◌*ℤ◌, ◌≤ℤ◌, ◌<ℤ◌, unsigned_abs, refl, sym, ap, ap₂, subst, ◌∙◌, arith, subst₂}
 use Rattle.std.specs.Int.{IsGcd}
 use Rattle.std.specs.Cmp.{IsStrictWeakOrder}
 use Rattle.std.specs.List.Sorted.{IsSortedBy}
@@ -11,7 +11,7 @@ use Rattle.std.proofs.lemmas.Nat.Gcd.{dvd_trans, dvd_refl}
 use Rattle.std.proofs.lemmas.List.{length-map, get_or-map, get_or-set_other, take_more, take_more_set, take_all}
 use Rattle.std.proofs.lemmas.List.Elements.{All-head, All-tail, All-nil, All-push, All-map}
 use Rattle.std.proofs.lemmas.List.Sorted.{All-permutation, length_permutation, IsPermutation-sym}
-use Rattle.msp_class.proofs.IntegerRing.{pos-le, *ℤ-zero, *ℤ_assoc, *ℤ_comm, ≤ℤ_trans}
+use Rattle.msp_class.proofs.IntegerRing.{pos-le, *ℤ-zero, *ℤ_assoc, *ℤ_comm, ≤ℤ_trans, *ℤ-cancel_lt}
 use Rattle.msp_instance.specs.declared.Instance.{Instance}
 use Rattle.msp_pieces.specs.declared.Piece.{Piece}
 use Rattle.msp_pieces.specs.declared.Schedule.{Schedule}
@@ -25,8 +25,6 @@ use Rattle.msp_pieces.proofs.costs.Charges.{SameCharges-from_jobs, cost-same_end
 use Rattle.msp_pieces.proofs.lists.Permuted.{Feasible-permutation, last_end-permutation}
 use Rattle.msp_pieces.proofs.changes.Shrunk.{All-from_map, grown, grown_schedule, Feasible-shrunk, cost-grown}
 use Rattle.msp_pieces.proofs.lists.Parts.{All-front, All-back}
-use Rattle.msp_class.proofs.IntegerRing.{*ℤ-cancel_lt}
-use Rattle.std.proofs.Common.{subst₂}
 
 -- ---- common divisors
 pub IsCommonDivisor-none : (unit : ℤ) (g : ℕ) → g ≡ unsigned_abs unit → IsCommonDivisor unit [] g
@@ -149,11 +147,9 @@ module _ (s t : Schedule) (g : ℕ) (h : IsSettling s t g) where
   settled_cost i f =
       let same = cost-same_ends i i t middle (SameCharges-from_jobs i i refl refl (λ k l. (refl, refl, refl)))
       h.unit_is (settled_feasible i f).unit (λ k l. sym (last_end-permutation middle.pieces t.pieces h.moved k)) in
-      ap₂ (λ x y. x *ℤ y) same (sym unit_grown) ∙ turned (cost_of i middle) (pos g) middle.unit
+      ap₂ (λ x y. x *ℤ y) same (sym unit_grown)
+      ∙ sym (*ℤ_assoc (cost_of i middle) (pos g) middle.unit) ∙ ap (λ x. x *ℤ middle.unit) (*ℤ_comm (cost_of i middle) (pos g))
       ∙ ap₂ (λ x y. x *ℤ y) (sym (cost-grown g some i middle) ∙ ap (cost_of i) is_grown) (sym h.unit_is)
-    where
-      turned : (c k u : ℤ) → c *ℤ (k *ℤ u) ≡ (k *ℤ c) *ℤ u
-      turned c k u = sym (*ℤ_assoc c k u) ∙ ap (λ x. x *ℤ u) (*ℤ_comm c k)
 
   unit_from : pos 1 ≤ℤ t.unit
   unit_from =

@@ -3,7 +3,7 @@ use Rattle.std.proofs.Common.{◌≡◌, ℕ, suc, ◌<◌, ◌≤◌, Bool, tru
 use Rattle.std.proofs.Common.{◌<ℤ◌, if◌then◌else◌, refl, sym, ap, ap₂, subst, subst₂, ◌∙◌, arith, zero-add}
 use Rattle.std.specs.Prelude.{int_lt}
 use Rattle.std.specs.Int.{int_max}
-use Rattle.std.proofs.lemmas.Bool.{ltb-true, ltb-false}
+use Rattle.std.proofs.lemmas.Bool.{ltb-true, ltb-false, cases_Bool, cond_both, true_from_ne_false, false_from_ne_true}
 use Rattle.std.proofs.lemmas.Int.{ints, fold-int_max_bounds, fold-int_max_reached}
 use Rattle.std.proofs.lemmas.List.{length-map}
 use Rattle.std.proofs.lemmas.List.Elements.{All-nil, All-cons}
@@ -12,7 +12,7 @@ use Rattle.msp_class.specs.declared.class.Crit.{Crit}
 use Rattle.msp_class.specs.declared.class.Crit.TheVariants.{Cmax, Lmax, Fmax, SumC, SumWC, SumU, SumWU, SumT, SumWT}
 use Rattle.msp_class.specs.Crit.{is_greatest}
 use Rattle.msp_class.proofs.IntegerRing.{≤ℤ_refl, ≤ℤ_trans, ≤ℤ_of_same, ≤ℤ_antisym, +ℤ_mono, one-*ℤ, *ℤ-zero, *ℤ_assoc, *ℤ_exchange, *ℤ-add, *ℤ-sub, *ℤ-mono, *ℤ-mono_nonneg}
-use Rattle.msp_class.proofs.IntegerRing.{*ℤ-strict, *ℤ-cancel_lt, *ℤ-int_max, int_max_mono, pos-le}
+use Rattle.msp_class.proofs.IntegerRing.{*ℤ-strict, *ℤ-cancel_lt, *ℤ-int_max, int_max_mono, pos-le, +ℤ_idr}
 use Rattle.msp_class.specs.Sums.{int_total_below}
 use Rattle.msp_class.proofs.Sums.{sum_by-mono, sum_by-agree, int_total_below-mono, int_total_below-scale}
 use Rattle.msp_instance.specs.declared.Step.{Step}
@@ -27,8 +27,6 @@ use Rattle.msp_pieces.proofs.costs.Costs.{length-job_costs, get_or-job_costs}
 use Rattle.msp_pieces.proofs.feasible.OneMachine.{total_costs}
 use Rattle.msp_pieces.proofs.feasible.LastEnds.{last_end-natural}
 use Rattle.msp_pieces.proofs.feasible.Frames.{job_at-map}
-use Rattle.std.proofs.lemmas.Bool.{cases_Bool, cond_both, true_from_ne_false, false_from_ne_true}
-use Rattle.msp_class.proofs.IntegerRing.{+ℤ_idr}
 
 -- ---- `int_lt`
 pub int_lt-true : (a b : ℤ) → a <ℤ b → int_lt a b ≡ true

@@ -1,6 +1,6 @@
 -- The numbers of an inner instance over a bounded unit are small.
 use Rattle.std.proofs.Common.{◌≡◌, ℕ, suc, ◌+◌, ◌*◌, ◌<◌, ◌≤◌, Bool, true, false, List, length}
-use Rattle.std.proofs.Common.{ℤ, pos, negsuc, ◌+ℤ◌, ◌*ℤ◌, ◌≤ℤ◌, unsigned_abs, ◌⊎◌, inl, inr, All, sum_by, refl, sym, subst, arith, lit≤}
+use Rattle.std.proofs.Common.{ℤ, pos, negsuc, ◌+ℤ◌, ◌*ℤ◌, ◌≤ℤ◌, unsigned_abs, ◌⊎◌, inl, inr, All, get_or, sum_by, refl, sym, subst, arith, lit≤}
 use Rattle.std.proofs.lemmas.Int.{ints}
 use Rattle.std.proofs.lemmas.Nat.{mul-le}
 use Rattle.msp_class.specs.declared.sizes.TheConstants.{MOST_STEPS, GREATEST, GREATEST_EQUAL_TIME, GREATEST_UNIT}
@@ -60,18 +60,13 @@ HasSmallCost-from l u n i j fit small h =
     let adds = adds_small l.greatest_time j.curve.steps curve.few curve.steps in
     record {
       due = product_within n j.due u _ _ small (due_within l (uses_due i.class.crit) j.due h.due) fit.dates;
-      base = λ a k. product_within n (j.curve.base +ℤ pos a) u _ _ small (raised_within l j.curve.base a (sum_by (λ s. s.add) j.curve.steps) curve.base k adds) fit.levels;
+      base = λ a k. product_within n (j.curve.base +ℤ pos a) u (l.greatest_date + MOST_STEPS * l.greatest_time) _ small
+          (omega (arith, ints, curve.base.0), omega (arith, ints, curve.base.1, k, adds)) fit.levels;
       few = curve.few;
-      steps = λ k d t. product_within n (pos _) u _ _ small (pos_within _ _ (curve.steps k d t).0) fit.times;
+      steps = λ k d t. product_within n (pos (get_or j.curve.steps k d).above) u l.greatest_time _ small (omega (arith, ints), omega (arith, ints, (curve.steps k d t).0)) fit.times;
       slope = curve.slope;
       weight = weight_small (uses_weight i.class.crit) j.weight h.weight;
     }
-  where
-    raised_within : (l : Limits) (b : ℤ) (a s : ℕ) → LiesWithin l.greatest_date b → a ≤ s → s ≤ MOST_STEPS * l.greatest_time → LiesWithin (l.greatest_date + MOST_STEPS * l.greatest_time) (b +ℤ pos a)
-    raised_within l b a s w p q = (omega (arith, ints), omega (arith, ints))
-
-    pos_within : (a T : ℕ) → a ≤ T → LiesWithin T (pos a)
-    pos_within a T p = (omega (arith, ints), omega (arith, ints))
 
 -- limits that an instance meets, which are small together with the unit
 pub record HasLimits (i : Instance) (n : ℕ) : Type 0 where

@@ -37,11 +37,8 @@ module _ (i : Instance) (order : List ℕ) (o : OnceBelow (length i.jobs) order)
   abbrev pieces : List Piece
   pieces = back_to_back piece (time_at i) 0 order
 
-  positive : All (λ j. 0 < time_at i j) order
-  positive k d l = some (get_or order k d) (o.within k d l)
-
   timed : All IsTimed pieces
-  timed = back_to_back-timed (time_at i) 0 order positive
+  timed = back_to_back-timed (time_at i) 0 order (λ k d l. some (get_or order k d) (o.within k d l))
 
   in_order : AllPairs (λ p q. (p.to ≤ℤ q.from) × (p.from ≤ℤ p.to)) pieces
   in_order a b d h k =

@@ -3,7 +3,7 @@ use Rattle.std.proofs.Common.{◌≡◌, ℕ, zero, suc, ◌*◌, ◌-◌, ◌<�
 use Rattle.std.proofs.Common.{nat_abs, ◌+ℤ◌, ◌*ℤ◌, ◌≤ℤ◌, ◌<ℤ◌, inl, inr, All, AllPairs, sum_by, MatchBool, MatchOption, refl, sym, ap, ap₂, ◌∙◌, subst, arith, zero-add, add-one}
 use Rattle.std.specs.Prelude.{◌==◌, ◌&&◌, ⊤}
 use Rattle.std.specs.Int.{int_max}
-use Rattle.std.proofs.lemmas.Bool.{eqb-true, eq-eqb}
+use Rattle.std.proofs.lemmas.Bool.{eqb-true, eq-eqb, and_parts}
 use Rattle.std.proofs.lemmas.Int.{ints, clamps}
 use Rattle.std.proofs.lemmas.List.{take_all}
 use Rattle.std.proofs.lemmas.List.Elements.{All-head, All-tail, All-filter, filter_passes}
@@ -29,7 +29,6 @@ use Rattle.msp_pieces.specs.Feasible.{Feasible, HasOperation, MayRun, IsWholeWor
 use Rattle.msp_pieces.specs.BackToBack.{time_at}
 use Rattle.msp_pieces.specs.Cost.{last_end, end_of, job_cost, job_costs, combined, cost_of}
 use Rattle.msp_pieces.proofs.costs.Costs.{length-job_costs, get_or-job_costs}
-use Rattle.std.proofs.lemmas.Bool.{and_parts}
 
 -- ---- pieces in ℕ
 pub IsTimed-from_span : (p : Piece) → (pos 0 ≤ℤ p.from) × (p.from <ℤ p.to) → IsTimed p

@@ -4,14 +4,13 @@ use Rattle.std.proofs.Common.{Contains, filter, sum_by, arith, refl, sym, ap, ap
 use Rattle.std.proofs.lemmas.List.Sums.{sum_by-cons}
 use Rattle.std.proofs.lemmas.List.Elements.{All-nil, All-cons, All-head, All-tail, Contains-append_right}
 use Rattle.std.proofs.lemmas.List.Kept.{AllPairs-cons}
-use Rattle.std.proofs.lemmas.Bool.{eq-eqb, ne_eqb}
+use Rattle.std.proofs.lemmas.Bool.{eq-eqb, ne_eqb, cases_eq}
 use Rattle.msp_class.specs.Sums.{total_below}
 use Rattle.msp_class.proofs.Sums.{sum_by-same, sum_by-OnceBelow, total_below-same, OnceBelow, OnceBelow-distinct, OnceBelow-contains}
 use Rattle.msp_class.proofs.Sums.{AllPairs-head, AllPairs-tail, AllPairs-contains, Contains-tail}
 use Rattle.msp_pieces.proofs.lists.Intervals.{last_of, greatest_by}
 use Rattle.msp_pieces.specs.BackToBack.{weighted_ends, back_to_back}
 use Rattle.std.proofs.lemmas.Bool.Decides.{nat_tests}
-use Rattle.std.proofs.lemmas.Bool.{cases_eq}
 
 -- when job j of these ends, back to back: 0 where it is none of them
 abbrev pub end_in : (ℕ → ℕ) → ℕ → List ℕ → ℕ → ℕ

@@ -1,16 +1,14 @@
 -- Pieces of time [from, to) on machines: how much of an interval they fill.
 use Rattle.std.proofs.Common.{◌≡◌, ℕ, zero, suc, ◌+◌, ◌*◌, ◌-◌, ◌≤◌, ◌<◌, min, max, Bool, true, false, cond, eqb, leb, List, [], ◌∷◌, length, get_or, All, AllPairs}
-use Rattle.std.proofs.Common.{Contains, filter, sum_by, le_trans, arith, refl, sym, ap, subst, ◌∙◌}
+use Rattle.std.proofs.Common.{Contains, filter, sum_by, le_trans, arith, refl, sym, ap, subst, ◌∙◌, inl, inr}
 use Rattle.std.proofs.lemmas.List.Sums.{sum_by-cons}
 use Rattle.std.proofs.lemmas.List.Elements.{All-filter, filter_passes, All-nil, All-cons, All-head, All-tail, All-contains, Contains-get_or}
 use Rattle.std.proofs.lemmas.List.Kept.{AllPairs-filter}
-use Rattle.std.proofs.lemmas.Bool.{eqb-true, leb-true, leb-false, eq-eqb}
+use Rattle.std.proofs.lemmas.Bool.{eqb-true, leb-true, leb-false, eq-eqb, cases_lt}
 use Rattle.msp_class.specs.Sums.{total_below}
 use Rattle.msp_class.proofs.Sums.{sum_by-mono, sum_by-same, sum_by-add, sum_by-filter, sum_by-by_key_filter, sum_by-by_key_test, total_below-some, cond-yes, total_below-bound}
 use Rattle.msp_class.proofs.Sums.{AllPairs-head, AllPairs-tail, Contains-filter, Contains-from_filter, sum_by-some}
 use Rattle.msp_pieces.specs.Intervals.{size_of, IsApart, IsApartOn, work_of}
-use Rattle.std.proofs.lemmas.Bool.{cases_lt}
-use Rattle.std.proofs.Common.{inl, inr}
 
 -- ---- two intervals
 -- how long [u, v) and [a, b) overlap
@@ -49,10 +47,7 @@ packing {X} from to a b (x ∷ xs) h = by (leb (from x) (to x)) refl (packing fr
         let most = fills (from x) (to x) a b _ _ (leb-true (from x) (to x) e) before after in
         let head = sum_by-cons (overlap_of from to a b) x xs in
         let both = sum_by-add (overlap_of from to a (min b (from x))) (overlap_of from to (max a (to x)) b) xs in
-        along (overlap (from x) (to x) a b) _ _ _ _ _ _ head parts both most
-      where
-        along : (o s t u v w m : ℕ) → s ≡ o + t → t ≤ u → u ≡ v + w → o + (v + w) ≤ m → s ≤ m
-        along o s t u v w m e h f k = omega arith
+        omega (arith, head, parts, both, most)
     by false e whole before after =
         subst (λ n. n ≤ b - a) (sym (sum_by-cons (overlap_of from to a b) x xs)) (omega (arith, leb-false (from x) (to x) e))
 

@@ -2,7 +2,7 @@
 use Rattle.std.proofs.Common.{◌≡◌, ℕ, zero, suc, ◌+◌, ◌*◌, ◌-◌, ◌≤◌, ◌<◌, Bool, true, false, cond, eqb, leb, ◌≢◌, inl, inr, List, get_or, All, AllPairs, filter, arith, refl, sym, subst, ◌∙◌}
 use Rattle.std.specs.Prelude.{◌&&◌}
 use Rattle.std.specs.List.{range_with_len}
-use Rattle.std.proofs.lemmas.Bool.{eqb-true, eq-eqb, leb-true, le-leb}
+use Rattle.std.proofs.lemmas.Bool.{eqb-true, eq-eqb, leb-true, le-leb, cases_eq, cases_Bool, and_from, false_from_ne_true}
 use Rattle.std.proofs.lemmas.List.Elements.{filter_passes}
 use Rattle.std.proofs.lemmas.List.Kept.{AllPairs-filter}
 use Rattle.std.proofs.lemmas.List.FromFn.{length-range_with_len, get_or-range_with_len}
@@ -14,7 +14,6 @@ use Rattle.msp_pieces.specs.Intervals.{IsApart, IsApartOn, size_of}
 use Rattle.msp_pieces.proofs.lists.Intervals.{apart_from_one, packed}
 use Rattle.msp_pieces.proofs.feasible.OneMachine.{both_true}
 use Rattle.std.proofs.lemmas.Bool.Decides.{nat_tests}
-use Rattle.std.proofs.lemmas.Bool.{cases_eq, cases_Bool, and_from, false_from_ne_true}
 
 -- ---- totals
 abbrev one_if : Bool → ℕ
@@ -96,11 +95,8 @@ module _ (n : ℕ) (machine finish : ℕ → ℕ) where
     -- of two jobs on a machine, the earlier has the greater position
     earlier : (a b : ℕ) → a < n → b < n → machine a ≡ machine b → finish a < finish b → position_of b < position_of a
     earlier a b l h on before = total_below-strict n (λ c. cond (holds_up b c) 1 0)
-        (λ c. cond (holds_up a c) 1 0) a l (λ c m. more c) (omega (arith, cond-yes 1 (holds_up_itself a), not_before))
+        (λ c. cond (holds_up a c) 1 0) a l (λ c m. grind (arith, nat_tests)) (omega (arith, cond-yes 1 (holds_up_itself a), not_before))
       where
-        more : (c : ℕ) → cond (holds_up b c) 1 0 ≤ cond (holds_up a c) 1 0
-        more c = grind (arith, nat_tests)
-
         not_before : one_if (holds_up b a) ≡ 0
         not_before = grind (arith, nat_tests)
 

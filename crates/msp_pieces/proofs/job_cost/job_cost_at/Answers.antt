@@ -1,10 +1,9 @@
-use Rattle.std.proofs.Common.{◌*ℤ◌, sym, subst₂, arith, rules}
+use Rattle.std.proofs.Common.{◌*ℤ◌, sym, subst₂, arith, rules, ℤ, FitsSigned, to_z, of_z}
 use Rattle.std.proofs.lemmas.Int.{ints, to_z-of_z}
 use Rattle.std.specs.Int.{w64, w128}
 use Rattle.msp_instance.specs.Conditions.{LiesWithin}
 use Rattle.msp_pieces.specs.Within.{greatest_scaled}
 use Rattle.msp_pieces.proofs.job_cost.job_cost_at.Goals as goal
-use Rattle.std.proofs.Common.{ℤ, FitsSigned, to_z, of_z}
 
 pub returns-in-Lmax-clause-size : goal.returns-in-Lmax-clause-size
 returns-in-Lmax-clause-size c = let s = c.lateness_at.ensures.size in (omega (arith, ints), omega (arith, ints))
