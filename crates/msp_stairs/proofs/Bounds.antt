@@ -1,17 +1,17 @@
 -- What limits can be met: all jobs can be laid for them, or they are exceeded; and the ranges in which the least ones lie.
 use Rattle.std.proofs.Common.{◌≡◌, ℕ, zero, suc, ◌+◌, ◌*◌, ◌<◌, ◌≤◌, ◌⊎◌, inl, inr, Bool, true, false, List, [], ◌∷◌, length, get_or, map, ℤ, pos, nat_abs, ◌+ℤ◌, ◌-ℤ◌, ◌*ℤ◌, ◌≤ℤ◌, add-one}
 use Rattle.std.proofs.Common.{All, sum_by, refl, sym, ap, ap₂, subst, subst₂, ◌∙◌, arith}
-use Rattle.std.specs.Prelude.{Option, Some, None, MatchOption, IsTrue, is_some, ◌↔◌}
+use Rattle.std.specs.Prelude.{Option, Some, None, MatchOption, IsTrue, is_some, ◌↔◌, int_lt}
 use Rattle.std.specs.Int.{int_max, int_min}
 use Rattle.std.specs.List.{range_with_len}
-use Rattle.std.proofs.lemmas.Bool.{cases_lt, both_ways}
+use Rattle.std.proofs.lemmas.Bool.{cases_lt, both_ways, cond_both}
 use Rattle.std.proofs.lemmas.Int.{ints, clamps}
 use Rattle.std.proofs.lemmas.List.{length-map, map-id}
 use Rattle.std.proofs.lemmas.List.Elements.{All-nil, All-map}
 use Rattle.std.proofs.Math.Nat.{mul-le-mul_left}
 use Rattle.msp_class.specs.declared.sizes.TheConstants.{MOST_JOBS, GREATEST}
 use Rattle.msp_class.specs.Sums.{total_below}
-use Rattle.msp_class.proofs.IntegerRing.{zero-le-pos, ≤ℤ_trans, ≤ℤ_refl, ≤ℤ_total, ≤ℤ_antisym, *ℤ_comm, *ℤ-mono, *ℤ-sub, +ℤ_mono}
+use Rattle.msp_class.proofs.IntegerRing.{zero-le-pos, ≤ℤ_trans, ≤ℤ_refl, ≤ℤ_antisym, *ℤ_comm, *ℤ-mono, *ℤ-sub, +ℤ_mono}
 use Rattle.msp_class.proofs.IntegerRing.{*ℤ-zero, *ℤ-cancel_pos, *ℤ-nonneg}
 use Rattle.msp_class.proofs.Sums.{OnceBelow, OnceBelow-range, OnceBelow-from_permutation, length-OnceBelow, total_below-scale}
 use Rattle.msp_instance.specs.declared.Instance.{Instance}
@@ -74,10 +74,9 @@ capped-mono (Some end) x y h = omega (arith, ints, clamps, h)
 -- a deadline is as late as the end, or that of the lateness
 capped_or_free : (a e : ℤ) (w : ℕ) → e ≡ pos w
     → (w ≤ nat_abs (int_max (pos 0) (int_min a e))) ⊎ (nat_abs (int_max (pos 0) (int_min a e)) ≡ nat_abs (int_max (pos 0) a))
-capped_or_free a e w is = elim (≤ℤ_total e a) [
-  | inl before ↦ inl (omega (arith, ints, clamps, before, is))
-  | inr after ↦ inr (omega (arith, ints, clamps, after))
-]
+capped_or_free a e w is = cond_both (int_lt e a) e a
+    (λ x. (w ≤ nat_abs (int_max (pos 0) x)) ⊎ (nat_abs (int_max (pos 0) x) ≡ nat_abs (int_max (pos 0) a)))
+    (λ _. inl (omega (arith, ints, clamps, is))) (λ _. inr refl)
 
 pub bound_kept : (x : ℤ) → LiesWithin greatest_bound x → held x ≡ x
 bound_kept x h = kept greatest_bound x (omega arith) h

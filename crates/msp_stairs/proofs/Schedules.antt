@@ -8,7 +8,7 @@ use Rattle.std.proofs.lemmas.List.{get_or_default}
 use Rattle.std.proofs.lemmas.List.Elements.{All-contains}
 use Rattle.msp_class.specs.declared.sizes.TheConstants.{MOST_MACHINES, GREATEST}
 use Rattle.msp_class.specs.Crit.{is_greatest}
-use Rattle.msp_class.proofs.IntegerRing.{≤ℤ_refl, ≤ℤ_trans, zero-le-pos, pos-le, *ℤ_comm, *ℤ-mono, +ℤ_mono}
+use Rattle.msp_class.proofs.IntegerRing.{≤ℤ_refl, ≤ℤ_trans, *ℤ_comm, *ℤ-mono, +ℤ_mono}
 use Rattle.msp_class.proofs.Sums.{OnceBelow-contains, length-OnceBelow}
 use Rattle.msp_instance.specs.declared.Instance.{Instance}
 use Rattle.msp_instance.specs.Instance.{job_at, no_job}
@@ -43,10 +43,6 @@ stairs_schedule i ps = record { unit = pos i.machines; pieces = ps }
 capped-late : (end : Option ℤ) (moment : ℤ) → capped end moment ≤ℤ moment
 capped-late None moment = ≤ℤ_refl moment
 capped-late (Some end) moment = omega (arith, ints, clamps)
-
--- a deadline that a piece keeps is not cut off at 0
-deadline-exact : (i : Instance) (limits : Limits) (j : ℕ) → 0 < deadline i limits j → pos (deadline i limits j) ≡ last_moment i limits j
-deadline-exact i limits j some = omega (arith, ints, clamps, some)
 
 -- a due date, times the number of machines and with a bound
 pub due-within : (i : Instance) → IsOfClass i stairs_class → (j : ℕ) → j < length i.jobs → LiesWithin greatest_date (pos i.machines *ℤ (job_at i j).due)
@@ -112,11 +108,11 @@ module _ (i : Instance) (h : IsOfClass i stairs_class) (order : List ℕ) (limit
 
   in_time : All (λ p. p.to ≤ℤ last_moment i limits p.job) ps
   in_time k d l =
-      subst (λ x. (get_or ps k d).to ≤ℤ x) (deadline-exact i limits (get_or ps k d).job (some_deadline (get_or ps k d).job (job_inside k d l)))
-      (subst (λ x. x ≤ℤ pos (deadline i limits (get_or ps k d).job)) (sym (c.on_stairs.timed k d l).to) (pos-le (c.worked.ends k d l)))
+      let some = some_deadline (get_or ps k d).job (job_inside k d l) in
+      omega (arith, ints, clamps, some, (c.on_stairs.timed k d l).to, c.worked.ends k d l)
 
   not_before : (j : ℕ) → j < n → pos 0 ≤ℤ last_moment i limits j
-  not_before j l = subst (λ x. pos 0 ≤ℤ x) (deadline-exact i limits j (some_deadline j l)) (zero-le-pos (deadline i limits j))
+  not_before j l = omega (arith, ints, clamps, some_deadline j l)
 
   job_in_time : (j : ℕ) → j < n → end_of s j ≤ℤ last_moment i limits j
   job_in_time j l = last_end-least ps j (last_moment i limits j) (not_before j l) (λ k d b e. subst (λ x. (get_or ps k d).to ≤ℤ last_moment i limits x) e (in_time k d b))

@@ -8,13 +8,13 @@ use Rattle.std.proofs.lemmas.List.Folds.{concat-append}
 use Rattle.std.proofs.lemmas.List.Sums.{sum_by-cons, sum_by-append}
 use Rattle.std.proofs.lemmas.List.Elements.{All-nil, All-cons, All-head, All-tail, All-append, All-map, All-contains, Contains-append_left, Contains-append_right, Contains-append_cases}
 use Rattle.std.proofs.lemmas.List.Sorted.{IsPermutation-sym, IsPermutation-trans, IsPermutation-cons, IsPermutation-middle, IsPermutation-map, IsPermutation-to_front}
-use Rattle.std.proofs.lemmas.List.Sorted.{length_permutation, IsPermutation-append_left, IsPermutation-append_comm, All-permutation}
+use Rattle.std.proofs.lemmas.List.Sorted.{length_permutation, All-permutation}
 use Rattle.std.proofs.lemmas.List.Kept.{AllPairs-cons}
 use Rattle.msp_class.proofs.Sums.{AllPairs-head, AllPairs-tail, Contains-tail, cond-no, OnceBelow, OnceBelow-range, OnceBelow-permutation, OnceBelow-distinct, OnceBelow-contains}
 use Rattle.msp_pieces.specs.BackToBack.{weighted_ends}
 use Rattle.msp_pieces.proofs.lists.WeightedEnds.{weighted_ends-later, weighted_ends-append}
 use Rattle.msp_trees.specs.Joining.{IsForward, IsBranch, IsLine, IsJoined, IsCheapest}
-use Rattle.msp_trees.proofs.Lists.{pairs_across, pairs_exchanged, taken, parted, concat-permutation, concat-singles, All-concat, permutation_from_once}
+use Rattle.msp_trees.proofs.Lists.{pairs_across, pairs_exchanged, taken, parted, concat-permutation, concat-singles, All-concat, permutation_from_once, exchanged}
 use Rattle.msp_pieces.proofs.lists.Pushes.{range-next}
 use Rattle.msp_pieces.proofs.lists.Parts.{All-front, All-back, AllPairs-back}
 
@@ -193,17 +193,15 @@ module _ (n : ℕ) (before p w : ℕ → ℕ) (tree : IsTree n before p) where
     pub joined-next : (new : List (List ℕ)) → IsPermutation ((vs ++ us) ∷ others) new → Contains (get_or new 0 []) n → IsJoined n before p w new
     joined-next new same start = record {
       once = OnceBelow-permutation joined.once (IsPermutation-trans (concat blocks) ((us ++ (vs ++ concat others))) (concat new) (concat-permutation blocks (us ∷ vs ∷ others) parts)
-          (IsPermutation-trans (us ++ (vs ++ concat others)) (concat ((vs ++ us) ∷ others)) (concat new) moved (concat-permutation ((vs ++ us) ∷ others) new same)));
+          (IsPermutation-trans (us ++ (vs ++ concat others)) (concat ((vs ++ us) ∷ others)) (concat new)
+          (subst (IsPermutation (us ++ (vs ++ concat others))) (sym (append_assoc vs us (concat others))) (exchanged us vs (concat others)))
+          (concat-permutation ((vs ++ us) ∷ others) new same)));
       branches = All-permutation (IsBranch before) ((vs ++ us) ∷ others) new same
           (All-cons (IsBranch before) (vs ++ us) others (IsBranch-append before vs first rest (All-head (IsBranch before) vs others (All-tail (IsBranch before) us (vs ∷ others) branches))
           branch behind) (All-tail (IsBranch before) vs others (All-tail (IsBranch before) us (vs ∷ others) branches)));
       start = start;
       cheap = λ order o f. let (line, h) = joined.cheap order o f in line_joined new same (weighted_ends p w 0 order) line h;
     }
-      where
-        moved : IsPermutation (us ++ (vs ++ concat others)) ((vs ++ us) ++ concat others)
-        moved = subst (λ l. IsPermutation l ((vs ++ us) ++ concat others))
-            (append_assoc us vs (concat others)) (IsPermutation-append_left (concat others) (us ++ vs) (vs ++ us) (IsPermutation-append_comm us vs))
 
   -- behind the start a row costs as much as from moment 0
   behind_start : (order : List ℕ) → weighted_ends p w 0 (n ∷ order) ≡ weighted_ends p w 0 order

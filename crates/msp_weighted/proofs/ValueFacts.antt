@@ -3,7 +3,7 @@ use Rattle.std.proofs.Common.{◌≡◌, ℕ, ◌+◌, ◌-◌, ◌*◌, ◌<◌
 use Rattle.std.proofs.Common.{sum_by, refl, sym, ap, ap₂, subst, subst₂, ◌∙◌, arith}
 use Rattle.std.specs.Prelude.{int_lt, ◌&&◌, nat_lt, nat_le}
 use Rattle.std.proofs.lemmas.Int.{ints}
-use Rattle.std.proofs.lemmas.Bool.{and_parts, and_left, eqb-true, ltb-true, ltb-false, leb-true, le-leb, lt-leb, lt-ltb, not-true, and_right, cond_both}
+use Rattle.std.proofs.lemmas.Bool.{and_parts, and_left, ltb-true, ltb-false, leb-true, le-leb, lt-leb, lt-ltb, not-true, and_right, cond_both}
 use Rattle.std.proofs.lemmas.List.{take_more}
 use Rattle.std.proofs.lemmas.List.Elements.{All-head, All-tail}
 use Rattle.std.proofs.lemmas.List.Sums.{sum_by-cons}
@@ -141,11 +141,3 @@ module _ (i : Instance) where
 
   pub values_small : (g : ℕ) (js : List ℕ) → All (λ j. weight_at i j ≤ g) js → (t : ℕ) → values_of i js t ≤ 1 + g * length js
   values_small g js a t = values-most g 1 first_value js (λ t. cond-le (eqb t 0) 1) a t
-
-  -- ---- without jobs only the time 0 is taken
-  pub first_is : (t : ℕ) → 0 < first_value t → (t ≡ 0) × (first_value t ≡ 1)
-  first_is t h = by (eqb t 0) refl h
-    where
-      by : (b : Bool) → eqb t 0 ≡ b → 0 < cond b 1 0 → (t ≡ 0) × (first_value t ≡ 1)
-      by true e k = (eqb-true t 0 e, ap (λ c. cond c 1 0) e)
-      by false e k = absurd (omega (arith, k))

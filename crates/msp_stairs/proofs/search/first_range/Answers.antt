@@ -33,11 +33,9 @@ over_machines-requires-clause-time c =
     let i = c.args.inst.now in
     let order = c.args.order.now in
     let job = read (goal.at.over_machines-requires-clause-time c).After-index-as_slice-order in
-    omega (
-      arith,
-      c.first_time-alone.ensures ∙ ap (λ ns. (get_or ns 0 no_need).time) c.as_slice-2.ensures ∙ ap (λ j. (get_or j.needs 0 no_need).time) job,
-      (time_some i (h i order c.requires.ready) (get_or order 0 0) (first_inside i order c.requires.ready)).1,
-    )
+    let alone = c.first_time-alone.ensures ∙ ap (λ ns. (get_or ns 0 no_need).time) c.as_slice-2.ensures
+    ∙ ap (λ j. (get_or j.needs 0 no_need).time) job in
+    omega (arith, alone, (time_some i (h i order c.requires.ready) (get_or order 0 0) (first_inside i order c.requires.ready)).1)
 
 pub over_machines-requires-clause-date : goal.over_machines-requires-clause-date
 over_machines-requires-clause-date c = date_held c.index-as_slice-order.result.due (due (goal.at.over_machines-requires-clause-date c).After-index-as_slice-order)
