@@ -1,5 +1,5 @@
 -- Open shops whose operations take one time: by falling weight, m jobs go round m machines in m slots. The schedule, and what it costs.
-use Rattle.std.proofs.Common.{◌≡◌, ◌≢◌, ℕ, ◌+◌, ◌*◌, ◌-◌, ◌/◌, ◌%◌, ◌<◌, ◌≤◌, ◌⊎◌, inl, inr, List, length, pos, nat_abs, refl, sym, ap, ap₂, subst, ◌∙◌, add-one-le, arith}
+use Rattle.std.proofs.Common.{◌≡◌, ◌≢◌, ℕ, ◌+◌, ◌*◌, ◌-◌, ◌/◌, ◌%◌, ◌<◌, ◌≤◌, ◌⊎◌, inl, inr, List, length, nat_abs, refl, sym, ap, ap₂, subst, ◌∙◌, add-one-le, arith}
 use Rattle.std.proofs.Math.Nat.{div-le_self, mul-le-mul_right}
 use Rattle.std.proofs.lemmas.Nat.{mul-le}
 use Rattle.std.proofs.lemmas.Bool.{cases_lt}
@@ -12,8 +12,8 @@ use Rattle.msp_pieces.specs.Feasible.{HasOperation, MayRun}
 use Rattle.msp_pieces.specs.Loads.{job_length}
 use Rattle.msp_pieces.proofs.bounds.LastEnds.{law_of_last_ends}
 use Rattle.msp_route.proofs.Turns.{turn_inside}
-use Rattle.msp_cut_sums.specs.Sums.{at, in_blocks, weight_at, IsByFalling}
-use Rattle.msp_cut_sums.specs.Schedules.{CutsNone, IsRoundSchedule}
+use Rattle.msp_cut_sums.specs.Sums.{at, in_blocks, weight_at, IsByFalling, IsOpenCost}
+use Rattle.msp_cut_sums.specs.Schedules.{IsRoundSchedule}
 use Rattle.msp_cut_sums.specs.Pieces.{slot, squared}
 use Rattle.msp_cut_sums.proofs.Falling.{order_once, order_many, order_inside, order_falls, order_distinct}
 use Rattle.msp_cut_sums.proofs.InBlocks.{weights_bound}
@@ -23,7 +23,7 @@ use Rattle.msp_cut_sums.proofs.Rests.{rests_differ}
 use Rattle.msp_cut_sums.proofs.Schedules.{placed_uncut, round_pieces}
 use Rattle.msp_pieces.proofs.bounds.Room.{end_at}
 use Rattle.msp_cut_sums.proofs.Room.{room_in_order}
-use Rattle.msp_cut_sums.proofs.Summed.{IsSumOf-weights, IsSumAnswer, answered}
+use Rattle.msp_cut_sums.proofs.Summed.{IsSumOf-weights, IsSolved, answered, over_one}
 
 -- ---- slots
 module _ (m : ℕ) (some : 1 ≤ m) where
@@ -154,7 +154,7 @@ module _ (i : Instance) (h : IsEvenShop i) (order : List ℕ) (sorted : IsByFall
   abbrev end : ℕ → ℕ
   end k = (k / m + 1) * span
 
-  pub squared_answer : IsSumAnswer i value (record { unit = pos 1; pieces = squared m time order })
+  pub squared_answer : IsSolved i (IsOpenCost i) (IsRoundSchedule i) (over_one (squared m time order))
   squared_answer = answered i (weight_at i) (IsSumOf-weights i h.of.crit) order (order_once n (weight_at i) order sorted)
       (squared m time order) value end
       (total_below-same n _ (λ k. (k / m + 1) * (span * weight_at i (at order k))) (λ k l. omega arith))
@@ -165,12 +165,8 @@ module _ (i : Instance) (h : IsEvenShop i) (order : List ℕ) (sorted : IsByFall
       (λ t f. weights_bound n m (nat_abs t.unit) (λ r. job_length i (at order r)) (λ r. end_at t (at order r)) h.of.machine
       (room_in_order i t f (job_length i) (λ test moment. law_of_last_ends.shops i t test moment (shop_is i h) (shop_machines i h) f) order (order_once n (weight_at i) order sorted))
       span (λ r l. shop_length i h (at order r) (order_inside n (weight_at i) order sorted r l)) (λ k. weight_at i (at order k)) (order_falls n (weight_at i) order sorted))
+      (record { order = order; falls = sorted; unit = refl; pieces = round_pieces m h.of.machine time n N order place_inside })
+      (placed_uncut i m places placed) (λ cost over. (order, sorted, over))
     where
       ends : (x r : ℕ) → x / m ≡ r → to x ≤ end r
       ends x r e = omega (arith, mul-le-mul_right time (slot_early m h.of.machine (x / m) (x % m)), ap end e)
-
-  pub squared_schedule : IsRoundSchedule i (record { unit = pos 1; pieces = squared m time order })
-  squared_schedule = record { order = order; falls = sorted; unit = refl; pieces = round_pieces m h.of.machine time n N order place_inside }
-
-  pub squared_uncut : CutsNone (record { unit = pos 1; pieces = squared m time order })
-  squared_uncut = placed_uncut i m places placed

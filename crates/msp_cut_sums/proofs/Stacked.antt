@@ -1,6 +1,5 @@
 -- Jobs by falling time, each behind the job m places behind it: the schedule, and what it costs.
-use Rattle.std.proofs.Common.{◌≡◌, ℕ, zero, suc, ◌+◌, ◌*◌, ◌-◌, ◌/◌, ◌%◌, ◌<◌, ◌≤◌, inl, inr, List, length, map, All, pos, nat_abs, refl, sym, ap, subst, ◌∙◌, add_assoc, add_comm, one-mul, arith}
-use Rattle.std.specs.List.{range_with_len}
+use Rattle.std.proofs.Common.{◌≡◌, ℕ, zero, suc, ◌+◌, ◌*◌, ◌-◌, ◌/◌, ◌%◌, ◌<◌, ◌≤◌, inl, inr, List, length, map, All, nat_abs, refl, sym, ap, subst, ◌∙◌, add_assoc, add_comm, one-mul, arith}
 use Rattle.std.proofs.Math.ListN.{get_or-eq_default}
 use Rattle.std.proofs.lemmas.Bool.{cases_lt}
 use Rattle.std.proofs.lemmas.List.{length-map, get_or-map}
@@ -12,8 +11,8 @@ use Rattle.msp_instance.specs.declared.Instance.{Instance}
 use Rattle.msp_pieces.specs.Feasible.{HasOperation, MayRun}
 use Rattle.msp_pieces.specs.BackToBack.{time_at}
 use Rattle.msp_pieces.proofs.bounds.LastEnds.{law_of_last_ends}
-use Rattle.msp_cut_sums.specs.Sums.{at, in_blocks, IsByFalling}
-use Rattle.msp_cut_sums.specs.Schedules.{AreEnds, CutsNone, stacked_piece, IsStackedSchedule}
+use Rattle.msp_cut_sums.specs.Sums.{at, in_blocks, IsByFalling, IsCutSumCost}
+use Rattle.msp_cut_sums.specs.Schedules.{AreEnds, IsStackedSchedule}
 use Rattle.msp_cut_sums.specs.Pieces.{stacked}
 use Rattle.msp_cut_sums.proofs.Falling.{order_once, order_many, order_inside, order_falls, order_distinct}
 use Rattle.msp_cut_sums.proofs.InBlocks.{in_blocks-step, times_bound}
@@ -23,7 +22,7 @@ use Rattle.msp_cut_sums.proofs.Rests.{blocks_rise}
 use Rattle.msp_cut_sums.proofs.Schedules.{placed_uncut}
 use Rattle.msp_pieces.proofs.bounds.Room.{end_at}
 use Rattle.msp_cut_sums.proofs.Room.{room_in_order}
-use Rattle.msp_cut_sums.proofs.Summed.{IsSumOf-ones, IsSumAnswer, answered}
+use Rattle.msp_cut_sums.proofs.Summed.{IsSumOf-ones, IsSolved, answered, over_one}
 
 -- ---- such ends add up by blocks
 ends_by_blocks : (fuel n m : ℕ) (t e : ℕ → ℕ) → 1 ≤ m → n ≤ fuel → ((k : ℕ) → k < n → e k ≡ t k + e (k + m)) → ((k : ℕ) → n ≤ k → e k ≡ 0) → total_below n e ≡ in_blocks m n t
@@ -112,7 +111,7 @@ module _ (i : Instance) (h : IsSumInstance i) (order : List ℕ) (sorted : IsByF
   ones : (f : ℕ → ℕ) → total_below n (λ r. 1 * f r) ≡ total_below n f
   ones f = total_below-same n _ f (λ r l. one-mul (f r))
 
-  pub stacked_answer : IsSumAnswer i value (record { unit = pos 1; pieces = stacked m order ends })
+  pub stacked_answer : IsSolved i (IsCutSumCost i) (IsStackedSchedule i) (over_one (stacked m order ends))
   stacked_answer = answered i (λ _. 1) (IsSumOf-ones i h.crit) order (order_once n (time_at i) order sorted) (stacked m order ends) value (at ends)
       (ones (at ends) ∙ ends_by_blocks n n m (λ k. time_at i (at order k)) (at ends) h.machine (omega arith) end_is no_end)
       (placed_is_feasible i 1 places (sum_operations i h).operations placed)
@@ -124,9 +123,5 @@ module _ (i : Instance) (h : IsSumInstance i) (order : List ℕ) (sorted : IsByF
       (times_bound n m (nat_abs t.unit) (λ r. time_at i (at order r)) (λ r. end_at t (at order r)) h.machine
       (room_in_order i t f (time_at i) (λ test moment. law_of_last_ends.machines i t test moment h.kind f) order (order_once n (time_at i) order sorted))
       (order_falls n (time_at i) order sorted)))
-
-  pub stacked_schedule : IsStackedSchedule i (record { unit = pos 1; pieces = stacked m order ends })
-  stacked_schedule = record { order = order; ends = ends; falls = sorted; are = are; unit = refl; pieces = ap (λ k. map (stacked_piece m order ends) (range_with_len 0 k)) many }
-
-  pub stacked_uncut : CutsNone (record { unit = pos 1; pieces = stacked m order ends })
-  stacked_uncut = placed_uncut i 1 places placed
+      (record { order = order; ends = ends; falls = sorted; are = are; unit = refl; pieces = rw many refl })
+      (placed_uncut i 1 places placed) (λ cost over. (order, sorted, over))

@@ -83,7 +83,7 @@ module _ (i : Instance) (h : IsShortestInstance i) (t : ℕ) (ps : List Piece) (
       let q = get_or ps k d in ap (λ x. cond (q.job == j) (x - start q) 0) (omega (arith, laid.early k d l)))
 
   is_feasible : Feasible i s
-  is_feasible = cut_is_feasible i 1 ps h.one.machine.kind h.cut (record {
+  is_feasible = cut_is_feasible i 1 ps h.one.machine.kind h.of.cut (record {
     some = omega arith;
     timed = laid.timed;
     jobs = λ k d l. (laid.place k d l).0;
@@ -92,7 +92,7 @@ module _ (i : Instance) (h : IsShortestInstance i) (t : ℕ) (ps : List Piece) (
     machines = λ a b d l m _. inl (laid.order a b d l m);
     apart = λ a b d l m _. inl (laid.order a b d l m);
     released = λ k d l. omega (arith, laid.released k d l);
-    arcs = ordered_without_arcs i.arcs ps h.arcs;
+    arcs = ordered_without_arcs i.arcs ps h.of.arcs;
   }) (λ j l. omega (arith, sizes j, done j l))
 
   -- ---- the rule
@@ -123,7 +123,7 @@ module _ (i : Instance) (h : IsShortestInstance i) (t : ℕ) (ps : List Piece) (
   beats c f =
       let plan = IsPlan-from_feasible i h.one.machine c f in
       let d = nat_abs c.unit in
-      over_units _ _ c.unit (total_below n ends) (total_below n (last_of job_of finish c.pieces)) d (ends_cost i s h.crit laid.timed) (ends_cost i c h.crit plan.timed) plan.unit
+      over_units _ _ c.unit _ _ d (ends_cost i s h.of.crit laid.timed) (ends_cost i c h.of.crit plan.timed) plan.unit
       (ends_below i (run_before ps) (takes_time i h.one) (λ v j m. run-unborn i v j ps laid.released m)
       keeps job_of start finish c.pieces d plan.some plan.jobs plan.apart
       (λ k e l. let r = (job_at i (get_or c.pieces k e).job).release in

@@ -1,4 +1,4 @@
--- Sums of numbers by how many of them are at most each moment, and sums that grow term by term.
+-- Sums of numbers by how many of them are at most each moment.
 use Rattle.std.proofs.Common.{◌≡◌, ℕ, zero, suc, ◌+◌, ◌*◌, ◌<◌, ◌≤◌, inl, inr, cond, leb, sym, ap, ◌∙◌, arith}
 use Rattle.std.proofs.lemmas.Bool.{cases_lt, le-leb, lt-leb}
 use Rattle.msp_class.specs.Sums.{total_below}
@@ -30,8 +30,3 @@ total_from_counts n f g h =
     let low = total_by_moments n top f (λ j l. omega (arith, total_below-term n f j l)) in
     let high = total_by_moments n top g (λ j l. omega (arith, total_below-term n g j l)) in
     omega (arith, low, high, total_below-mono top (at_most n g) (at_most n f) (λ c l. h c))
-
--- two sums keep their order where no term of the lesser grows by more than that of the greater
-pub total_below-carried : (n : ℕ) (l r l' r' : ℕ → ℕ) → ((j : ℕ) → j < n → l' j + r j ≤ r' j + l j) → total_below n l ≤ total_below n r → total_below n l' ≤ total_below n r'
-total_below-carried n l r l' r' h k =
-    omega (arith, k, total_below-mono n (λ j. l' j + r j) (λ j. r' j + l j) h, total_below-add n l' r, total_below-add n r' l)

@@ -8,6 +8,5 @@ pub mod Arrivals
 pub mod Best
 pub mod EqualInstances
 pub mod SortedEnds
-pub mod HeadEnds
 pub mod HeadSteps
-pub mod HeadBest
+pub mod HeadEnds

@@ -15,7 +15,7 @@ use Rattle.msp_instance.specs.declared.Instance.{Instance}
 use Rattle.msp_instance.specs.Instance.{job_at}
 use Rattle.msp_pieces.specs.BackToBack.{time_at}
 use Rattle.msp_srpt.specs.Shortest.{left_of, KeepsRule, idle, runs}
-use Rattle.msp_srpt.proofs.Counts.{at_most, total_from_counts, total_below-carried}
+use Rattle.msp_srpt.proofs.Counts.{at_most, total_from_counts}
 
 -- the step of the bound where the least remaining time h is greater than m: b jobs of the other schedule, z jobs complete, y and u what is
 -- still to be done before and after the step
@@ -99,8 +99,9 @@ module _ (i : Instance) (run : ℕ → ℕ → ℕ) (positive : (j : ℕ) → j 
       -- ---- jobs come that are not released before t
       comes : (a b : ℕ → Bool) (t : ℕ) → ((j : ℕ) → j < n → (a j ≡ b j) ⊎ ((a j ≡ false) × (b j ≡ true) × (t ≤ r j))) → Bound a t → Bound b t
       comes a b t h k m =
-          let fewer : total_below n (lower a) ≤ total_below n (upper a) = omega (arith, left_is a, right_is a, k m) in
-          omega (arith, left_is b, right_is b, total_below-carried n (lower a) (upper a) (lower b) (upper b) term fewer)
+          let terms = total_below-mono n (λ j. lower b j + upper a j) (λ j. upper b j + lower a j) term in
+          let sums = total_below-add n (lower b) (upper a) in
+          omega (arith, k m, left_is a, left_is b, right_is a, right_is b, terms, sums, total_below-add n (upper b) (lower a))
         where
           lower : (ℕ → Bool) → ℕ → ℕ
           lower a j = d * (m * cond (a j) (cond (over j) 1 0) 0)
