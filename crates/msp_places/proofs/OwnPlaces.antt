@@ -262,13 +262,10 @@ module _ (l : Limits) (i : Instance) (s : Schedule) (unit : ℕ) (places : List 
   own_places = record {
     inside = λ j l. rank_inside n key listed key-once listed-rises covers j l;
     own = λ j k l m e. rank_once n key listed key-once listed-rises covers j k l m e;
-    ends = λ j l. ≤ℤ_trans (ends_mono s.unit (place_at places (number j)).end (number_on j * take (on j)) (omega (arith, ints, f.unit))
-        (end_by_order i.machines (place_at places (number j)).end (number_on j * take (on j)) (place_at places (number j)).machine (on j) (on-inside j l)
-        (rank_early n key listed key-once listed-rises covers j l))) (ends_then j l);
+    ends = λ j l. ≤ℤ_trans (*ℤ-mono_nonneg s.unit (omega (arith, ints, f.unit))
+        (pos-le (end_by_order i.machines (place_at places (number j)).end (number_on j * take (on j)) (place_at places (number j)).machine (on j)
+        (on-inside j l) (rank_early n key listed key-once listed-rises covers j l)))) (ends_then j l);
   }
-    where
-      ends_mono : (u : ℤ) (a b : ℕ) → pos 0 ≤ℤ u → a ≤ b → (u *ℤ pos a) ≤ℤ (u *ℤ pos b)
-      ends_mono u a b h k = *ℤ-mono_nonneg u h (pos-le k)
 
 pub law_of_earliest_places : LawOfEarliestPlaces
 law_of_earliest_places l i s unit places kind uncut c times f common earliest =

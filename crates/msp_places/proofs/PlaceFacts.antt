@@ -1,5 +1,5 @@
 -- What an instance of jobs of one time on uniform machines has.
-use Rattle.std.proofs.Common.{◌≡◌, ℕ, ◌*◌, ◌/◌, ◌<◌, ◌≤◌, List, length, get_or, map, All, ap₂, subst, ◌∙◌, arith, le-mul_of_pos_right}
+use Rattle.std.proofs.Common.{◌≡◌, ℕ, ◌*◌, ◌/◌, ◌<◌, ◌≤◌, List, length, get_or, map, ap₂, subst, ◌∙◌, arith, le-mul_of_pos_right}
 use Rattle.std.proofs.lemmas.Nat.{mul-le}
 use Rattle.std.proofs.lemmas.List.{get_or_default}
 use Rattle.msp_class.specs.declared.sizes.TheConstants.{GREATEST_MULTIPLE, GREATEST_EQUAL_TIME}
@@ -68,6 +68,3 @@ module _ (crit : Crit) (i : Instance) (h : IsPlacesInstance crit i) where
 
   pub common_time_within : (1 ≤ common_time i) × (common_time i ≤ GREATEST_EQUAL_TIME)
   common_time_within = (h.jobs 0 no_job (omega (arith, h.some))).needs.times 0 no_need (one_need 0 (omega (arith, h.some)))
-
-  pub speeds_some : All (λ s. 1 ≤ s) i.speeds
-  speeds_some k d l = (h.speeds.1 k d l).0

@@ -132,14 +132,11 @@ module _ (crit : Crit) (i : Instance) (h : IsPlacesInstance crit i) (unit : ℕ)
   short : (k : ℕ) → k < n → (1 ≤ long (place k).machine) × (long (place k).machine ≤ greatest_length)
   short k l = lengths_short i h.speeds (common_time_within crit i h) unit common few (place k).machine 0 (is k l).machine
 
-  begin_is : (k : ℕ) → k < n → (place k).begin ≡ ((place k).rank - 1) * long (place k).machine
-  begin_is k l = ap (λ (x : Place). x.begin) (is k l).is
-
   end_is : (k : ℕ) → k < n → (place k).end ≡ (place k).rank * long (place k).machine
   end_is k l = ap (λ (x : Place). x.end) (is k l).is
 
   end_later : (k : ℕ) → k < n → (place k).end ≡ (place k).begin + long (place k).machine
-  end_later k l = omega (arith, end_is k l, begin_is k l, ap (λ x. x * long (place k).machine) (sub-add_cancel (is k l).some))
+  end_later k l = omega (arith, end_is k l, ap (λ (x : Place). x.begin) (is k l).is, ap (λ x. x * long (place k).machine) (sub-add_cancel (is k l).some))
 
   end_soon : (k : ℕ) → k < n → (place k).end ≤ greatest_end
   end_soon k l = omega (arith, end_is k l, mul-le (place k).rank (long (place k).machine) MOST_JOBS greatest_length (omega (arith, (is k l).few, h.few)) (short k l).1)

@@ -1,13 +1,14 @@
 -- Places that are taken in turn are the earliest.
-use Rattle.std.proofs.Common.{◌≡◌, ◌≢◌, ℕ, ◌+◌, ◌*◌, ◌-◌, ◌<◌, ◌≤◌, inl, inr, Bool, true, false, eqb, List, [], ◌∷◌, ◌++◌, length, get_or, set, All, Contains, refl, sym, ap, zero-mul, one-mul, add-sub_cancel, le_antisymm}
+use Rattle.std.proofs.Common.{◌≡◌, ◌≢◌, ℕ, ◌+◌, ◌*◌, ◌-◌, ◌<◌, ◌≤◌, inl, inr, List, [], ◌∷◌, ◌++◌, length, get_or, set, All, Contains, sym, ap, zero-mul, one-mul, add-sub_cancel, le_antisymm}
 use Rattle.std.proofs.Common.{ap₂, subst, subst₂, ◌∙◌, arith}
-use Rattle.std.proofs.lemmas.Bool.{cases_Bool, cases_lt, eqb-true, eqb-false}
+use Rattle.std.proofs.lemmas.Bool.{cases_lt}
 use Rattle.std.proofs.lemmas.Nat.{mul-le}
 use Rattle.std.proofs.lemmas.Grind.{get_or-set_at}
 use Rattle.std.proofs.lemmas.List.{get_or-set_other, get_or_default, get_or_append_left, length-append, length-set, get_or_push}
 use Rattle.std.proofs.lemmas.List.Elements.{All-nil, All-push, Contains-append_left, Contains-push}
 use Rattle.std.proofs.Math.Nat.{mul-le-mul_right}
 use Rattle.msp_class.specs.declared.sizes.TheConstants.{MOST_JOBS}
+use Rattle.msp_class.proofs.Cases.{same_or_not}
 use Rattle.msp_pieces.proofs.feasible.Series.{AllPairs-append}
 use Rattle.msp_places.specs.declared.place.Place.{Place}
 use Rattle.msp_places.specs.Places.{place_on, IsPlace, ComesFirst, AreEarliest, no_place, place_at}
@@ -124,17 +125,11 @@ module _ (lengths : List ℕ) (long : (m : ℕ) → m < length lengths → 1 ≤
   many : length more ≡ length taken + 1
   many = length-append taken (p ∷ []) ∙ omega arith
 
-  at_k : (m : ℕ) → m ≡ k → place_at after m ≡ q
-  at_k m e = get_or-set_at next k m q no_place e first.inside
-
-  at_other : (m : ℕ) → m ≢ k → place_at after m ≡ place_at next m
-  at_other m e = get_or-set_other next k m q no_place e
-
   -- what holds of the new place of the machine k, and of the places of the others
   by_machine : (P : ℕ → Place → Type 0) → P k q → ((m : ℕ) → m < length lengths → m ≢ k → P m (place_at next m)) → (m : ℕ) → m < length lengths → P m (place_at after m)
-  by_machine P here there m l = elim (cases_Bool (eqb m k)) [
-    | inl e ↦ let same = eqb-true m k e in subst (P m) (sym (at_k m same)) (subst (λ x. P x q) (sym same) here)
-    | inr e ↦ let other = eqb-false m k e in subst (P m) (sym (at_other m other)) (there m l other)
+  by_machine P here there m l = elim (same_or_not m k) [
+    | inl same ↦ subst (P m) (sym (get_or-set_at next k m q no_place same first.inside)) (subst (λ x. P x q) (sym same) here)
+    | inr other ↦ subst (P m) (sym (get_or-set_other next k m q no_place other)) (there m l other)
   ]
 
   -- the place that is taken comes before the next places of the other machines

@@ -25,7 +25,7 @@ use Rattle.msp_instance.specs.declared.Need.{Need}
 use Rattle.msp_instance.specs.declared.Arc.{Arc}
 use Rattle.msp_instance.specs.declared.Instance.{Instance}
 use Rattle.msp_instance.specs.Instance.{no_need, no_job, job_at, need_at, common_time}
-use Rattle.msp_instance.specs.Conditions.{Limits, MeetsConditions, HasShape, HasTimes, IsJobOf, least_time}
+use Rattle.msp_instance.specs.Conditions.{Limits, MeetsConditions, HasShape, HasTimes, least_time}
 use Rattle.msp_pieces.specs.declared.Piece.{Piece}
 use Rattle.msp_pieces.specs.declared.Schedule.{Schedule}
 use Rattle.msp_pieces.specs.Piece.{no_piece, length_of, pieces_of, IsApart, IsBefore}
@@ -170,9 +170,6 @@ module _ (l : Limits) (i : Instance) (s : Schedule) (kind : IsEither (kind_of i.
   unit_is : s.unit ≡ pos unit
   unit_is = natural s.unit (omega (arith, ints, f.unit))
 
-  some_unit : 1 ≤ unit
-  some_unit = le-pos (subst (λ x. pos 1 ≤ℤ x) unit_is f.unit)
-
   some_time : 1 ≤ common_time i
   some_time = let first = (c.jobs 0 no_job (omega (arith, c.some))).needs in least_one (kind_of i.class.env) i i.class.times _ (job_at i 0).needs kind c.machines.0 first.shape first.times
 
@@ -218,20 +215,17 @@ module _ (l : Limits) (i : Instance) (s : Schedule) (kind : IsEither (kind_of i.
   long = unit * common_time i
 
   long_some : 1 ≤ long
-  long_some = mul-pos some_unit some_time
+  long_some = mul-pos (le-pos (subst (λ x. pos 1 ≤ℤ x) unit_is f.unit)) some_time
 
   from_is : (j : ℕ) → j < n → (mine j).from ≡ pos (begin j)
   from_is j b = natural (mine j).from (All-contains (λ p. (pos 0 ≤ℤ p.from) × (p.from <ℤ p.to)) s.pieces (mine j) f.span (here j b).0).0
 
   to_is : (j : ℕ) → j < n → (mine j).to ≡ pos (begin j + long)
   to_is j b =
-      let shape = (All-job c.jobs (mine j).job (placed j b).job).needs.shape in
+      let shape = (c.jobs (mine j).job no_job (placed j b).job).needs.shape in
       ends_at (mine j).from (mine j).to s.unit (begin j) unit (common_time i) (from_is j b) unit_is
       (whole_length (kind_of i.class.env) i s.unit (common_time i) (mine j) kind
       (All-contains (λ p. p.op ≡ 0) s.pieces (mine j) operations (here j b).0) (inside j b) shape (times (mine j).job (placed j b).job) (is_mine j b).whole)
-    where
-      All-job : All (IsJobOf l i) i.jobs → (k : ℕ) → k < n → IsJobOf l i (job_at i k)
-      All-job h k b = h k no_job b
 
   ends_is : (j : ℕ) → j < n → end_of s j ≡ pos (begin j + long)
   ends_is j b =

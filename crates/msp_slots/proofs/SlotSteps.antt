@@ -60,9 +60,6 @@ module _ (jobs : List ℕ) (blocked : ℕ → Bool) (machines : ℕ) (taken rest
   all_taken_ahead : All (λ f. Before f j) taken
   all_taken_ahead k d l = ahead (get_or taken k d) (Contains-append_left taken rest (get_or taken k d) (Contains-get_or taken k d l))
 
-  all_rest_ahead : All (λ f. Before f j) rest
-  all_rest_ahead k d l = ahead (get_or rest k d) (Contains-append_right taken rest (get_or rest k d) (Contains-get_or rest k d l))
-
   pub IsSlot-take : length taken < machines → blocked j ≡ false → IsSlot (jobs ++ j ∷ []) blocked machines (taken ++ j ∷ []) rest
   IsSlot-take room open_ = record {
     all = all;
@@ -84,7 +81,8 @@ module _ (jobs : List ℕ) (blocked : ℕ → Bool) (machines : ℕ) (taken rest
     free = h.free;
     few = h.few;
     taken_order = wider taken h.taken_order;
-    rest_order = all_pairs_push Before rest j (wider rest h.rest_order) all_rest_ahead;
+    rest_order = all_pairs_push Before rest j (wider rest h.rest_order)
+        (λ k d l. ahead (get_or rest k d) (Contains-append_right taken rest (get_or rest k d) (Contains-get_or rest k d l)));
     kept = All-push Kept rest j old (elim why [ inl full ↦ inr (omega (arith, full, h.few), all_taken_ahead) | inr shut ↦ inl shut ]);
   }
     where

@@ -1,12 +1,11 @@
 -- A slice is taken off the square, row after row.
-use Rattle.std.proofs.Common.{◌≡◌, ◌≢◌, ℕ, ◌+◌, ◌-◌, ◌*◌, ◌<◌, ◌≤◌, ◌⊎◌, inl, inr, refl, List, true, false, ltb, length, set, cond, sym, ap, subst, ◌∙◌, arith}
+use Rattle.std.proofs.Common.{◌≡◌, ◌≢◌, ℕ, ◌+◌, ◌-◌, ◌*◌, ◌<◌, ◌≤◌, inl, inr, refl, List, true, false, ltb, length, set, cond, sym, ap, subst, ◌∙◌, arith}
 use Rattle.std.proofs.lemmas.Bool.{eq-eqb, ne_eqb, lt-ltb, le-ltb}
 use Rattle.std.proofs.lemmas.Bool.Decides.{nat_tests}
 use Rattle.msp_matching.specs.Passing.{at}
 use Rattle.msp_timetable.specs.declared.square.Square.{Square}
 use Rattle.msp_timetable.specs.Square.{cell_at, stocks, used, used_at, given_share, padding_share, IsSquare, IsPermuted, IsTaken, IsCut}
-use Rattle.msp_timetable.proofs.Places.{cell-same, cell-other, stocks-set, positive-one}
-use Rattle.msp_class.proofs.Sums.{cond-le}
+use Rattle.msp_timetable.proofs.Places.{cell-same, cell-other, stocks-set}
 
 -- one list of stocks: some rows have lost their shares, and the next one
 module _ (n : ℕ) (column : List ℕ) (p : IsPermuted n column) (base now next : List ℕ) (share : ℕ → ℕ → ℕ) (k : ℕ) (lk : k < n) (size : length now ≡ n * n)
@@ -69,19 +68,13 @@ module _ (s : Square) (column : List ℕ) (p : IsPermuted s.size column) (d low 
         (ap (λ x. used x (cell_at s.size now.padding.items k (at column k))) now_given ∙ ap (used (cell_at s.size s.given.items k (at column k))) now_padding)
 
     -- the count, where one of the two lists lost a share
-    count-next : (a b c u v t : ℕ) → 1 ≤ u → v ≤ 1 → (low ≡ k → v ≡ 0) → a + u ≡ b + v → b + c + cond (ltb low k) 1 0 ≤ t → a + c + cond (ltb low (k + 1)) 1 0 ≤ t
-    count-next a b c u v t lu lv z q f = grind (arith, nat_tests)
-
-    one_of : (x : ℕ) → x ≡ 0 → 0 + cond (ltb 0 x) 1 0 ≡ 0 + 0
-    one_of x e = ap (λ m. 0 + cond m 1 0) (le-ltb 0 x (omega arith))
+    count-next : (xs ys : List ℕ) (c t : ℕ) → length xs ≡ s.size * s.size → 0 < cell_at s.size xs k (at column k) → (low ≡ k → cell_at s.size xs k (at column k) ≡ d)
+        → ys ≡ set xs (k * s.size + at column k) (cell_at s.size xs k (at column k) - d)
+        → stocks xs + c + cond (ltb low k) 1 0 ≤ t → stocks ys + c + cond (ltb low (k + 1)) 1 0 ≤ t
+    count-next xs ys c t size some tight e h =
+        rw e (grind (arith, nat_tests, stocks-set s.size xs k (at column k) (cell_at s.size xs k (at column k) - d) size lk (p.inside k lk), some, tight, h))
 
     module _ (next : Square) (positive : 0 < d) (enough : d ≤ used_at s column k) (tight : low ≡ k → used_at s column k ≡ d) (t : IsTaken now next k (at column k) d) where
-      a : ℕ
-      a = cell_at s.size s.given.items k (at column k)
-
-      b : ℕ
-      b = cell_at s.size s.padding.items k (at column k)
-
       from_given : 0 < cell_at s.size now.given.items k (at column k) → next.given.items ≡ set now.given.items (k * s.size + at column k) (cell_at s.size now.given.items k (at column k) - d)
           → next.padding.items ≡ now.padding.items → IsCutting s column d low next (k + 1)
       from_given w e f =
@@ -90,13 +83,8 @@ module _ (s : Square) (column : List ℕ) (p : IsPermuted s.size column) (d low 
           ap (λ v. cond v (cell_at s.size s.given.items k (at column k)) (cell_at s.size s.padding.items k (at column k))) yes in
           let here : given_share s column d k (at column k) ≡ d = given_here k ∙ ap (λ v. cond v d 0) yes in
           let v = cell_at s.size now.given.items k (at column k) - d in
-          let lost : (low ≡ k → 0 + cond (ltb 0 v) 1 0 ≡ 0 + 0) = λ q. let g = tight q in one_of v (omega (arith, g, is, now_given)) in
-          let kept : stocks next.padding.items ≡ stocks now.padding.items = ap stocks f in
-          let count = stocks-set s.size now.given.items k (at column k) v given_size lk (p.inside k lk) in
-          let given_count : stocks next.given.items ≡ stocks (set now.given.items (k * s.size + at column k) v) = ap stocks e in
-          let more = count-next (stocks (set now.given.items (k * s.size + at column k) v)) (stocks now.given.items) (stocks now.padding.items)
-          (cond (ltb 0 (cell_at s.size now.given.items k (at column k))) 1 0) (cond (ltb 0 v) 1 0) (stocks s.given.items + stocks s.padding.items)
-          (positive-one (cell_at s.size now.given.items k (at column k)) w) (cond-le (ltb 0 v) 1) (λ q. omega (arith, lost q)) count h.fewer in
+          let more = count-next now.given.items next.given.items (stocks now.padding.items)
+          (stocks s.given.items + stocks s.padding.items) given_size w (λ q. omega (arith, tight q, is, now_given)) e h.fewer in
           record {
             square = t.square;
             size = t.size ∙ h.size;
@@ -104,7 +92,7 @@ module _ (s : Square) (column : List ℕ) (p : IsPermuted s.size column) (d low 
                 (given_share s column d) k lk given_size (given_none k) h.given v (omega (arith, now_given, here, is, enough)) e;
             padding = rows-kept s.size column p s.padding.items now.padding.items next.padding.items
                 (padding_share s column d) k lk padding_size (padding_none k) h.padding f (padding_here k ∙ ap (λ x. cond x 0 d) yes);
-            fewer = omega (arith, more, kept, given_count);
+            fewer = omega (arith, more, ap stocks f);
           }
 
       from_padding : cell_at s.size now.given.items k (at column k) ≡ 0 → next.given.items ≡ now.given.items
@@ -115,38 +103,26 @@ module _ (s : Square) (column : List ℕ) (p : IsPermuted s.size column) (d low 
           ap (λ v. cond v (cell_at s.size s.given.items k (at column k)) (cell_at s.size s.padding.items k (at column k))) no in
           let here : padding_share s column d k (at column k) ≡ d = padding_here k ∙ ap (λ v. cond v 0 d) no in
           let v = cell_at s.size now.padding.items k (at column k) - d in
-          let lost : (low ≡ k → 0 + cond (ltb 0 v) 1 0 ≡ 0 + 0) = λ q. let g = tight q in one_of v (omega (arith, g, is, now_padding)) in
-          let kept : stocks next.given.items ≡ stocks now.given.items = ap stocks f in
-          let count = stocks-set s.size now.padding.items k (at column k) v padding_size lk (p.inside k lk) in
-          let padding_count : stocks next.padding.items ≡ stocks (set now.padding.items (k * s.size + at column k) v) = ap stocks e in
-          let more = count-next (stocks (set now.padding.items (k * s.size + at column k) v)) (stocks now.padding.items) (stocks now.given.items)
-          (cond (ltb 0 (cell_at s.size now.padding.items k (at column k))) 1 0) (cond (ltb 0 v) 1 0) (stocks s.given.items + stocks s.padding.items)
-          (positive-one (cell_at s.size now.padding.items k (at column k)) (omega (arith, now_padding, is, enough, positive)))
-          (cond-le (ltb 0 v) 1) (λ q. omega (arith, lost q)) count (omega (arith, h.fewer)) in
+          let more = count-next now.padding.items next.padding.items (stocks now.given.items)
+          (stocks s.given.items + stocks s.padding.items) padding_size (omega (arith, now_padding, is, enough, positive))
+          (λ q. omega (arith, tight q, is, now_padding)) e (omega (arith, h.fewer)) in
           record {
             square = t.square;
             size = t.size ∙ h.size;
             given = rows-kept s.size column p s.given.items now.given.items next.given.items (given_share s column d) k lk given_size (given_none k) h.given f (given_here k ∙ ap (λ x. cond x d 0) no);
             padding = rows-set s.size column p s.padding.items now.padding.items next.padding.items
                 (padding_share s column d) k lk padding_size (padding_none k) h.padding v (omega (arith, now_padding, here, is, enough)) e;
-            fewer = omega (arith, more, kept, padding_count);
+            fewer = omega (arith, more, ap stocks f);
           }
 
       -- the next row
       pub IsCutting-next : IsCutting s column d low next (k + 1)
-      IsCutting-next = elim change [
-        | inl w ↦ from_given w.0 w.1 w.2
-        | inr w ↦ from_padding w.0 w.1 w.2
+      IsCutting-next = elim t.change [
+        | inl w ↦ from_given (subst (λ m. 0 < cell_at m now.given.items k (at column k)) h.size w.0)
+            (subst (λ m. next.given.items ≡ set now.given.items (k * m + at column k) (cell_at m now.given.items k (at column k) - d)) h.size w.1) w.2
+        | inr w ↦ from_padding (subst (λ m. cell_at m now.given.items k (at column k) ≡ 0) h.size w.0) w.1
+            (subst (λ m. next.padding.items ≡ set now.padding.items (k * m + at column k) (cell_at m now.padding.items k (at column k) - d)) h.size w.2)
       ]
-        where
-          change : ((0 < cell_at s.size now.given.items k (at column k))
-              × (next.given.items ≡ set now.given.items (k * s.size + at column k) (cell_at s.size now.given.items k (at column k) - d)) × (next.padding.items ≡ now.padding.items))
-              ⊎ ((cell_at s.size now.given.items k (at column k) ≡ 0) × (next.given.items ≡ now.given.items)
-              × (next.padding.items ≡ set now.padding.items (k * s.size + at column k) (cell_at s.size now.padding.items k (at column k) - d)))
-          change = subst (λ m. ((0 < cell_at m now.given.items k (at column k))
-              × (next.given.items ≡ set now.given.items (k * m + at column k) (cell_at m now.given.items k (at column k) - d)) × (next.padding.items ≡ now.padding.items))
-              ⊎ ((cell_at m now.given.items k (at column k) ≡ 0) × (next.given.items ≡ now.given.items)
-              × (next.padding.items ≡ set now.padding.items (k * m + at column k) (cell_at m now.padding.items k (at column k) - d)))) h.size t.change
 
   pub IsCutting-start : IsSquare s → IsCutting s column d low s 0
   IsCutting-start q = record {

@@ -1,5 +1,5 @@
 -- The square is filled: the matrix, what the lines lack, and the padding from corner to corner.
-use Rattle.std.proofs.Common.{◌≡◌, ◌≢◌, ℕ, zero, suc, ◌+◌, ◌-◌, ◌*◌, ◌<◌, ◌≤◌, ◌⊎◌, inl, inr, refl, List, Bool, true, false, eqb, ltb, length, set, cond, ℤ, pos, nat_abs, ◌≤ℤ◌}
+use Rattle.std.proofs.Common.{◌≡◌, ◌≢◌, ℕ, zero, suc, ◌+◌, ◌-◌, ◌*◌, ◌<◌, ◌≤◌, ◌⊎◌, inl, inr, refl, List, Bool, true, false, eqb, ltb, length, set, cond, ℤ, pos, nat_abs}
 use Rattle.std.proofs.Common.{sym, ap, subst, ◌∙◌, arith}
 use Rattle.std.proofs.lemmas.Bool.{ne_eqb}
 use Rattle.std.proofs.lemmas.Bool.Decides.{nat_tests}
@@ -93,17 +93,14 @@ module _ (n : ℕ) (m : Matrix) (given : List ℕ) (a : m.rows ≤ n) (b : m.col
   pub column-none : (c : ℕ) → m.columns ≤ c → c < n → column_total n given c ≡ 0
   column-none c l ln = total_below-none n (λ r. cell_at n given r c) (λ r lr. h.outside r c lr ln (inr l))
 
-  natural_most : (x : ℕ) (z : ℤ) (g : ℕ) → z ≡ pos x → z ≤ℤ pos g → x ≤ g
-  natural_most x z g e l = omega (arith, ints)
-
   pub HasSmallLines-matrix : IsMatrix m → HasSmallLines n given
   HasSmallLines-matrix q = record {
     rows = λ r l. elim (less_or_not r m.rows) [
-      | inl s ↦ natural_most (row_total n given r) (row_sum m r) greatest_sum (row-is r s) (q.row_sums r s)
+      | inl s ↦ omega (arith, ints, row-is r s, q.row_sums r s)
       | inr s ↦ let z = row-none r s l in omega (arith, z)
     ];
     columns = λ c l. elim (less_or_not c m.columns) [
-      | inl s ↦ natural_most (column_total n given c) (column_sum m c) greatest_sum (column-is c s) (q.column_sums c s)
+      | inl s ↦ omega (arith, ints, column-is c s, q.column_sums c s)
       | inr s ↦ let z = column-none c s l in omega (arith, z)
     ];
   }
@@ -135,9 +132,6 @@ module _ (n : ℕ) (rows columns : List ℕ) where
     pub column_here : j ≤ n
 
   module _ (padding d e padding2 d2 e2 : List ℕ) (i j : ℕ) (done : Bool) (h : IsCorner padding d e i j) (li : i < n) (lj : j < n) (s : IsCornerFilled n i j padding d e padding2 d2 e2 done) where
-    x : ℕ
-    x = s.both
-
     cells : (r c : ℕ) → r < n → c < n → cell_at n padding2 r c ≡ cell_at n padding r c + cond (eqb i r) (cond (eqb j c) s.both 0) 0
     cells r c lr lc = rw s.padding
         (grind (arith, nat_tests, cell-same n padding i j (cell_at n padding i j + s.both) h.size li lj, cell-other n padding i j (cell_at n padding i j + s.both) h.size li lj r c lc))
@@ -146,11 +140,6 @@ module _ (n : ℕ) (rows columns : List ℕ) where
     only true k l = total_below-only n (λ _. s.both) k l
     only false k l = total_below-none n (λ c. 0) (λ c lc. refl)
 
-    turn : (b c : Bool) → cond b (cond c s.both 0) 0 ≡ cond c (cond b s.both 0) 0
-    turn true c = refl
-    turn false true = refl
-    turn false false = refl
-
     row_more : (r : ℕ) → r < n → row_total n padding2 r ≡ row_total n padding r + cond (eqb i r) s.both 0
     row_more r l = total_below-same n (λ c. cell_at n padding2 r c) (λ c. cell_at n padding r c + cond (eqb i r) (cond (eqb j c) s.both 0) 0) (λ c lc. cells r c l lc)
         ∙ total_below-add n (λ c. cell_at n padding r c) (λ c. cond (eqb i r) (cond (eqb j c) s.both 0) 0)
@@ -158,7 +147,7 @@ module _ (n : ℕ) (rows columns : List ℕ) where
 
     column_more : (c : ℕ) → c < n → column_total n padding2 c ≡ column_total n padding c + cond (eqb j c) s.both 0
     column_more c l = total_below-same n (λ r. cell_at n padding2 r c) (λ r. cell_at n padding r c + cond (eqb j c) (cond (eqb i r) s.both 0) 0)
-        (λ r lr. cells r c lr l ∙ ap (λ k. cell_at n padding r c + k) (turn (eqb i r) (eqb j c)))
+        (λ r lr. grind (arith, nat_tests, cells r c lr l))
         ∙ total_below-add n (λ r. cell_at n padding r c) (λ r. cond (eqb j c) (cond (eqb i r) s.both 0) 0)
         ∙ ap (λ k. column_total n padding c + k) (only (eqb j c) i li)
 
@@ -202,17 +191,14 @@ module _ (n : ℕ) (rows columns : List ℕ) where
       column_here = b;
     }
 
-    still_done : (xs ys : List ℕ) (k : ℕ) → ((r : ℕ) → at ys r + cond (eqb k r) s.both 0 ≡ at xs r) → (r : ℕ) → at xs r ≡ 0 → at ys r ≡ 0
-    still_done xs ys k q r z = let w = q r in omega (arith, w, z)
-
     done_next : (xs ys : List ℕ) (k : ℕ) → ((r : ℕ) → at ys r + cond (eqb k r) s.both 0 ≡ at xs r) → at xs k ≡ s.both → ((r : ℕ) → r < k → at xs r ≡ 0) → (r : ℕ) → r < k + 1 → at ys r ≡ 0
     done_next xs ys k q z f r l = grind (arith, nat_tests, q r, z, f r)
 
     pub IsCorner-row : done ≡ true → IsCorner padding2 d2 e2 (i + 1) j
-    IsCorner-row q = moved (i + 1) j (done_next d d2 i d_low (s.yes q) h.rows_done) (λ c l. still_done e e2 j e_low c (h.columns_done c l)) (omega arith) (omega arith) h.column_here
+    IsCorner-row q = moved (i + 1) j (done_next d d2 i d_low (s.yes q) h.rows_done) (λ c l. omega (arith, e_low c, h.columns_done c l)) (omega arith) (omega arith) h.column_here
 
     pub IsCorner-column : done ≡ false → IsCorner padding2 d2 e2 i (j + 1)
-    IsCorner-column q = moved i (j + 1) (λ r l. still_done d d2 i d_low r (h.rows_done r l)) (done_next e e2 j e_low (s.no q) h.columns_done) (omega arith) h.row_here (omega arith)
+    IsCorner-column q = moved i (j + 1) (λ r l. omega (arith, d_low r, h.rows_done r l)) (done_next e e2 j e_low (s.no q) h.columns_done) (omega arith) h.row_here (omega arith)
 
   all_zero : (f g : ℕ → ℕ) → total_below n f ≡ total_below n g → ((r : ℕ) → r < n → f r ≡ 0) → (c : ℕ) → c < n → g c ≡ 0
   all_zero f g e z c l = let t = total_below-term n g c l in let s = total_below-none n f z in omega (arith, t, s, e)
@@ -288,16 +274,10 @@ IsFilled-made m s g d e small spread greatest l p = record {
 pub IsLacking-small : (n : ℕ) (given : List ℕ) (g : ℕ) (d e : List ℕ) → IsGreatest n given g → IsLacking n given g d e → (r : ℕ) → r < n → at d r ≤ greatest_sum
 IsLacking-small n given g d e b l r lr = omega (arith, b.low, l.each_row r lr)
 
-at_zero : (x : ℤ) (k : ℕ) → x ≡ pos k → k ≤ 0 → x ≡ pos 0
-at_zero x k e l = omega (arith, ints)
-
 -- the greatest sum of a line of the square is that of the matrix
 module _ (m : Matrix) (n : ℕ) (given : List ℕ) (g : ℕ) (a : m.rows ≤ n) (b : m.columns ≤ n) (some : 1 ≤ m.rows) (s : IsSpread n m given) (h : IsGreatest n given g) where
-  most : (z : ℤ) (x : ℕ) → z ≡ pos x → x ≤ g → z ≤ℤ pos g
-  most z x e l = omega (arith, ints)
-
   zero_line : g ≡ 0 → ((r : ℕ) × (r < m.rows) × (row_sum m r ≡ pos g)) ⊎ ((c : ℕ) × (c < m.columns) × (column_sum m c ≡ pos g))
-  zero_line e = inl (0, omega arith, at_zero (row_sum m 0) (row_total n given 0) (row-is n m given a b s 0 (omega arith)) (let q = h.rows 0 (omega arith) in omega (arith, q, e)) ∙ ap pos (sym e))
+  zero_line e = inl (0, omega arith, omega (arith, ints, row-is n m given a b s 0 (omega arith), h.rows 0 (omega arith), e))
 
   line_of : (l : ℕ) → l < n → (row_total n given l ≡ g) ⊎ (column_total n given l ≡ g) → ((r : ℕ) × (r < m.rows) × (row_sum m r ≡ pos g)) ⊎ ((c : ℕ) × (c < m.columns) × (column_sum m c ≡ pos g))
   line_of l ll (inl e) = elim (less_or_not l m.rows) [
@@ -311,8 +291,8 @@ module _ (m : Matrix) (n : ℕ) (given : List ℕ) (g : ℕ) (a : m.rows ≤ n) 
 
   pub IsGreatestSum-square : IsGreatestSum m (pos g)
   IsGreatestSum-square = record {
-    rows = λ r l. most (row_sum m r) (row_total n given r) (row-is n m given a b s r l) (h.rows r (omega (arith, l, a)));
-    columns = λ c l. most (column_sum m c) (column_total n given c) (column-is n m given a b s c l) (h.columns c (omega (arith, l, b)));
+    rows = λ r l. omega (arith, ints, row-is n m given a b s r l, h.rows r (omega (arith, l, a)));
+    columns = λ c l. omega (arith, ints, column-is n m given a b s c l, h.columns c (omega (arith, l, b)));
     line = elim h.line [
       | inl e ↦ zero_line e
       | inr w ↦ line_of w.0 w.1 w.2

@@ -18,10 +18,6 @@ use Rattle.msp_timetable.proofs.Lists.{all_at, pairs_at, distinct_short, same_ba
 pub IsGrowing-short : (n : ℕ) (f : ℕ → ℕ → ℕ) (column from tree : List ℕ) → IsGrowing n f column from tree → length tree ≤ n
 IsGrowing-short n f column from tree g = distinct_short n tree (all_at (λ x. x < n) tree g.rows) (pairs_at (λ x y. x ≢ y) tree g.apart)
 
--- a term that is reached
-numbered : (n : ℕ) (xs : List ℕ) (k c : ℕ) → k < length xs → at xs k ≡ c → Contains xs c
-numbered n xs k c l e = subst (Contains xs) e (Contains-get_or xs k 0 l)
-
 module _ (n : ℕ) (f : ℕ → ℕ → ℕ) (left : ℕ) (b : IsBalanced n f left) where
   module _ (tree ys : List ℕ) (test : ℕ → Bool)
       (rows : (k : ℕ) → k < length tree → at tree k < n) (apart : (j k : ℕ) → j < k → k < length tree → at tree j ≢ at tree k)
@@ -32,12 +28,9 @@ module _ (n : ℕ) (f : ℕ → ℕ → ℕ) (left : ℕ) (b : IsBalanced n f le
     abbrev held : ℕ → ℕ
     held c = cond (test c) (sum_by (λ r. f r c) tree) 0
 
-    all_in : (r c : ℕ) → (0 < f r c → test c ≡ true) → f r c ≤ cond (test c) (f r c) 0
-    all_in r c h = grind (arith, nat_tests)
-
     -- a row of the tree adds up to what it holds there
     row_in : (k : ℕ) → k < length tree → left ≤ total_below n (λ c. cond (test c) (f (at tree k) c) 0)
-    row_in k l = omega (arith, b.rows (at tree k) (rows k l), total_below-mono n (λ c. f (at tree k) c) (λ c. cond (test c) (f (at tree k) c) 0) (λ c lc. all_in (at tree k) c (within k c l lc)))
+    row_in k l = omega (arith, b.rows (at tree k) (rows k l), total_below-mono n (λ c. f (at tree k) c) (λ c. cond (test c) (f (at tree k) c) 0) (λ c lc. grind (arith, nat_tests, within k c l lc)))
 
     rows_in : length tree * left ≤ total_below n (λ c. held c)
     rows_in =
@@ -215,7 +208,8 @@ IsSearch-goes_on n f left b positive column p start place from (x ∷ rest) h = 
 
     named : (d : ℕ) → ((k : ℕ) × (1 ≤ k) × (k < length (x ∷ rest)) × (at column (at (x ∷ rest) k) ≡ d)) → Contains (map (at column) rest) d
     named d (zero, a, l, e) = absurd (omega arith)
-    named d (suc k, a, l, e) = let m : k < length rest = omega arith in numbered n (map (at column) rest) k d (omega (arith, length-map rest (at column))) (mapped k m ∙ e)
+    named d (suc k, a, l, e) = let m : k < length rest = omega arith in
+        subst (Contains (map (at column) rest)) (mapped k m ∙ e) (Contains-get_or (map (at column) rest) k 0 (omega (arith, length-map rest (at column))))
 
 pub IsSearch-start : (n : ℕ) (f : ℕ → ℕ → ℕ) (column : List ℕ) (start : ℕ) → start < n → f start (at column start) ≡ 0
     → (from tree : List ℕ) → length from ≡ n → ((d : ℕ) → d < n → at from d ≡ n) → tree ≡ start ∷ [] → IsSearch n f column start 0 0 from tree

@@ -1,7 +1,6 @@
 -- The cells of a square that stands in a list: their places differ, and what a write does to them, to the lines and to the count.
 use Rattle.std.proofs.Common.{◌≡◌, ◌≢◌, ℕ, ◌+◌, ◌*◌, ◌<◌, ◌≤◌, ◌⊎◌, List, ltb, length, set, cond, arith}
 use Rattle.std.proofs.Math.Nat.{mul-le-mul_left}
-use Rattle.std.proofs.lemmas.Bool.Decides.{nat_tests}
 use Rattle.std.proofs.lemmas.List.{get_or-set_same, get_or-set_other}
 use Rattle.std.proofs.lemmas.List.Sums.{sum_by-set}
 use Rattle.msp_timetable.specs.Square.{cell_at, stocks}
@@ -29,6 +28,3 @@ module _ (n : ℕ) (xs : List ℕ) (i j v : ℕ) (size : length xs ≡ n * n) (l
   -- a stock that is replaced
   pub stocks-set : stocks (set xs (i * n + j) v) + cond (ltb 0 (cell_at n xs i j)) 1 0 ≡ stocks xs + cond (ltb 0 v) 1 0
   stocks-set = sum_by-set (λ x. cond (ltb 0 x) 1 0) xs (i * n + j) v 0 inside
-
-pub positive-one : (x : ℕ) → 0 < x → 1 ≤ cond (ltb 0 x) 1 0
-positive-one x l = grind (arith, nat_tests)
