@@ -1,5 +1,5 @@
 -- What certified solutions are made of: the report of a solver's answer, its class, and the proof of its cost.
-use Rattle.std.proofs.Common.{◌≡◌, ◌≢◌, ℕ, ◌^◌, ◌<◌, ◌≤◌, inl, List, [], ◌∷◌, get_or, Contains, Some, ℤ, pos, negsuc, nat_abs, ◌≤ℤ◌, unsigned_abs, refl, sym, ap, ◌∙◌, subst, arith}
+use Rattle.std.proofs.Common.{◌≡◌, ◌≢◌, ℕ, ◌<◌, ◌≤◌, inl, List, [], ◌∷◌, get_or, Contains, Some, ℤ, pos, ◌≤ℤ◌, unsigned_abs, refl, sym, ap, ◌∙◌, subst, arith}
 use Rattle.std.proofs.lemmas.Int.{ints}
 use Rattle.std.proofs.lemmas.List.{get_or-map}
 use Rattle.msp_class.specs.declared.class.Class.{Class}
@@ -7,13 +7,11 @@ use Rattle.msp_class.specs.declared.environments.EnvKind.{EnvKind}
 use Rattle.msp_class.specs.declared.environments.EnvKind.TheVariants.{Unrelated, OpenShop}
 use Rattle.msp_class.specs.declared.sizes.TheConstants.{GREATEST_UNIT}
 use Rattle.msp_class.specs.Env.{kind_of}
-use Rattle.msp_class.proofs.IntegerRing.{natural, le-pos}
 use Rattle.msp_instance.specs.declared.Instance.{Instance}
-use Rattle.msp_instance.specs.Conditions.{InClass, LiesWithin}
+use Rattle.msp_instance.specs.Conditions.{InClass}
 use Rattle.msp_instance.proofs.Limits.{Inner-from_class}
 use Rattle.msp_pieces.specs.declared.Frac.{Frac}
 use Rattle.msp_pieces.specs.declared.Schedule.{Schedule}
-use Rattle.msp_pieces.specs.declared.limits.TheConstants.{GREATEST_COMPARED_DENOMINATOR}
 use Rattle.msp_pieces.specs.declared.Solution.{Solution}
 use Rattle.msp_pieces.specs.Feasible.{Feasible}
 use Rattle.msp_pieces.specs.Fraction.{IsLowest, IsSameFraction, IsComparable}
@@ -21,13 +19,12 @@ use Rattle.msp_pieces.specs.Within.{Within}
 use Rattle.msp_route.specs.Bounds.{IsAnswer, answer_unit}
 use Rattle.msp_uniform.specs.Uniform.{cut_class}
 use Rattle.msp_cert.specs.declared.Proof.{Proof}
-use Rattle.msp_cert.specs.declared.Certificate.{Certificate}
 use Rattle.msp_cert.specs.Search.{IsFound}
 use Rattle.msp_cert.proofs.Found.{found_within, found_holds}
 use Rattle.msp_dispatch.specs.declared.certify.Maker.{Maker}
 use Rattle.msp_dispatch.specs.declared.certify.Maker.TheVariants as maker
 use Rattle.msp_dispatch.specs.Dispatch.{IsReported}
-use Rattle.msp_dispatch.specs.Certify.{HasCertificate, FitsWhereWanted, IsProofOf, KeepsTextLimits, found, searched_classes}
+use Rattle.msp_dispatch.specs.Certify.{HasCertificate, FitsWhereWanted, IsProofOf, found, searched_classes}
 use Rattle.msp_dispatch.specs.Shown.{class_of, FitsMaker, IsCertifiable, Certifies, IsTriedValue}
 use Rattle.msp_dispatch.proofs.evidence.Fractions.{IsNatural-lowest, whole_lowest, same_over}
 use Rattle.msp_dispatch.proofs.evidence.Found.{IsShort-within}
@@ -127,14 +124,3 @@ Certifies-whole i s p r w is =
         levels = w.short.levels;
       };
     }
-
--- ---- a bound within the limits of texts can be compared
-size_within : (x : ℤ) → LiesWithin (10 ^ 24) x → unsigned_abs x ≤ 10 ^ 24
-size_within (pos n) h = omega (arith, ints, h.1)
-size_within (negsuc n) h = omega (arith, ints, h.0)
-
-pub IsComparable-text : (c : Certificate) → KeepsTextLimits c → IsComparable c.bound
-IsComparable-text c h = record { num = omega (arith, size_within c.bound.num h.num); den = den (nat_abs c.bound.den) (natural c.bound.den (omega (arith, ints, h.den.0))) }
-  where
-    den : (n : ℕ) → c.bound.den ≡ pos n → unsigned_abs c.bound.den ≤ GREATEST_COMPARED_DENOMINATOR
-    den n is = omega (arith, ap unsigned_abs is, le-pos (subst (λ x. x ≤ℤ GREATEST_UNIT) is h.den.1))
