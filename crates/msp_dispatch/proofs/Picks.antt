@@ -65,12 +65,8 @@ solved_at n e at =
     let right : slice_get (map (λ x. Some x.class) solved_list) n ≡ Some (Some e.class) = slice_get-map (λ x. Some x.class) solved_list n ∙ ap (option_map (λ x. Some x.class)) at in
     some_same (sym left ∙ ap (λ xs. slice_get xs n) all_solved ∙ right)
 
--- the table has the solvers of the list
-solvers_listed : map (λ e. e.solver) solved_list ≡ SOLVERS
-solvers_listed = refl
-
 solver_at : (n : ℕ) → option_map (λ e. e.solver) (slice_get solved_list n) ≡ slice_get SOLVERS n
-solver_at n = sym (slice_get-map (λ e. e.solver) solved_list n) ∙ ap (λ xs. slice_get xs n) solvers_listed
+solver_at n = sym (slice_get-map (λ e. e.solver) solved_list n)
 
 pub entry_listed : (n : ℕ) (name : SolverName) (c : Class) → slice_get SOLVERS n ≡ Some name → class_of name ≡ Some c → Some (solves c name) ≡ slice_get solved_list n
 entry_listed n name c at is = by (slice_get solved_list n) refl (solver_at n ∙ at)
@@ -197,14 +193,11 @@ IsPick-first from n found p is picked none =
     record { target = first_led from n p h.0 h.1 none; route = h.1 }
 
 -- the pick of the class that is asked for
-some_once : (o : Option Class) (a b : Class) → o ≡ Some a → o ≡ Some b → a ≡ b
-some_once o a b e f = cc
-
 pub IsPick-given : (from at : Class) (n : ℕ) (found : Option Pick) (p : Pick)
     → found ≡ Some p → IfSome found (λ q. StandsAt n q.entry × IsRoute from q) → slice_get solved_classes n ≡ Some at → IsPick from (Some at) p
 IsPick-given from at n found p is picked given =
     let h : StandsAt n p.entry × IsRoute from p = subst (λ o. IfSome o (λ q. StandsAt n q.entry × IsRoute from q)) is picked in
     let there : slice_get solved_classes n ≡ Some p.entry.class = slice_get-map (λ s. s.class) solved_list n ∙ ap (option_map (λ s. s.class)) h.0 in
-    let same : p.entry.class ≡ at = some_once (slice_get solved_classes n) p.entry.class at there given in
+    let same : p.entry.class ≡ at = some_same (sym there ∙ given) in
     let listed : Contains solved_classes at = (n, slice_get_within solved_classes n at given, get_or_from_slice_get solved_classes n at at given) in
     record { target = (same, listed, subst (Reaches carries from) same (IsRoute-reaches from p h.1)); route = h.1 }

@@ -17,7 +17,6 @@ use Rattle.msp_pieces.specs.Feasible.{Feasible}
 use Rattle.msp_pieces.specs.Fraction.{IsLowest, IsSameFraction, IsComparable}
 use Rattle.msp_pieces.specs.Within.{Within}
 use Rattle.msp_route.specs.Bounds.{IsAnswer, answer_unit}
-use Rattle.msp_uniform.specs.Uniform.{cut_class}
 use Rattle.msp_cert.specs.declared.Proof.{Proof}
 use Rattle.msp_cert.specs.Search.{IsFound}
 use Rattle.msp_cert.proofs.Found.{found_within, found_holds}
@@ -64,12 +63,9 @@ listed maker.Lexical = (5, omega arith, refl)
 listed maker.Unrelated = (6, omega arith, refl)
 listed maker.Blocks = (7, omega arith, refl)
 
-other_class : (a b c : Class) → a ≡ b → b ≢ c → a ≢ c
-other_class a b c e differs f = differs (sym e ∙ f)
-
 fits_by : (m : Maker) (i : Instance) → i.class ≡ class_of m → FitsMaker m i → FitsWhereWanted i
 fits_by maker.UniformCut i e h = λ _. h
-fits_by _ i e h = λ f. absurd (other_class i.class _ cut_class e (λ g. let x = ap (λ (c : Class). c.env) g in cc) f)
+fits_by _ i e h = λ f. let x = ap (λ (c : Class). c.env) (sym e ∙ f) in absurd cc
 
 pub IsCertifiable-made : (i : Instance) (m : Maker) → i.class ≡ class_of m → FitsMaker m i → IsCertifiable i
 IsCertifiable-made i m e h = record { listed = subst HasCertificate (sym e) (listed m); fits = fits_by m i e h }
