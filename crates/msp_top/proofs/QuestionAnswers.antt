@@ -21,9 +21,7 @@ use Rattle.msp_results.specs.declared.fault.ResultFault.{ResultFault}
 use Rattle.msp_results.specs.declared.fault.ResultFault.TheVariants.{Memory}
 use Rattle.msp_results.specs.Reading.{results_of}
 use Rattle.msp_top.specs.declared.command.Question.{Question}
-use Rattle.msp_top.specs.declared.refusal.Refusal.{Refusal}
-use Rattle.msp_top.specs.Results.{AreAllClasses}
-use Rattle.msp_top.specs.Reports.{AreClashes, HasClashStatus, contradicts, agrees, AreShown, IsLabelReport, IsFrontierReport, IsWhyReport, ReadsResults, misread}
+use Rattle.msp_top.specs.Reports.{AreClashes, HasClashStatus, contradicts, agrees, IsFrontierReport, IsWhyReport, ReadsResults, misread}
 use Rattle.msp_top.specs.Refusals.{of_result_fault}
 use Rattle.msp_top.specs.Answers.{Answers}
 
@@ -64,18 +62,6 @@ pub status_none : (entries : List Entry) (clash strong_clash : Option Chain) →
 status_none entries None None e f h = agrees h.clash_is h.strong_clash_is
 status_none entries None (Some strong_clash) e f h = cc
 status_none entries (Some clash) strong_clash e f h = cc
-
--- ---- the labels
-
-pub all_shown : {V E : Type 0} (items : V → List ℕ) (classes all : List Class) (entries : List Entry) (r : Result V E) → length classes ≡ 0 → AreAllClasses all →
-    ((shown : List Class) → AreShown shown all → IfOk r (λ text. IsLabelReport shown entries (items text))) → IfOk r (λ text. IsLabelReport classes entries (items text))
-all_shown items [] all entries r l h report = report [] h
-all_shown items (c ∷ cs) all entries r l h report = absurd (omega (arith, l))
-
-pub named_shown : {V E : Type 0} (items : V → List ℕ) (classes : List Class) (entries : List Entry) (r : Result V E) → (length classes ≡ 0 → ⊥) →
-    ((shown : List Class) → AreShown shown classes → IfOk r (λ text. IsLabelReport shown entries (items text))) → IfOk r (λ text. IsLabelReport classes entries (items text))
-named_shown items [] entries r l report = absurd (l refl)
-named_shown items (c ∷ cs) entries r l report = report (c ∷ cs) refl
 
 -- ---- the frontier
 
@@ -122,8 +108,7 @@ first_fault question input fault (inr first) = inr (misread fault (λ e. cc) fir
 err_same : {T : Type 0} {a b : ResultFault} {r : Result T ResultFault} → r ≡ Err a → r ≡ Err b → a ≡ b
 err_same p q = cc
 
-pub misread_right : (question : Question) (input : List ℕ) (r : Result (List Entry) ResultFault) (fault : ResultFault) (why : Refusal)
-    → r ≡ Err fault → (r ≡ Err Memory) ⊎ (r ≡ results_of input) → why ≡ of_result_fault fault → Answers (ReadsResults question input) (Err why)
-misread_right question input r fault why is reading e =
-    let Q : Refusal → Type 0 = λ w. Answers (ReadsResults question input) (Err w) in
-    subst Q (sym e) (first_fault question input fault (elim reading [ inl memory ↦ inl (err_same is memory) | inr same ↦ inr (sym same ∙ is) ]))
+pub misread_right : (question : Question) (input : List ℕ) (r : Result (List Entry) ResultFault) (fault : ResultFault)
+    → r ≡ Err fault → (r ≡ Err Memory) ⊎ (r ≡ results_of input) → Answers (ReadsResults question input) (Err (of_result_fault fault))
+misread_right question input r fault is reading =
+    first_fault question input fault (elim reading [ inl memory ↦ inl (err_same is memory) | inr same ↦ inr (sym same ∙ is) ])

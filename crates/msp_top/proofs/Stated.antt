@@ -1,5 +1,5 @@
 -- A solution in the form of a report can be written as a text.
-use Rattle.std.proofs.Common.{◌≡◌, ℕ, ◌+◌, ◌*◌, ◌<◌, ◌≤◌, List, length, get_or, ℤ, pos, negsuc, ◌*ℤ◌, unsigned_abs, sym, ap, ◌∙◌, subst, arith}
+use Rattle.std.proofs.Common.{◌≡◌, ℕ, ◌+◌, ◌*◌, ◌<◌, ◌≤◌, List, length, get_or, ℤ, pos, ◌*ℤ◌, unsigned_abs, sym, ap, ◌∙◌, subst, arith}
 use Rattle.std.proofs.lemmas.Int.{ints, unsigned_abs-mul}
 use Rattle.std.specs.Int.{IsGcd}
 use Rattle.msp_class.specs.declared.class.Env.{Env}
@@ -21,18 +21,11 @@ use Rattle.msp_pieces.specs.Fraction.{IsOver, IsLowest}
 use Rattle.msp_pieces.specs.Within.{IsUnit, greatest_total}
 use Rattle.msp_grammar.specs.ScheduleText.{IsStatedCost, IsStated}
 use Rattle.msp_dispatch.specs.Dispatch.{IsReported}
+use Rattle.msp_grammar.proofs.reading.FieldLaws.{within_size, size_within}
 use Rattle.msp_cert.proofs.LeastForms.{least_form}
 use Rattle.msp_top.proofs.CostBounds.{cost_of_small}
 
 -- ---- the cost
-abs_within : (x : ℤ) (n : ℕ) → LiesWithin n x → unsigned_abs x ≤ n
-abs_within (pos a) n h = omega (arith, ints, h)
-abs_within (negsuc a) n h = omega (arith, ints, h)
-
-within_abs : (x : ℤ) (n : ℕ) → unsigned_abs x ≤ n → LiesWithin n x
-within_abs (pos a) n h = (omega (arith, ints, h), omega (arith, ints, h))
-within_abs (negsuc a) n h = (omega (arith, ints, h), omega (arith, ints, h))
-
 stated_cost : (f : Frac) (c unit : ℤ) → IsOver f c unit → IsLowest f → IsUnit unit → LiesWithin greatest_total c → IsStatedCost f
 stated_cost f c unit over low u small =
     let (n, unit_is) = natural_some unit (omega (arith, ints, u)) in
@@ -42,9 +35,9 @@ stated_cost f c unit over low u small =
     let prime : IsGcd (unsigned_abs f.num) d 1 = subst (λ y. IsGcd (unsigned_abs f.num) (unsigned_abs y) 1) den_is low in
     let (least, less) = least_form (unsigned_abs f.num + d) (unsigned_abs f.num) d (unsigned_abs c) n (omega arith)
     (omega (arith, ints, f.positive, den_is)) (omega (arith, ints, u, unit_is)) prime sizes in
-    let bound = abs_within c greatest_total small in
+    let bound = size_within greatest_total c small in
     record {
-      num = within_abs f.num _ (omega (arith, least, bound));
+      num = within_size _ f.num (omega (arith, least, bound));
       den = (f.positive, omega (arith, ints, less, den_is, unit_is, u));
     }
 

@@ -2,7 +2,7 @@
 use Rattle.std.proofs.Common.{◌≡◌, ◌≢◌, ℕ, ◌<◌, ◌≤◌, Bool, true, false, not, ◌&&◌, ◌==◌, if◌then◌else◌, List, [], ◌∷◌, ◌++◌, length, All, AllPairs, Contains, None, Ok, bytes_eq}
 use Rattle.std.proofs.Common.{codes, refl, sym, ap, subst, ◌∙◌, append_assoc, append-nil, arith, length-append, ltb-true, lt-ltb, eqb-true, eq-eqb}
 use Rattle.std.specs.List.{AllByRecursion}
-use Rattle.std.proofs.lemmas.Bool.{and_parts, not_from_false, false_from_ne_true}
+use Rattle.std.proofs.lemmas.Bool.{and_parts, both_ways, not-true, not_from_false, false_from_ne_true}
 use Rattle.std.proofs.lemmas.Map.Views.{Contains-from_any}
 use Rattle.std.proofs.lemmas.List.Folds.{list_any_at}
 use Rattle.std.proofs.lemmas.List.{get_or_at}
@@ -24,32 +24,23 @@ use Rattle.msp_grammar.proofs.reading.FieldLaws.{known_takes, known_again, name_
 
 -- ---- the line of an arc
 
-same_arc : Arc → Arc → Bool
+abbrev same_arc : Arc → Arc → Bool
 same_arc a b = (b.before == a.before) && (b.after == a.after)
 
 same_arc_is : (a b : Arc) → same_arc a b ≡ true → a ≡ b
-unfolding same_arc
 same_arc_is a b h =
     let parts = and_parts (b.before == a.before) (b.after == a.after) h in
     rw (sym (eqb-true _ _ parts.0), sym (eqb-true _ _ parts.1)) refl
 
 same_arc_itself : (a : Arc) → same_arc a a ≡ true
-unfolding same_arc
 same_arc_itself a = rw (eq-eqb a.before a.before refl, eq-eqb a.after a.after refl) refl
 
-arc_among : (arcs : List Arc) (a : Arc) → is_arc_among arcs a.before a.after ≡ true → Contains arcs a
-unfolding same_arc
-arc_among arcs a h = Contains-from_any {eq = same_arc} same_arc_is a arcs h
-
-arc_found : (arcs : List Arc) (a : Arc) → Contains arcs a → is_arc_among arcs a.before a.after ≡ true
-unfolding same_arc
-arc_found arcs a h = list_any_at (same_arc a) arcs h.0 a h.1 (subst (λ (b : Arc). same_arc a b ≡ true) (sym h.2) (same_arc_itself a))
-
 not_there : (arcs : List Arc) (a : Arc) → not (is_arc_among arcs a.before a.after) ≡ true → ¬ Contains arcs a
-not_there arcs a h m = let e = arc_found arcs a m in absurd cc
+not_there arcs a h m =
+    both_ways _ (not-true _ h) (list_any_at (same_arc a) arcs m.0 a m.1 (subst (λ (b : Arc). same_arc a b ≡ true) (sym m.2) (same_arc_itself a)))
 
 is_new : (arcs : List Arc) (a : Arc) → ¬ Contains arcs a → not (is_arc_among arcs a.before a.after) ≡ true
-is_new arcs a h = not_from_false _ (false_from_ne_true _ (λ e. h (arc_among arcs a e)))
+is_new arcs a h = not_from_false _ (false_from_ne_true _ (λ e. h (Contains-from_any {eq = same_arc} same_arc_is a arcs e)))
 
 -- What the line of an arc adds to a draft.
 pub record AddsArc (d : Draft) (fields : List (List ℕ)) (e : Draft) : Type 0 where

@@ -1,7 +1,7 @@
 -- The flags of arcs.
-use Rattle.std.proofs.Common.{◌≡◌, ◌≢◌, ℕ, ◌+◌, ◌-◌, ◌*◌, ◌<◌, ◌≤◌, Bool, true, false, ◌&&◌, ◌||◌, ◌==◌, ltb, ltb-true, List, [], ◌∷◌, ◌++◌, length, replicate, refl, sym, ap, ◌∙◌, arith}
+use Rattle.std.proofs.Common.{◌≡◌, ◌≢◌, ℕ, ◌+◌, ◌-◌, ◌*◌, ◌<◌, ◌≤◌, Bool, true, false, ◌&&◌, ◌||◌, ◌==◌, inl, inr, List, [], ◌∷◌, ◌++◌, length, replicate, refl, sym, ap, ◌∙◌, arith}
 use Rattle.std.proofs.Math.ListN.{set}
-use Rattle.std.proofs.lemmas.Bool.{and_parts, eqb-true, eqb-false, eq-eqb, ltb-false, or_left, or_right, false_from_ne_true}
+use Rattle.std.proofs.lemmas.Bool.{and_parts, eqb-true, eqb-false, eq-eqb, or_left, or_right, false_from_ne_true, cases_lt}
 use Rattle.std.proofs.lemmas.List.{get_or-set_same, get_or-set_other, get_or_append_left, get_or-append_right, get_or-replicate, get_or_past, length-replicate}
 use Rattle.std.proofs.lemmas.List.Folds.{list_any-append}
 use Rattle.msp_class.specs.declared.sizes.TheConstants.{MOST_JOBS}
@@ -14,20 +14,17 @@ none_flagged before after low high = refl
 -- ---- new room
 
 room_unflagged : (more place : ℕ) → flag_at (replicate more false) place ≡ false
-room_unflagged more place = by (ltb place more) refl
-  where
-    by : (t : Bool) → ltb place more ≡ t → flag_at (replicate more false) place ≡ false
-    by true e = get_or-replicate more place false false (ltb-true place more e)
-    by false e = get_or_past (replicate more false) place false (let past = ltb-false place more e in omega (arith, length-replicate more false))
+room_unflagged more place = elim (cases_lt place more) [
+  | inl low ↦ get_or-replicate more place false false low
+  | inr past ↦ get_or_past (replicate more false) place false (omega (arith, past, length-replicate more false))
+]
 
 pub room_same : (flags : List Bool) (more place : ℕ) → flag_at (flags ++ replicate more false) place ≡ flag_at flags place
-room_same flags more place = by (ltb place (length flags)) refl
-  where
-    by : (t : Bool) → ltb place (length flags) ≡ t → flag_at (flags ++ replicate more false) place ≡ flag_at flags place
-    by true e = get_or_append_left flags (replicate more false) false place (ltb-true place (length flags) e)
-    by false e =
-        let past = ltb-false place (length flags) e in
-        get_or-append_right flags (replicate more false) (length flags) place false refl past ∙ room_unflagged more (place - length flags) ∙ sym (get_or_past flags place false past)
+room_same flags more place = elim (cases_lt place (length flags)) [
+  | inl low ↦ get_or_append_left flags (replicate more false) false place low
+  | inr past ↦
+      get_or-append_right flags (replicate more false) (length flags) place false refl past ∙ room_unflagged more (place - length flags) ∙ sym (get_or_past flags place false past)
+]
 
 -- ---- one more arc
 

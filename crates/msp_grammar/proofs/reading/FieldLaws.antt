@@ -1,5 +1,5 @@
 -- A field that is read is the field that was written, and what was written is read again.
-use Rattle.std.proofs.Common.{◌≡◌, ℕ, suc, ◌<◌, ◌≤◌, ◌^◌, Bool, true, false, ◌&&◌, ◌||◌, ◌==◌, nat_le, List, [], ◌∷◌, length, get_or, position, bytes_eq, Option, Some, None}
+use Rattle.std.proofs.Common.{◌≡◌, ◌↔◌, ℕ, suc, ◌<◌, ◌≤◌, ◌^◌, Bool, true, false, ◌&&◌, ◌||◌, ◌==◌, nat_le, List, [], ◌∷◌, length, get_or, position, bytes_eq, Option, Some, None}
 use Rattle.std.proofs.Common.{ok_or, Ok, ℤ, pos, negsuc, unsigned_abs, All, refl, sym, ap, subst, ◌∙◌, arith, decimal, ◌++◌, ◌+◌, ◌-◌}
 use Rattle.std.specs.Char.{is_ascii_digit}
 use Rattle.std.specs.Fmt.{signed_decimal}
@@ -129,13 +129,9 @@ integer_field x h = signed_field x (omega arith) h
 
 -- ---- names
 
-name_bytes : (w : List ℕ) → is_name_text w ≡ true → (1 ≤ length w) × (list_all is_name_byte w ≡ true)
-name_bytes [] h = absurd cc
-name_bytes (b ∷ bs) h = (omega arith, h)
-
-name_text : (w : List ℕ) → 1 ≤ length w → list_all is_name_byte w ≡ true → is_name_text w ≡ true
-name_text [] h k = absurd (omega arith)
-name_text (b ∷ bs) h k = k
+name_is : (w : List ℕ) → (is_name_text w ≡ true) ↔ ((1 ≤ length w) × (list_all is_name_byte w ≡ true))
+name_is [] = (λ h. absurd cc, λ h. absurd (omega (arith, h.0)))
+name_is (b ∷ bs) = (λ h. (omega arith, h), λ h. h.1)
 
 pub name_takes : (at : ℕ) (w name : List ℕ) → job_name_at at w ≡ Ok name → (w ≡ name) × IsJobName name
 unfolding job_name_at
@@ -143,13 +139,13 @@ name_takes at w name e =
     let s = provided_ok (is_name_text w) (Name at) (provided (nat_le (length w) LONGEST_NAME) (Limit at what.Name) (Ok w)) name e in
     let t = provided_ok (nat_le (length w) LONGEST_NAME) (Limit at what.Name) (Ok w) name s.1 in
     let same : w ≡ name = ok_is w name t.1 in
-    let bytes = name_bytes w s.0 in
+    let bytes = (name_is w).0 s.0 in
     let is : IsJobName w = record { some = bytes.0; short = leb-true (length w) LONGEST_NAME t.0; bytes = AllPass-from_list_all is_name_byte w bytes.1 } in
     (same, subst IsJobName same is)
 
 pub name_again : (at : ℕ) (name : List ℕ) → IsJobName name → job_name_at at name ≡ Ok name
 unfolding job_name_at
-name_again at name h = rw (name_text name h.some (list_all-from_AllPass is_name_byte name h.bytes), le-leb (length name) LONGEST_NAME h.short) refl
+name_again at name h = rw ((name_is name).1 (h.some, list_all-from_AllPass is_name_byte name h.bytes), le-leb (length name) LONGEST_NAME h.short) refl
 
 pub name_field : (name : List ℕ) → IsJobName name → IsField name
 name_field name h =
