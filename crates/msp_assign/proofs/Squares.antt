@@ -54,7 +54,8 @@ IsCheapestSoFar-next cost fall taken r k best price mark next h e m q = record {
   found = if_some-weaker next.column _ _ (λ c x. step c x) q.found;
 }
   where
-    old : (o : Option ℕ) (c : ℕ) → IfSome o (λ c. (c < k) × (is_taken taken c ≡ false) × (best.paid ≡ paid cost fall r c)) → o ≡ Some c → (c < k) × (is_taken taken c ≡ false) × (best.paid ≡ paid cost fall r c)
+    old : (o : Option ℕ) (c : ℕ) → IfSome o (λ c. (c < k) × (is_taken taken c ≡ false) × (best.paid ≡ paid cost fall r c))
+        → o ≡ Some c → (c < k) × (is_taken taken c ≡ false) × (best.paid ≡ paid cost fall r c)
     old o c i s = subst (λ o. IfSome o (λ c. (c < k) × (is_taken taken c ≡ false) × (best.paid ≡ paid cost fall r c))) s i
 
     step : (c : ℕ) → ((c ≡ k) × (next.paid ≡ price) × (mark ≡ false)) ⊎ ((best.column ≡ Some c) × (next.paid ≡ best.paid)) → (c < k + 1) × (is_taken taken c ≡ false) × (next.paid ≡ paid cost fall r c)

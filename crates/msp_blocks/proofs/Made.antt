@@ -121,7 +121,8 @@ module _ (i : Instance) (one : IsOneInstance i) (heads : List ℕ) (are : AreHea
       gets : GetsWork i s j 0
       gets = gets_by_kind Identical i s j one.machine.kind (by i.class.cut refl)
         where
-          by : (b : Bool) → i.class.cut ≡ b → MatchBool b (total (map (part_of Identical i) (pieces_of s j 0)) ≡ pos 1 *ℤ pos (time_at i j)) ((p : Piece) × (pieces_of s j 0 ≡ p ∷ []) × IsWholeWork Identical i (pos 1) p)
+          by : (b : Bool) → i.class.cut ≡ b → MatchBool b (total (map (part_of Identical i) (pieces_of s j 0)) ≡ pos 1 *ℤ pos (time_at i j))
+              ((p : Piece) × (pieces_of s j 0 ≡ p ∷ []) × IsWholeWork Identical i (pos 1) p)
           by true e = adds_up
           by false e = elim whole [ inl cut ↦ absurd (cc) | inr unit ↦ in_one unit ]
 

@@ -35,7 +35,8 @@ late_and_on_time f w (x ∷ xs) = ap (λ n. n + sum_by w (cond (not (f x)) (x �
 abbrev pub late_weight : Instance → (ℕ → ℕ) → Schedule → ℕ
 late_weight i w s = total_below (length i.jobs) (λ j. cond (is_late i s j) (w j) 0)
 
-module _ (i : Instance) (h : IsPlain i) (w : ℕ → ℕ) (order first late : List ℕ) (whole : order ≡ first ++ late) (once : OnceBelow (length i.jobs) order) (in_time : OnTime (time_at i) (due_at i) 0 first) where
+module _ (i : Instance) (h : IsPlain i) (w : ℕ → ℕ) (order first late : List ℕ) (whole : order ≡ first ++ late)
+    (once : OnceBelow (length i.jobs) order) (in_time : OnTime (time_at i) (due_at i) 0 first) where
   abbrev s : Schedule
   s = schedule_in_order i order
 

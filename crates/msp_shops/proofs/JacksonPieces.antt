@@ -55,7 +55,8 @@ early_of second total own crossing all has_own has_crossing whole last p is (inr
     inr (q, has_own q c, (All-contains IsTimed all q whole (has_own q c)).to ∙ ap pos e ∙ sym is.from, s)
 
 -- ---- both groups
-module _ (i : Instance) (shop : IsTwoMachineShop i) (here there : List JobTimes) (group_here : IsJohnsonGroup i 0 here) (group_there : IsJohnsonGroup i 1 there) (ps : List Piece) (h : AreLaid here there ps) where
+module _ (i : Instance) (shop : IsTwoMachineShop i) (here there : List JobTimes) (group_here : IsJohnsonGroup i 0 here)
+    (group_there : IsJohnsonGroup i 1 there) (ps : List Piece) (h : AreLaid here there ps) where
   abbrev both : List Piece
   both = h.pieces_here ++ h.pieces_there
 
@@ -110,4 +111,5 @@ module _ (i : Instance) (shop : IsTwoMachineShop i) (here there : List JobTimes)
 pub IsJacksonSchedule-read : (i : Instance) (shop : IsTwoMachineShop i) (here there here_read there_read : List JobTimes) (ps : List Piece)
     → IsJohnsonGroup i 0 here → IsJohnsonGroup i 1 there → here_read ≡ here → there_read ≡ there
     → AreLaid here_read there_read ps → IsJacksonSchedule i (over_one ps)
-IsJacksonSchedule-read i shop here there here_read there_read ps a b e f h = IsJacksonSchedule-laid i shop here there a b ps (subst (λ l. AreLaid here l ps) f (subst (λ l. AreLaid l there_read ps) e h))
+IsJacksonSchedule-read i shop here there here_read there_read ps a b e f h = IsJacksonSchedule-laid i shop here there a b ps
+    (subst (λ l. AreLaid here l ps) f (subst (λ l. AreLaid l there_read ps) e h))

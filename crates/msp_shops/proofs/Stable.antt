@@ -30,7 +30,8 @@ ties_itself lt o x = by (lt x x) (o.one_way x x)
     by true h = sym (h refl)
     by false h = refl
 
-pub stable_pairs : {X : Type 0} (R : X → X → Type 0) (lt : X → X → Bool) → IsStrictWeakOrder lt → (xs ys : List X) → AllPairs R xs → IsStableBy lt xs ys → AllPairs (λ a b. ties lt a b ≡ true → R a b) ys
+pub stable_pairs : {X : Type 0} (R : X → X → Type 0) (lt : X → X → Bool) → IsStrictWeakOrder lt → (xs ys : List X)
+    → AllPairs R xs → IsStableBy lt xs ys → AllPairs (λ a b. ties lt a b ≡ true → R a b) ys
 stable_pairs R lt o xs ys h stable i j d a b tie =
     let x = get_or ys i d in
     kept_pairs R (ties lt x) ys (subst (AllPairs R) (sym (stable x)) (AllPairs-filter R (ties lt x) xs h)) i j d a b (ties_itself lt o x) tie

@@ -133,7 +133,8 @@ module _ (i : Instance) (h : IsShortestInstance i) (t : ℕ) (ps : List Piece) (
   IsShortestSchedule-made = record {
     best = record {
       best = record { feasible = is_feasible; least = beats };
-      answer = timed_answer i s ((MOST_JOBS + 3) * GREATEST) (unit_one (kind_of i.class.env)) (omega (arith, w.few, h.one.few)) laid.timed (λ k d l. omega (arith, laid.early k d l, w.short)) (omega (arith, ints));
+      answer = timed_answer i s ((MOST_JOBS + 3) * GREATEST) (unit_one (kind_of i.class.env)) (omega (arith, w.few, h.one.few)) laid.timed
+          (λ k d l. omega (arith, laid.early k d l, w.short)) (omega (arith, ints));
     };
     rule = is_shortest_first;
     settled = record {
