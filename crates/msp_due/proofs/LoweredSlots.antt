@@ -205,8 +205,10 @@ module _ (i : Instance) (order : List ℕ) (s : IsSequence i order) (forward : A
       AreLoweredFrom-next = record {
         whole = length-set low job value ∙ h.whole;
         inside = omega (arith, near);
-        most = λ x. elim (same_or_not x job) [ inl is ↦ omega (arith, ap (λ x. get_or new x 0) is, here, value_small, ap (λ x. get_or due x 0) is)
-            | inr other ↦ omega (arith, others x other, h.most x) ];
+        most = λ x. elim (same_or_not x job) [
+          | inl is ↦ omega (arith, ap (λ x. get_or new x 0) is, here, value_small, ap (λ x. get_or due x 0) is)
+          | inr other ↦ omega (arith, others x other, h.most x)
+        ];
         still = λ k l. elsewhere k (omega (arith, l, near)) (λ e. absurd (omega (arith, e, l))) ∙ h.still k (omega (arith, l));
         done = λ k from l. elim (cases_lt p k) [
           | inl past ↦ subst (λ y. IsLowered (length due + 1) m (due_after (length due) leads (λ z. get_or new z 0) (get_or order k 0)) (get_or due (get_or order k 0) 0) y)

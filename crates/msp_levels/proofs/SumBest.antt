@@ -139,9 +139,11 @@ module _ (i : Instance) (class : i.class ≡ levels_sum_class) (inner : Inner i)
           where
             by : (j : ℕ) → j < n → (b : Bool) → ltb (begin j) t ≡ b → one_if b ≤ one_if (int_le (end_of made j) (pos 1 *ℤ pos t))
             by j b false e = omega arith
-            by j b true e = omega
-                (arith, ap one_if (int_le-from (end_of made j) (pos 1 *ℤ pos t)
-                    (subst₂ (λ x y. x ≤ℤ y) (sym (units.runs.ends j b)) (sym (one-*ℤ (pos t))) (pos-le (omega (arith, ltb-true (begin j) t e))))))
+            by j b true e = omega (
+              arith,
+              ap one_if (int_le-from (end_of made j) (pos 1 *ℤ pos t)
+                  (subst₂ (λ x y. x ≤ℤ y) (sym (units.runs.ends j b)) (sym (one-*ℤ (pos t))) (pos-le (omega (arith, ltb-true (begin j) t e))))),
+            )
 
 -- what the schedule of the rule has
 pub record IsSumAnswer (i : Instance) (s : Schedule) : Type 0 where

@@ -27,7 +27,7 @@ pub latest_fits : (unit d b : ℤ) → IsUnit unit → LiesWithin greatest_row_d
 latest_fits unit d b u h k =
     let (n, e) = natural_some unit (omega (arith, ints, u.0)) in
     subst (λ z. FitsSigned w128 (z *ℤ (d +ℤ b))) (sym e) (within_fits _ (product_within n (d +ℤ b) (unsigned_abs GREATEST_UNIT)
-        (10 ^ 19) (10 ^ 32) (omega (arith, ints, e, u.1)) (both_within d b h k) (omega arith)))
+    (10 ^ 19) (10 ^ 32) (omega (arith, ints, e, u.1)) (both_within d b h k) (omega arith)))
 
 pub fits_again : (u s x y : ℤ) → u ≡ x → s ≡ y → FitsSigned w128 (x *ℤ y) → FitsSigned w128 (u *ℤ s)
 fits_again u s x y e f h = subst (FitsSigned w128) (sym (ap₂ (λ a b. a *ℤ b) e f)) h

@@ -71,7 +71,7 @@ module _ (i : Instance) (order : List ℕ) (r : IsReady i order) (limits : Limit
     is_cost : cost_of i (stairs_schedule i ps) ≡ limits.late
     is_cost = ≤ℤ_antisym (at_most_bound i (h i order r) order limits (CanLay-ready i order r limits) ps made) (*ℤ-cancel i.machines (omega (arith, (h i order r).machine))
         (subst (λ x. x ≤ℤ (pos i.machines *ℤ cost_of i (stairs_schedule i ps))) (*ℤ_comm limits.late (pos i.machines))
-            (forced_bounds i (h i order r) (stairs_schedule i ps) feasible limits.late forced)))
+        (forced_bounds i (h i order r) (stairs_schedule i ps) feasible limits.late forced)))
 
     ends_soonest : EndsSoonest i (stairs_schedule i ps)
     ends_soonest t f costs = elim (≤ℤ_total ((pos i.machines *ℤ makespan t) *ℤ pos i.machines) (t.unit *ℤ ((pos i.machines *ℤ makespan (stairs_schedule i ps)) -ℤ pos i.machines))) [

@@ -83,7 +83,7 @@ module _ (i : Instance) (h : IsLateInstance i) (order : List ℕ) (o : IsTableOr
       past j l w =
           let after = is_after (pos 1 *ℤ due_at i j) (end_of (schedule_in_order i order) j) (costs_weight (is_late i (schedule_in_order i order) j) (weight_at i j) (h.heavy j no_job l) w) in
           subst (λ e. due_at i j <ℤ e) (ends i h.free.plain (weight_at i) order o.on_time o.late o.whole once early j l)
-              (subst (λ d. d <ℤ end_of (schedule_in_order i order) j) (one-*ℤ (due_at i j)) after)
+          (subst (λ d. d <ℤ end_of (schedule_in_order i order) j) (one-*ℤ (due_at i j)) after)
 
   pub late_order : IsLateOrder i order
   late_order = record {

@@ -17,7 +17,7 @@ made c =
     let order = c.as_slice-2.result.now in
     let limits = c.in_ok-limits.limits in
     solved i order (IsReady-shown i c.in_ok-order.order.items order c.requires.class c.requires.inner c.in_ok-order.ensures.all
-        c.in_ok-order.ensures.sorted c.as_slice-2.ensures.value) limits c.in_ok-limits.ensures c.in-Some.pieces
+    c.in_ok-order.ensures.sorted c.as_slice-2.ensures.value) limits c.in_ok-limits.ensures c.in-Some.pieces
     (subst (λ r. MatchOption r (IsTooLate i order limits) (IsClimbed i order limits)) c.in-Some.is c.in_ok-pieces.ensures) c.from-unit.result c.from-unit.ensures
 
 pub least_limits-requires : goal.least_limits-requires

@@ -40,4 +40,4 @@ returns-clause-order c = jobs_in_order (IsLateOrder c.args.inst.now) c.args.inst
 pub returns-clause-best : goal.returns-clause-best
 returns-clause-best c =
     best_in_order c.args.inst.now c.deref.result.now c.solution_in_order.result
-        (made (goal.at.returns-clause-best c).After-deref).best c.solution_in_order.ensures.schedule c.solution_in_order.ensures.cost
+    (made (goal.at.returns-clause-best c).After-deref).best c.solution_in_order.ensures.schedule c.solution_in_order.ensures.cost
