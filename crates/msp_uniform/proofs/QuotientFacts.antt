@@ -1,5 +1,5 @@
 -- The greatest of works over speeds, one after another.
-use Rattle.std.proofs.Common.{◌≡◌, ℕ, zero, suc, ◌+◌, ◌*◌, ◌<◌, ◌≤◌, inl, inr, List, length, take, All, sum_by, sym, subst, subst₂, arith}
+use Rattle.std.proofs.Common.{◌≡◌, ℕ, ◌+◌, ◌*◌, ◌<◌, ◌≤◌, inl, inr, List, length, take, All, sum_by, sym, subst, subst₂, arith}
 use Rattle.std.proofs.Math.Nat.{mul-le-mul_right, le_of_mul-le-mul_right}
 use Rattle.std.proofs.lemmas.List.Sums.{sum_by_more, get_or-le-sum_by}
 use Rattle.msp_class.specs.declared.sizes.TheConstants.{GREATEST}
@@ -26,13 +26,10 @@ module _ (ts sp jobs machines : List ℕ) where
   IsGreatestUpTo-first w v some a b e f = record {
     some = omega (arith, f, fast a b 0 0 some, get_or-le-sum_by speed machines 0 0 some);
     total = subst₂ (λ x y. sum_by time jobs * y ≤ x * sum_by speed machines) (sym e) (sym f) (omega arith);
-    firsts = λ k l. none k l;
+    firsts = λ k l. let none : 0 ≡ k = omega (arith, l) in
+        subst (λ j. sum_by time (take j jobs) * v ≤ w * sum_by speed (take j machines)) none (omega arith);
     reached = inl (e, f);
   }
-    where
-      none : (k : ℕ) → k ≤ 0 → sum_by time (take k jobs) * v ≤ w * sum_by speed (take k machines)
-      none zero l = omega arith
-      none (suc k) l = absurd (omega (arith, l))
 
   module _ (k w v work rate w' v' : ℕ) (g : IsGreatestUpTo k time speed jobs machines w v) (inside : k < length machines) (within : k < length jobs) (a : All (λ m. m < length sp) machines)
       (b : All (λ s. (1 ≤ s) × (s ≤ GREATEST)) sp) (work_is : work ≡ sum_by time (take (k + 1) jobs)) (rate_is : rate ≡ sum_by speed (take (k + 1) machines)) where
