@@ -126,8 +126,8 @@ module _ (j : Instance) (crit : j.class.crit ≡ SumU) (s : Schedule) (best : Be
   no_less = subst (λ x. pos 0 ≤ℤ x) (sym (late_cost j s (nat_abs s.unit) crit unit_is)) (zero-le-pos (nat_abs s.unit * late_jobs j s))
 
   pub best_is_free : CanBeFree j → cost_of j s ≡ pos 0
-  best_is_free (u, f, e) = ≤ℤ_antisym
-      (*ℤ-cancel_pos u.unit (omega (arith, ints, f.unit)) (subst₂ (λ x y. x ≤ℤ y) (*ℤ_comm (cost_of j s) u.unit) (ap (λ c. c *ℤ s.unit) e ∙ zero-*ℤ s.unit ∙ sym (*ℤ-zero u.unit)) (best.least u f))) no_less
+  best_is_free (u, f, e) = ≤ℤ_antisym (*ℤ-cancel_pos u.unit (omega (arith, ints, f.unit))
+      (subst₂ (λ x y. x ≤ℤ y) (*ℤ_comm (cost_of j s) u.unit) (ap (λ c. c *ℤ s.unit) e ∙ zero-*ℤ s.unit ∙ sym (*ℤ-zero u.unit)) (best.least u f))) no_less
 
   pub free_by_cost : (cost : Frac) → IsOver cost (cost_of j s) s.unit → (cost.num ≡ pos 0) ↔ CanBeFree j
   free_by_cost cost over = (

@@ -74,4 +74,5 @@ module _ (i : Instance) (t : IsLatenessShop i) (heads : List ℕ) (p : IsPermuta
   heads_few = omega (arith, heads_many i heads p, t.few)
 
   pub heads_low : All (λ r. r ≤ 2 * GREATEST) heads
-  heads_low = All-permutation (λ r. r ≤ 2 * GREATEST) (map (λ j. j.release) i.jobs) heads p (All-map (λ r. r ≤ 2 * GREATEST) (λ j. j.release) i.jobs (λ k d l. (t.jobs k d l).release))
+  heads_low = All-permutation (λ r. r ≤ 2 * GREATEST) (map (λ j. j.release) i.jobs) heads p
+      (All-map (λ r. r ≤ 2 * GREATEST) (λ j. j.release) i.jobs (λ k d l. (t.jobs k d l).release))
