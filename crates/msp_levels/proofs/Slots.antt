@@ -147,7 +147,8 @@ module _ (i : Instance) (level : ℕ → ℕ) (t : IsOuttree i level)
                 let same : a.before ≡ q = sym (before_is i.arcs a (subst (λ j. entering i.arcs j ≤ 1) (sym to) (t.few k lk)) ca) ∙ ap (before_of i.arcs) to ∙ comes in
                 absurd (omega (arith, from, less, ap begin same))
             | inr soon ↦ line_to_slot s f len k (suc c) lk out soon (omega (arith, enough, next)) (omega (arith, far, next)) (λ d.
-                subst (λ e. climb i.arcs begin s e k ≡ f) (sym (add-suc d c)) (climb-step i.arcs begin s (d + c) k (omega (arith, far, next)) ∙ ap (climb i.arcs begin s (d + c)) comes ∙ up d))
+                subst (λ e. climb i.arcs begin s e k ≡ f) (sym (add-suc d c))
+                (climb-step i.arcs begin s (d + c) k (omega (arith, far, next)) ∙ ap (climb i.arcs begin s (d + c)) comes ∙ up d))
           ]
     ]
 

@@ -41,7 +41,7 @@ module _ (n : ℕ) (key list : ℕ → ℕ) (once : (a b : ℕ) → a < n → b 
   ]
     where
       earlier : (q : ℕ) → q < n → list q ≡ key c → q < r
-      earlier q k e = elim (cases_lt q r) [ inl f ↦ f | inr g ↦ absurd (elim (cases_lt r q) [ inl f ↦ omega (arith, rises r q f k, e, h) | inr f ↦ omega (arith, ap list (le_antisymm g f), e, h) ]) ]
+      earlier q k e = elim (cases_lt q r) [ inl f ↦ f | inr g ↦ elim (cases_lt r q) [ inl f ↦ omega (arith, rises r q f k, e, h) | inr f ↦ omega (arith, ap list (le_antisymm g f), e, h) ] ]
 
   module _ (a : ℕ) (l : a < n) (less : key a < list (rank a)) where
     -- the numbers up to that of a

@@ -29,9 +29,6 @@ module _ (i : Instance) (t : IsLatenessShop i) where
   pub unit_jobs : HasUnitJobs i
   unit_jobs = HasUnitJobs-from i _ _ _ _ refl t
 
-  pub release_small : All (λ j. j.release ≤ 2 * GREATEST) i.jobs
-  release_small k d l = (t.jobs k d l).release
-
   pub due_small : All (λ j. LiesWithin (2 * GREATEST) j.due) i.jobs
   due_small k d l = (t.jobs k d l).due
 
@@ -65,13 +62,10 @@ module _ (i : Instance) (t : IsLatenessShop i) where
       needs = record { shape = h.needs.shape; times = h.needs.times; some = h.needs.some };
       times = h.times;
       release = omega (arith, count_by-le-length (λ x. ltb x a.release) kept, few);
-      due = small (squeezed_due kept (a.due +ℤ bound)) (omega (arith, count_by-le-length (λ x. int_le (pos (x + 1)) (a.due +ℤ bound)) kept, few));
+      due = (omega (arith, ints), pos-le (omega (arith, count_by-le-length (λ x. int_le (pos (x + 1)) (a.due +ℤ bound)) kept, few)));
       weight = h.weight;
       curve = h.curve;
     }
-      where
-        small : (d : ℕ) → d ≤ MOST_JOBS → LiesWithin GREATEST (pos d)
-        small d l = (omega (arith, ints), pos-le (omega (arith, l)))
 
     pub lower_in_class : length kept ≤ MOST_JOBS → Inner i → InClass lower
     lower_in_class few inner = record {
@@ -122,14 +116,8 @@ pub squeeze_is : (kept : List ℕ) (bound d : ℤ) (j : Job) (r : ℕ) (x : ℤ)
     → r ≡ squeezed_release kept j.release → d ≡ pos (squeezed_due kept x) → x ≡ to_z w64 (of_z w64 (to_z w64 (of_z w64 j.due) +ℤ to_z w64 (of_z w64 bound)))
     → record j { release = r; due = to_z w64 (of_z w64 d) } ≡ squeezed_job kept bound j
 squeeze_is kept bound d j r x few w b e f g = ap₂ (λ y z. record j { release = y; due = z }) e
-    (to_z-of_z w64 d (counted d (squeezed_due kept x) f (omega (arith, few, count_by-le-length (λ y. int_le (pos (y + 1)) x) kept))) ∙ f ∙ ap (λ y. pos (squeezed_due kept y)) (g ∙ sum))
+    (to_z-of_z w64 d (omega (arith, ints, f, few, count_by-le-length (λ y. int_le (pos (y + 1)) x) kept)) ∙ f ∙ ap (λ y. pos (squeezed_due kept y)) (g ∙ sum))
   where
-    counted : (d : ℤ) (n : ℕ) → d ≡ pos n → n ≤ MOST_JOBS → FitsSigned w64 d
-    counted d n e l = omega (arith, ints, e, l)
-
-    both_fit : (x y : ℤ) → LiesWithin (2 * GREATEST) x → LiesWithin greatest_bound y → FitsSigned w64 (x +ℤ y)
-    both_fit x y h k = omega (arith, ints, h.0, h.1, k.0, k.1)
-
     sum : to_z w64 (of_z w64 (to_z w64 (of_z w64 j.due) +ℤ to_z w64 (of_z w64 bound))) ≡ j.due +ℤ bound
     sum = ap (λ z. to_z w64 (of_z w64 z)) (ap₂ (λ y z. y +ℤ z) (to_z-of_z w64 j.due (fits (2 * GREATEST) j.due (omega arith) w)) (to_z-of_z w64 bound (fits greatest_bound bound (omega arith) b)))
-        ∙ to_z-of_z w64 (j.due +ℤ bound) (both_fit j.due bound w b)
+        ∙ to_z-of_z w64 (j.due +ℤ bound) (omega (arith, ints, w.0, w.1, b.0, b.1))

@@ -6,7 +6,6 @@ use Rattle.std.proofs.lemmas.Bool.{cases_lt, lt-ltb, le-ltb, ltb-true, false≢t
 use Rattle.std.proofs.lemmas.Int.{ints}
 use Rattle.std.proofs.lemmas.List.Sums.{sum_by-cons}
 use Rattle.msp_class.proofs.Sums.{cond-le, AllPairs-head, AllPairs-tail, sum_by-none}
-use Rattle.msp_class.proofs.IntegerRing.{≤ℤ_trans, pos-le}
 use Rattle.msp_threshold.specs.Squeezed.{squeezed_release, squeezed_due}
 
 abbrev Rising : List ℕ → Type 0
@@ -46,11 +45,8 @@ before_down r x y h e = let less = ltb-true y r e in lt-ltb x r (omega (arith, h
 int_le-true : (a b : ℤ) → a ≤ℤ b → int_le a b ≡ true
 int_le-true a b h = true_from_ne_false (int_le a b) (λ e. omega (arith, ints, h, e))
 
-true-int_le : (a b : ℤ) → int_le a b ≡ true → a ≤ℤ b
-true-int_le a b e = omega (arith, ints, e)
-
 until_down : (d : ℤ) (x y : ℕ) → x < y → int_le (pos (y + 1)) d ≡ true → int_le (pos (x + 1)) d ≡ true
-until_down d x y h e = int_le-true (pos (x + 1)) d (≤ℤ_trans (pos-le (omega (arith, h))) (true-int_le (pos (y + 1)) d e))
+until_down d x y h e = int_le-true (pos (x + 1)) d (omega (arith, ints, h, e))
 
 module _ (kept : List ℕ) (rising : Rising kept) (k : ℕ) (l : k < length kept) where
   abbrev x : ℕ
@@ -67,7 +63,7 @@ module _ (kept : List ℕ) (rising : Rising kept) (k : ℕ) (l : k < length kept
 
   pub in_time_there : (date : ℤ) → k < squeezed_due kept date → pos (x + 1) ≤ℤ date
   in_time_there date h = elim (cases_Bool (int_le (pos (x + 1)) date)) [
-    | inl e ↦ true-int_le (pos (x + 1)) date e
+    | inl e ↦ omega (arith, ints, e)
     | inr e ↦ absurd (omega (arith, h, fails (λ y. int_le (pos (y + 1)) date) (until_down date) kept rising k l e))
   ]
 

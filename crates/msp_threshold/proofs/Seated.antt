@@ -21,6 +21,7 @@ use Rattle.msp_threshold.specs.Squeezed.{CanMeet}
 use Rattle.msp_threshold.specs.Search.{job_in, IsReleased, AreReleased, AreInSlots}
 use Rattle.msp_threshold.proofs.Facts.{IsLatenessShop, IsAt, IsAt-from}
 use Rattle.msp_threshold.proofs.Meeting.{meets_seats}
+use Rattle.msp_route.proofs.KeyedJobs.{rises_or_stays}
 
 -- what a vector holds after its slice was written
 pub whole_slice : {X : Type 0} (n k : ℕ) (xs ys : List X) → length xs ≡ n → take n (xs ++ drop k ys) ≡ xs
@@ -55,13 +56,9 @@ module _ (i : Instance) (releases order heads : List ℕ) (r : releases ≡ map 
   heads_rising up a b d le l = elim (cases_lt a b) [
     | inl less ↦
         let lb : b < length order = omega (arith, l, heads_many) in
-        omega (arith, head_is a (omega (arith, less, lb)) d, head_is b lb d, in_turn (up a b 0 less lb))
+        omega (arith, head_is a (omega (arith, less, lb)) d, head_is b lb d, rises_or_stays (λ j. get_or releases j 0) order up a b 0 less lb)
     | inr more ↦ let e : a ≡ b = omega (arith, le, more) in omega (arith, ap (λ x. get_or heads x d) e)
   ]
-    where
-      in_turn : {x y : ℕ} {Q : Type 0} → (x < y) ⊎ ((x ≡ y) × Q) → x ≤ y
-      in_turn (inl less) = omega (arith, less)
-      in_turn (inr same) = omega (arith, same.0)
 
   pub in_slots : (slots : List Slot) → AreSlots i.machines heads slots → AreInSlots i slots order
   in_slots slots f = record {

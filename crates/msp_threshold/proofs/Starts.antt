@@ -15,7 +15,7 @@ use Rattle.msp_slots.specs.declared.earliest.Slot.{Slot}
 use Rattle.msp_slots.specs.Earliest.{no_slot, AreSlots}
 use Rattle.msp_slots.proofs.SlotPlaces.{heads_many}
 use Rattle.msp_threshold.specs.Squeezed.{AreKept}
-use Rattle.msp_threshold.proofs.Facts.{IsLatenessShop, release_small}
+use Rattle.msp_threshold.proofs.Facts.{IsLatenessShop}
 
 abbrev Up : List ℕ → Type 0
 Up xs = AllPairs (λ a b. a ≤ b) xs
@@ -74,4 +74,5 @@ module _ (i : Instance) (t : IsLatenessShop i) (heads : List ℕ) (p : IsPermuta
   heads_few = omega (arith, heads_many i heads p, t.few)
 
   pub heads_low : All (λ r. r ≤ 2 * GREATEST) heads
-  heads_low = All-permutation (λ r. r ≤ 2 * GREATEST) (map (λ j. j.release) i.jobs) heads p (All-map (λ r. r ≤ 2 * GREATEST) (λ j. j.release) i.jobs (release_small i t))
+  heads_low = All-permutation (λ r. r ≤ 2 * GREATEST) (map (λ j. j.release) i.jobs) heads p
+      (All-map (λ r. r ≤ 2 * GREATEST) (λ j. j.release) i.jobs (λ k d l. (t.jobs k d l).release))

@@ -30,7 +30,9 @@ module _ (n : ℕ) (f : ℕ → ℕ → ℕ) (left : ℕ) (b : IsBalanced n f le
 
     -- a row of the tree adds up to what it holds there
     row_in : (k : ℕ) → k < length tree → left ≤ total_below n (λ c. cond (test c) (f (at tree k) c) 0)
-    row_in k l = omega (arith, b.rows (at tree k) (rows k l), total_below-mono n (λ c. f (at tree k) c) (λ c. cond (test c) (f (at tree k) c) 0) (λ c lc. grind (arith, nat_tests, within k c l lc)))
+    row_in k l =
+        let m = total_below-mono n (λ c. f (at tree k) c) (λ c. cond (test c) (f (at tree k) c) 0) (λ c lc. grind (arith, nat_tests, within k c l lc)) in
+        omega (arith, b.rows (at tree k) (rows k l), m)
 
     rows_in : length tree * left ≤ total_below n (λ c. held c)
     rows_in =
