@@ -136,25 +136,24 @@ texts-short : (a : Bool) (p : Order) (h : Bool) (u : Times) (s : Bool) → lengt
 unfolding texts every all_bools all_orders all_times
 texts-short a p h u s = leb-true _ _ (every-at (λ a p h u s. leb (length (join_with_byte comma (texts a p h u s))) 23) refl a p h u s)
 
-same : Bool → Bool → Bool
+abbrev same : Bool → Bool → Bool
 same true b = b
 same false b = not b
 
 same-is : (a b : Bool) → same a b ≡ true → a ≡ b
-unfolding same
 same-is true b h = sym h
 same-is false true h = cc
 same-is false false h = refl
 
 rows-exact : (y : Item) (a : Bool) (p : Order) (h : Bool) (u : Times) (s : Bool) → has a p h u s y ≡ among (map (λ w. w.1) (rows a p h u s)) y
-unfolding has rows nine every all_bools all_orders all_times same
+unfolding has rows nine every all_bools all_orders all_times
 rows-exact y a p h u s = same-is _ _ (every-at (λ a p h u s. same (has a p h u s y) (among (map (λ w. w.1) (rows a p h u s)) y)) (by y) a p h u s)
   where
     by : (y : Item) → every (λ a p h u s. same (has a p h u s y) (among (map (λ w. w.1) (rows a p h u s)) y)) ≡ true
     by i.Cut = refl
     by _ = refl
 
-differ : Item → List Item → Bool
+abbrev differ : Item → List Item → Bool
 differ x [] = true
 differ x (y ∷ ys) = not (item_eq x y) && differ x ys
 
@@ -163,7 +162,6 @@ distinct [] = true
 distinct (x ∷ xs) = differ x xs && distinct xs
 
 differ-all : (x : Item) (ys : List Item) → differ x ys ≡ true → AllByRecursion (λ y. item_eq x y ≡ false) ys
-unfolding differ
 differ-all x [] h = tt
 differ-all x (y ∷ ys) h = let both = and_parts (not (item_eq x y)) (differ x ys) h in (not-true _ both.0, differ-all x ys both.1)
 
@@ -173,16 +171,15 @@ distinct-is [] h = tt
 distinct-is (x ∷ xs) h = let both = and_parts (differ x xs) (distinct xs) h in (differ-all x xs both.0, distinct-is xs both.1)
 
 rows-distinct : (a : Bool) (p : Order) (h : Bool) (u : Times) (s : Bool) → distinct (map (λ w. w.1) (rows a p h u s)) ≡ true
-unfolding rows nine has distinct differ every all_bools all_orders all_times
+unfolding rows nine has distinct every all_bools all_orders all_times
 rows-distinct a p h u s = every-at (λ a p h u s. distinct (map (λ w. w.1) (rows a p h u s))) refl a p h u s
 
 found : (rs : List (List ℕ × Item)) → AllByRecursion (Finds item_texts) rs → All (Contains item_texts) rs
-unfolding Finds
 found [] h = All-nil (Contains item_texts)
 found (r ∷ rs) h = All-cons (Contains item_texts) r rs (spelled-some item_texts r.0 r.1 h.0) (found rs h.1)
 
 rows-spelled : (a : Bool) (p : Order) (h : Bool) (u : Times) (s : Bool) → All (Contains item_texts) (rows a p h u s)
-unfolding rows nine item_texts Finds
+unfolding rows nine item_texts
 rows-spelled a p h u s =
     All-filter (λ r. has a p h u s r.1) (Contains item_texts) nine
     (found nine (refl, (refl, (refl, (refl, (refl, (refl, (refl, (refl, (refl, tt))))))))))

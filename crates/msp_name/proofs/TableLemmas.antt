@@ -22,24 +22,23 @@ pub spelled-some : {A : Type 0} (rows : List (List ℕ × A)) (w : List ℕ) (x 
 spelled-some [] w x e = cc
 spelled-some (row ∷ rows) w x e = by_row row rows w x (bytes_eq w row.0) refl (spelled-some rows w x) e
 
-unfoldable pub Finds : {A : Type 0} → List (List ℕ × A) → (List ℕ × A) → Type 0
+abbrev pub Finds : {A : Type 0} → List (List ℕ × A) → (List ℕ × A) → Type 0
 Finds rows row = spelled rows row.0 ≡ Some row.1
 
 all_found : {A : Type 0} (rs : List (List ℕ × A)) → AllByRecursion (Finds rs) rs → (w : List ℕ) (x : A) → Contains rs (w, x) → spelled rs w ≡ Some x
-unfolding Finds
 all_found rs finds w x h = All-contains (Finds rs) rs (w, x) (All-from_recursion (Finds rs) rs finds) h
 
 pub env_spelled : (w : List ℕ) (x : Env) → Contains env_texts (w, x) → spelled env_texts w ≡ Some x
-unfolding env_texts Finds
+unfolding env_texts
 env_spelled = all_found env_texts
     (refl, (refl, (refl, (refl, (refl, (refl, (refl, (refl, (refl, (refl, (refl, (refl, (refl, (refl, (refl, (refl, tt))))))))))))))))
 
 pub item_spelled : (w : List ℕ) (x : Item) → Contains item_texts (w, x) → spelled item_texts w ≡ Some x
-unfolding item_texts Finds
+unfolding item_texts
 item_spelled = all_found item_texts
     (refl, (refl, (refl, (refl, (refl, (refl, (refl, (refl, (refl, (refl, (refl, (refl, (refl, (refl, (refl, (refl, (refl, (refl, (refl, (refl, (refl, (refl, (refl, (refl, tt))))))))))))))))))))))))
 
 pub crit_spelled : (w : List ℕ) (x : Crit) → Contains crit_texts (w, x) → spelled crit_texts w ≡ Some x
-unfolding crit_texts Finds
+unfolding crit_texts
 crit_spelled = all_found crit_texts
     (refl, (refl, (refl, (refl, (refl, (refl, (refl, (refl, (refl, (refl, (refl, (refl, (refl, (refl, (refl, (refl, (refl, (refl, tt))))))))))))))))))

@@ -7,20 +7,19 @@ use Rattle.msp_io.specs.declared.whole.WriteFault.{WriteFault}
 use Rattle.msp_report.specs.RowsText.{rows_report}
 use Rattle.msp_top.specs.declared.answers.Report.{Report}
 use Rattle.msp_top.specs.declared.refusal.Refusal.{Refusal}
-use Rattle.msp_top.specs.declared.notes.Note.TheVariants.{TooLong, Usage}
+use Rattle.msp_top.specs.declared.notes.Note.TheVariants.{TooLong}
 use Rattle.msp_top.specs.declared.command.Command.{Command}
 use Rattle.msp_top.specs.declared.command.Command.TheVariants.{Answer}
 use Rattle.msp_top.specs.declared.command.Request.{Request}
 use Rattle.msp_top.specs.declared.command.Trial.{Trial}
 use Rattle.msp_top.specs.declared.command.Question.TheVariants.{Label}
-use Rattle.msp_top.specs.declared.words.Misfit.{Misfit}
 use Rattle.msp_top.specs.Commands.{Asks, AsksForRows, AsksForTrial}
 use Rattle.msp_top.specs.Outcome.{Outcome, report}
 use Rattle.msp_top.specs.Trials.{TrialIsRight}
 use Rattle.msp_top.specs.Run.{Passed, limit_of, IsRightWithin, short, IsRightReport, of_input, of_trial, of_rows, Refuses}
 use Rattle.msp_top.specs.Run.{input_refused, past_the_limit, trial_refused}
 use Rattle.msp_top.specs.Note.{note_text}
-use Rattle.msp_top.specs.Refusals.{of_misfit, of_taken, of_write_fault, out_of_memory}
+use Rattle.msp_top.specs.Refusals.{of_taken, of_write_fault, out_of_memory}
 use Rattle.msp_top.specs.Answers.{Answers, IsInRange}
 use Rattle.msp_top.specs.Words.{AsksForLabels, ReadsWords}
 use Rattle.msp_top.specs.Ending.{unread, TakesMemory, to_answer, to_try, Serves, misfit, cannot_read, no_memory, refuses, cannot_write, writes}
@@ -37,11 +36,6 @@ answered_same command passed input why e h = subst (λ (l : List ℕ). Answers (
 pub refused_is_no_usage : (command : Command) (input : List ℕ) (why : Refusal) → Answers (IsRightWithin command input) (Err why) → why.status ≢ 2
 refused_is_no_usage command input why (inl wanting) is = omega (arith, wanting.0, is)
 refused_is_no_usage command input why (inr right) is = omega (arith, (within_status command input _ right).0, is)
-
--- the words ask for nothing
-pub serves_misfit : (words : List (List ℕ)) (call : Passed) (read wrote : Type 0) (first : Misfit)
-    → ReadsWords words (Err first) → Serves words call read wrote (Err (of_misfit first))
-serves_misfit words call read wrote first h = misfit (Usage first) h.0 h.1
 
 -- there was no memory for the classes that are named
 pub serves_unnamed : (words : List (List ℕ)) (call : Passed) (read wrote : Type 0) → call.gave [] → AsksForLabels words → Serves words call read wrote (Err out_of_memory)
@@ -84,7 +78,7 @@ serves_refused words call read wrote command input why asked given within (inr r
     refuses why.status why.note range.0 range.1 (input_refused command input why.status (note_text why.note) asked given within right)
 
 -- the report of the whole input is right
-right_report : (words : List (List ℕ)) (call : Passed) (command : Command) (input : List ℕ) (made : Report) → Asks words command → call.finished input → length input ≤ limit_of command →
+pub right_report : (words : List (List ℕ)) (call : Passed) (command : Command) (input : List ℕ) (made : Report) → Asks words command → call.finished input → length input ≤ limit_of command →
     IsRightWithin command input (report made.status made.text.items) → IsRightReport words call made.status made.text.items
 right_report words call command input made asked given within right = of_input command input made.status made.text.items asked given (short _ within right)
 
@@ -95,27 +89,15 @@ pub serves_written : (words : List (List ℕ)) (call : Passed) (read wrote : Typ
 serves_written words call read wrote command input made bytes asked given within right e grown =
     writes made.status (within_status command input _ right) (made.text.items, right_report words call command input made asked given within right, subst call.took e grown)
 
-breaks_off : (words : List (List ℕ)) (call : Passed) (read wrote : Type 0) (status : ℕ) (text bytes : List ℕ) (fault : WriteFault)
+pub breaks_off : (words : List (List ℕ)) (call : Passed) (read wrote : Type 0) (status : ℕ) (text bytes : List ℕ) (fault : WriteFault)
     → IsRightReport words call status text → bytes ≡ text → Puts call.took call.broke_off bytes (Err fault) → wrote → Serves words call read wrote (Err of_write_fault)
 breaks_off words call read wrote status text bytes fault right e put failed =
     let all : Puts call.took call.broke_off text (Err fault) = subst (λ b. Puts call.took call.broke_off b (Err fault)) e put in
     cannot_write (record { status = status; text = text; count = all.stopped.0; right = right; short = all.stopped.1; part = all.stopped.2 }) failed
 
--- a report was begun, and the sink failed
-pub serves_broken : (words : List (List ℕ)) (call : Passed) (read wrote : Type 0) (command : Command) (input : List ℕ) (made : Report) (bytes : List ℕ) (fault : WriteFault)
-    → Asks words command → call.finished input →
-    length input ≤ limit_of command → IsRightWithin command input (report made.status made.text.items)
-    → bytes ≡ made.text.items → Puts call.took call.broke_off bytes (Err fault) → wrote → Serves words call read wrote (Err of_write_fault)
-serves_broken words call read wrote command input made bytes fault asked given within right e put failed =
-    breaks_off words call read wrote made.status made.text.items bytes fault (right_report words call command input made asked given within right) e put failed
-
 -- the table of rows was written whole, or the sink failed
 pub serves_rows : (words : List (List ℕ)) (call : Passed) (read wrote : Type 0) (bytes : List ℕ) → AsksForRows words → bytes ≡ rows_report → call.took bytes → Serves words call read wrote (Ok 0)
 serves_rows words call read wrote bytes asked e grown = writes 0 (omega arith) (rows_report, of_rows asked, subst call.took e grown)
-
-pub serves_rows_broken : (words : List (List ℕ)) (call : Passed) (read wrote : Type 0) (bytes : List ℕ) (fault : WriteFault) → AsksForRows words
-    → bytes ≡ rows_report → Puts call.took call.broke_off bytes (Err fault) → wrote → Serves words call read wrote (Err of_write_fault)
-serves_rows_broken words call read wrote bytes fault asked e put failed = breaks_off words call read wrote 0 rows_report bytes fault (of_rows asked) e put failed
 
 -- a trial was not solved, or memory was wanting
 pub serves_untried : (words : List (List ℕ)) (call : Passed) (read wrote : Type 0) (trial : Trial) (why : Refusal)
@@ -129,12 +111,6 @@ pub serves_trial : (words : List (List ℕ)) (call : Passed) (read wrote : Type 
     → TrialIsRight trial (report made.status made.text.items) → bytes ≡ made.text.items → call.took bytes → Serves words call read wrote (Ok made.status)
 serves_trial words call read wrote trial made bytes asked right e grown =
     writes made.status (trial_status trial _ right) (made.text.items, of_trial trial made.status made.text.items asked right, subst call.took e grown)
-
-pub serves_trial_broken : (words : List (List ℕ)) (call : Passed) (read wrote : Type 0) (trial : Trial) (made : Report) (bytes : List ℕ) (fault : WriteFault)
-    → AsksForTrial words trial → TrialIsRight trial (report made.status made.text.items)
-    → bytes ≡ made.text.items → Puts call.took call.broke_off bytes (Err fault) → wrote → Serves words call read wrote (Err of_write_fault)
-serves_trial_broken words call read wrote trial made bytes fault asked right e put failed =
-    breaks_off words call read wrote made.status made.text.items bytes fault (of_trial trial made.status made.text.items asked right) e put failed
 
 -- ---- what serving without the source says is so whatever the source gave
 report_of_any : (words : List (List ℕ)) (call : Passed) (status : ℕ) (text : List ℕ) → IsRightReport words (unread call.took call.broke_off) status text → IsRightReport words call status text

@@ -2,9 +2,6 @@
 use Rattle.std.proofs.Common.{◌≢◌, ℕ, ◌≤◌, List, refl, arith}
 use Rattle.msp_grammar.specs.declared.lines.fault.FileFault.{FileFault}
 use Rattle.msp_grammar.specs.declared.lines.fault.FileFault.TheVariants.{Memory as FileMemory}
-use Rattle.msp_instance.specs.declared.Instance.{Instance}
-use Rattle.msp_grammar.specs.declared.filed.Stated.{Stated}
-use Rattle.msp_closure.specs.declared.entry.Entry.{Entry}
 use Rattle.msp_dispatch.specs.declared.Cannot.{Cannot}
 use Rattle.msp_dispatch.specs.declared.Cannot.TheVariants.{Memory as CannotMemory}
 use Rattle.msp_dispatch.specs.declared.Uncertified.{Uncertified}
@@ -20,10 +17,9 @@ use Rattle.msp_top.specs.Results.{results_status}
 use Rattle.msp_top.specs.Outcome.{Outcome, report, refusal}
 use Rattle.msp_top.specs.Solves.{solved, misread, unsolved}
 use Rattle.msp_top.specs.Certifies.{certified, misread as misread_instance, uncertified}
-use Rattle.msp_top.specs.Checks.{HasCheckStatus, holds, fails, checked, misread_front, unchecked, misread_rest}
-use Rattle.msp_cert.specs.declared.Certificate.{Certificate}
-use Rattle.msp_top.specs.Accepts.{IsAcceptReport, accepted, rejected, judged, misread_front as misread_first, misread_rest as misread_later}
-use Rattle.msp_top.specs.Reports.{HasClashStatus, contradicts, agrees, reported, misread as misread_results}
+use Rattle.msp_top.specs.Checks.{holds, fails, checked, misread_front, unchecked, misread_rest}
+use Rattle.msp_top.specs.Accepts.{accepted, rejected, judged, misread_front as misread_first, misread_rest as misread_later}
+use Rattle.msp_top.specs.Reports.{contradicts, agrees, reported, misread as misread_results}
 use Rattle.msp_top.specs.Trials.{TrialIsRight, solved as trial_solved, unsolved as trial_unsolved}
 use Rattle.msp_top.specs.Run.{IsRightWithin}
 
@@ -47,18 +43,6 @@ uncertified_range : (why : Uncertified) → why ≢ CertifyMemory → (3 ≤ unc
 uncertified_range CertifyMemory other = absurd (other refl)
 uncertified_range _ other = (omega arith, omega arith)
 
-feasible_status : (i : Instance) (s : Stated) (status : ℕ) → HasCheckStatus i s status → status ≤ 1
-feasible_status i s status (holds h e) = omega arith
-feasible_status i s status (fails h) = omega arith
-
-judged_status : (i : Instance) (c : Certificate) (status : ℕ) (text : List ℕ) → IsAcceptReport i c status text → status ≤ 1
-judged_status i c status text (accepted t h r) = omega arith
-judged_status i c status text (rejected t h r) = omega arith
-
-clash_status : (entries : List Entry) (status : ℕ) → HasClashStatus entries status → status ≤ 1
-clash_status entries status (contradicts h) = omega arith
-clash_status entries status (agrees h g) = omega arith
-
 pub within_status : (command : Command) (input : List ℕ) (outcome : Outcome) → IsRightWithin command input outcome → HasStatus outcome
 within_status (Solve at) input (report status text) (solved t is) = omega arith
 within_status (Solve at) input (refusal status note) (misread fault other first) = file_range fault other
@@ -66,14 +50,17 @@ within_status (Solve at) input (refusal status note) (unsolved names i cannot re
 within_status Certify input (report status text) (certified t is) = omega arith
 within_status Certify input (refusal status note) (misread_instance fault other first) = file_range fault other
 within_status Certify input (refusal status note) (uncertified names i why read other h) = uncertified_range why other
-within_status Check input (report status text) (checked filed s line rest n t begins may read is r) = feasible_status filed.instance s status is
+within_status Check input (report status text) (checked filed s line rest n t begins may read (holds h e) r) = omega arith
+within_status Check input (report status text) (checked filed s line rest n t begins may read (fails h) r) = omega arith
 within_status Check input (refusal status note) (misread_front fault other first) = file_range fault other
 within_status Check input (refusal status note) (unchecked filed line rest begins cut) = (omega arith, omega arith)
 within_status Check input (refusal status note) (misread_rest filed line rest fault begins may other first) = file_range fault other
-within_status Accept input (report status text) (judged filed c line rest n t begins read is) = judged_status filed.instance c status text is
+within_status Accept input (report status text) (judged filed c line rest n t begins read (accepted u h r)) = omega arith
+within_status Accept input (report status text) (judged filed c line rest n t begins read (rejected u h r)) = omega arith
 within_status Accept input (refusal status note) (misread_first fault other first) = file_range fault other
 within_status Accept input (refusal status note) (misread_later filed line rest fault begins other first) = file_range fault other
-within_status (Answer question) input (report status text) (reported entries s t read is r) = clash_status entries status is
+within_status (Answer question) input (report status text) (reported entries s t read (contradicts h) r) = omega arith
+within_status (Answer question) input (report status text) (reported entries s t read (agrees h g) r) = omega arith
 within_status (Answer question) input (refusal status note) (misread_results fault other first) = results_range fault other
 
 pub trial_status : (trial : Trial) (outcome : Outcome) → TrialIsRight trial outcome → HasStatus outcome

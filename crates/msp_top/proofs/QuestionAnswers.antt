@@ -1,10 +1,7 @@
 -- The answers to questions about a file of results.
-use Rattle.std.proofs.Common.{◌≡◌, ℕ, ◌+◌, ◌<◌, List, [], ◌∷◌, ◌++◌, length, get_or, Bool, true, false, Option, Some, None, IfOk, is_some, Result, Ok, Err, ◌⊎◌, inl, inr, refl}
-use Rattle.std.proofs.Common.{sym, ap, ◌∙◌, subst, arith}
+use Rattle.std.proofs.Common.{◌≡◌, ℕ, ◌<◌, List, [], ◌∷◌, length, Bool, true, false, Option, Some, None, IfOk, is_some, Result, Ok, Err, ◌⊎◌, inl, inr, refl}
+use Rattle.std.proofs.Common.{sym, ◌∙◌}
 use Rattle.std.specs.Prelude.{slice_index_or}
-use Rattle.std.proofs.lemmas.Bool.{cases_lt}
-use Rattle.std.proofs.lemmas.List.{get_or_append_left, length-append}
-use Rattle.std.proofs.Math.Seq.{get_or-append_seam}
 use Rattle.msp_class.specs.declared.class.Class.{Class}
 use Rattle.msp_class.specs.Rank.{rank_of}
 use Rattle.msp_table.specs.declared.row.Chain.{Chain}
@@ -29,21 +26,6 @@ use Rattle.msp_top.specs.Answers.{Answers}
 pub record HasClasses (classes : List Class) (n : ℕ) : Type 0 where
   pub all : length classes ≡ n
   pub ranks : (k : ℕ) (d : Class) → k < length classes → rank_of (slice_index_or classes k d) ≡ k
-
-pub HasClasses-none : HasClasses [] 0
-HasClasses-none = record { all = refl; ranks = λ k d l. absurd (omega (arith, l)) }
-
-last_rank : (xs : List Class) (c d : Class) (k : ℕ) → k ≡ length xs → get_or (xs ++ c ∷ []) k d ≡ c
-last_rank xs c d k e = ap (λ n. get_or (xs ++ c ∷ []) n d) e ∙ get_or-append_seam xs c [] d
-
-pub HasClasses-next : (xs ys : List Class) (n : ℕ) (c : Class) → rank_of c ≡ n → ys ≡ xs ++ c ∷ [] → HasClasses xs n → HasClasses ys (n + 1)
-HasClasses-next xs ys n c rank e h = subst (λ zs. HasClasses zs (n + 1)) (sym e) (record { all = omega (arith, length-append xs (c ∷ []), h.all); ranks = ranks })
-  where
-    ranks : (k : ℕ) (d : Class) → k < length (xs ++ c ∷ []) → rank_of (slice_index_or (xs ++ c ∷ []) k d) ≡ k
-    ranks k d l = elim (cases_lt k (length xs)) [
-      | inl lower ↦ ap rank_of (get_or_append_left xs (c ∷ []) d k lower) ∙ h.ranks k d lower
-      | inr upper ↦ ap rank_of (last_rank xs c d k (omega (arith, length-append xs (c ∷ [])))) ∙ rank ∙ omega (arith, length-append xs (c ∷ []), h.all)
-    ]
 
 -- ---- the status
 

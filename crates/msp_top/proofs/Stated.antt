@@ -59,9 +59,6 @@ machine_small kind.FlowShop e i j o m few shape h r = let same = shape.1 o h.0 i
 machine_small kind.JobShop e i j o m few shape h r = let below = shape.machines o no_need h.0 in omega (arith, r, below, few)
 machine_small _ e i j o m few shape h r = omega (arith, r, few)
 
-shape_of : (i : Instance) (j : ℕ) → InClass i → j < length i.jobs → HasShape (kind_of i.class.env) i.class.env i.machines (job_at i j).needs
-shape_of i j h l = (h.conditions.jobs j no_job l).needs.shape
-
 pub stated : (names : List (List ℕ)) (i : Instance) (s : Solution) → InClass i → length names ≡ length i.jobs → IsReported i s → IsStated names s.schedule s.cost
 stated names i s h named r = record {
   cost = stated_cost s.cost (cost_of i s.schedule) s.schedule.unit r.best.cost r.lowest r.within.unit (cost_of_small i s.schedule (Inner-from_class i h) r.within);
@@ -69,7 +66,7 @@ stated names i s h named r = record {
   few = r.within.few;
   pieces = λ k d l.
       let place : HasPlace i (get_or s.schedule.pieces k d) = r.best.best.feasible.place k d l in
-      let shape = shape_of i (get_or s.schedule.pieces k d).job h place.job in
+      let shape = (h.conditions.jobs (get_or s.schedule.pieces k d).job no_job place.job).needs.shape in
       record {
         job = subst (λ n. (get_or s.schedule.pieces k d).job < n) (sym named) place.job;
         op = operation_small (kind_of i.class.env) i.class.env i _ _ h.conditions.machines.1 shape place.operation;

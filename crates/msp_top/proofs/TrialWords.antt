@@ -13,8 +13,8 @@ use Rattle.msp_top.specs.declared.command.Trial.{Trial}
 use Rattle.msp_top.specs.declared.words.Misfit.{Misfit}
 use Rattle.msp_top.specs.Commands.{IsNameWord, IsNumberWord, Asks, AsksForTrial, Misfits}
 use Rattle.msp_top.specs.Usage.{name_then, number_within, number_then, text_of_number, misfit_text}
-use Rattle.msp_top.specs.Words.{ReadsWords, ReadsName, ReadsNumber, ReadsTrial}
-use Rattle.msp_top.proofs.WordLemmas.{trial_word, rows_word, first_word, asks_first, cons_heads, cons_tails, not_word, refused_as}
+use Rattle.msp_top.specs.Words.{ReadsName, ReadsNumber, ReadsTrial}
+use Rattle.msp_top.proofs.WordLemmas.{trial_word, rows_word, first_word, asks_first, cons_heads, cons_tails, not_word}
 
 -- ---- numbers in a range
 within_range : (least greatest n m : ℕ) (a b : Bool)
@@ -96,14 +96,8 @@ pub trial_first : {X : Type 0} (command : Command) → trial_word ≡ first_word
 trial_first (Answer Frontier) e = not_word trial_word (first_word (Answer Frontier)) refl e
 trial_first command e = not_word trial_word (first_word command) refl e
 
-reads_trial_misfit : (words : List (List ℕ)) → ((trial : Trial) → ¬ AsksForTrial (trial_word ∷ words) trial) → Misfits (trial_word ∷ words)
+pub reads_trial_misfit : (words : List (List ℕ)) → ((trial : Trial) → ¬ AsksForTrial (trial_word ∷ words) trial) → Misfits (trial_word ∷ words)
 reads_trial_misfit words none = record { no_command = no_command; no_rows = λ h. not_word trial_word rows_word refl (cons_heads h); no_trial = none }
   where
     no_command : (command : Command) → ¬ Asks (trial_word ∷ words) command
     no_command command h = trial_first command (cons_heads (asks_first (trial_word ∷ words) command h).1)
-
-pub reads_trial : (word : List ℕ) (words : List (List ℕ)) (trial : Trial) → word ≡ trial_word → AsksForTrial (trial_word ∷ words) trial → AsksForTrial (word ∷ words) trial
-reads_trial word words trial e h = subst (λ w. AsksForTrial (w ∷ words) trial) (sym e) h
-
-pub refuses_trial : (word : List ℕ) (words : List (List ℕ)) (misfit : Misfit) → word ≡ trial_word → ReadsTrial words (Err misfit) → ReadsWords (word ∷ words) (Err misfit)
-refuses_trial word words misfit e (none, text) = refused_as word trial_word words misfit e (reads_trial_misfit words none, text)

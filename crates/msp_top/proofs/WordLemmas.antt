@@ -12,7 +12,7 @@ use Rattle.msp_top.specs.declared.command.Request.{Request}
 use Rattle.msp_top.specs.declared.words.Misfit.{Misfit}
 use Rattle.msp_top.specs.Commands.{IsNameWord, Asks, Misfits}
 use Rattle.msp_top.specs.Usage.{names_text, misfit_text, option_text, later_text}
-use Rattle.msp_top.specs.Words.{AsksForLabels, ReadsWords, ReadsName, AreNames, ReadsOneName, ReadsOption, AreNoneAlone, ReadsAlone}
+use Rattle.msp_top.specs.Words.{AsksForLabels, ReadsWords, ReadsName, ReadsOneName, ReadsOption, AreNoneAlone, ReadsAlone}
 
 -- ---- the words after the first
 abbrev pub label_word : List ℕ
@@ -84,25 +84,21 @@ first_misfit first words rows trial none = record {
   no_trial = λ t h. not_word first trial_word trial (cons_heads h.form);
 }
 
--- the same words where the first is known
-pub refused_as : (word first : List ℕ) (words : List (List ℕ)) (misfit : Misfit) → word ≡ first → ReadsWords (first ∷ words) (Err misfit) → ReadsWords (word ∷ words) (Err misfit)
-refused_as word first words misfit e h = subst (λ (w : List ℕ). ReadsWords (w ∷ words) (Err misfit)) (sym e) h
-
-reads_label_misfit : (names : List (List ℕ)) → ((classes : List Class) → ¬ AllZip IsNameWord names classes) → Misfits (label_word ∷ names)
+pub reads_label_misfit : (names : List (List ℕ)) → ((classes : List Class) → ¬ AllZip IsNameWord names classes) → Misfits (label_word ∷ names)
 reads_label_misfit names none = first_misfit label_word names refl refl no_command
   where
     no_command : (command : Command) → ¬ Asks (label_word ∷ names) command
     no_command (Answer (Label classes)) (others, h, zip) = none classes (subst (λ ws. AllZip IsNameWord ws classes) (sym (cons_tails h)) zip)
     no_command command h = not_word label_word (first_word command) refl (begins _ _ command h)
 
-reads_why_misfit : (words : List (List ℕ)) → ((name : List ℕ) (class : Class) → words ≡ name ∷ [] → ¬ IsNameWord name class) → Misfits (why_word ∷ words)
+pub reads_why_misfit : (words : List (List ℕ)) → ((name : List ℕ) (class : Class) → words ≡ name ∷ [] → ¬ IsNameWord name class) → Misfits (why_word ∷ words)
 reads_why_misfit words none = first_misfit why_word words refl refl no_command
   where
     no_command : (command : Command) → ¬ Asks (why_word ∷ words) command
     no_command (Answer (Why class)) (name, h, named) = none name class (cons_tails h) named
     no_command command h = not_word why_word (first_word command) refl (begins _ _ command h)
 
-reads_solve_misfit : (options : List (List ℕ)) → ((at : Option Class) → ¬ Asks (solve_word ∷ options) (Solve at)) → Misfits (solve_word ∷ options)
+pub reads_solve_misfit : (options : List (List ℕ)) → ((at : Option Class) → ¬ Asks (solve_word ∷ options) (Solve at)) → Misfits (solve_word ∷ options)
 reads_solve_misfit options none = first_misfit solve_word options refl refl no_command
   where
     no_command : (command : Command) → ¬ Asks (solve_word ∷ options) command
@@ -113,20 +109,8 @@ reads_solve_misfit options none = first_misfit solve_word options refl refl no_c
 pub reads_label : (word : List ℕ) (names : List (List ℕ)) → word ≡ label_word → (classes : List Class) × AllZip IsNameWord names classes → AsksForLabels (word ∷ names)
 reads_label word names e (classes, h) = (classes, (names, ap (λ w. w ∷ names) e, h))
 
-pub refuses_label : (word : List ℕ) (names : List (List ℕ)) (misfit : Misfit) → word ≡ label_word → AreNames names (Err misfit) → ReadsWords (word ∷ names) (Err misfit)
-refuses_label word names misfit e (none, text) = refused_as word label_word names misfit e (reads_label_misfit names none, text)
-
 pub reads_why : (word : List ℕ) (words : List (List ℕ)) (class : Class) → word ≡ why_word → ReadsOneName words (Ok class) → Asks (word ∷ words) (Answer (Why class))
 reads_why word words class e (name, h, named) = (name, ap (λ w. w ∷ words) e ∙ ap (λ ws. why_word ∷ ws) h, named)
-
-pub refuses_why : (word : List ℕ) (words : List (List ℕ)) (misfit : Misfit) → word ≡ why_word → ReadsOneName words (Err misfit) → ReadsWords (word ∷ words) (Err misfit)
-refuses_why word words misfit e (none, text) = refused_as word why_word words misfit e (reads_why_misfit words none, text)
-
-pub reads_solve : (word : List ℕ) (options : List (List ℕ)) (at : Option Class) → word ≡ solve_word → Asks (solve_word ∷ options) (Solve at) → Asks (word ∷ options) (Solve at)
-reads_solve word options at e h = subst (λ w. Asks (w ∷ options) (Solve at)) (sym e) h
-
-pub refuses_solve : (word : List ℕ) (options : List (List ℕ)) (misfit : Misfit) → word ≡ solve_word → ReadsOption options (Err misfit) → ReadsWords (word ∷ options) (Err misfit)
-refuses_solve word options misfit e (none, text) = refused_as word solve_word options misfit e (reads_solve_misfit options none, text)
 
 -- a first word with no words behind it
 pub alone : {X : Type 0} (f : X → List ℕ) (xs : List X) (word name : List ℕ) → (word ≡ name) × (xs ≡ []) → word ∷ map f xs ≡ name ∷ []

@@ -44,9 +44,6 @@ filed i names = record { instance = i; names = names }
 abbrev pub given : Instance → List (List ℕ) → Result Filed FileFault
 given i names = Ok (filed i names)
 
-same_filed : (f g : Filed) → given f.instance f.names ≡ given g.instance g.names → f ≡ g
-same_filed f g h = cc
-
 pub again_read : (b : List ℕ) (f : Filed) → Reads b (Ok f) → (i : Instance) (names : List (List ℕ)) → IsInstanceText b i names → given i names ≡ Ok f
 again_read b f e i names h = reads_same b (given i names) (Ok f) (whole_again b i names h) e
 

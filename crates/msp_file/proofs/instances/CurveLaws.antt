@@ -19,7 +19,7 @@ use Rattle.msp_grammar.specs.InstanceText.{line_text, where_wanted, step_fields,
 use Rattle.msp_grammar.specs.lines.Reading.{Place, worded_at, natural_at, integer_at}
 use Rattle.msp_file.specs.instance.Reading.{steps_at, curve_fields_at, steps_in, curve_line_at, curve_at}
 use Rattle.msp_grammar.proofs.reading.LineLaws.{bind_ok, provided_ok, ok_is, Takes, Gets, IsField, worded_takes, worded_again, bind_again, provided_again}
-use Rattle.msp_grammar.proofs.reading.FieldLaws.{natural_takes, natural_again, natural_field, integer_takes, integer_again, integer_field}
+use Rattle.msp_grammar.proofs.reading.FieldLaws.{wide_takes, wide_again, natural_field, signed_takes, signed_again, integer_field}
 use Rattle.msp_file.proofs.instances.KeyLaws.{limit}
 use Rattle.msp_grammar.proofs.reading.CostLaws.{plain_word}
 use Rattle.msp_file.proofs.instances.NeedLaws.{two_parts, none_takes, none_again}
@@ -38,8 +38,8 @@ steps_takes at steps (w ∷ v ∷ ws) after e =
     let b = bind_ok (natural_at at what.Add 0 GREATEST v) _ after a.2 in
     let next : Step = record { above = a.0; add = b.0 } in
     let r = steps_takes at (steps ++ next ∷ []) ws after b.2 in
-    let t = natural_takes at what.Above 0 GREATEST w a.0 limit a.1 in
-    let u = natural_takes at what.Add 0 GREATEST v b.0 limit b.1 in
+    let t = wide_takes at what.Above 0 GREATEST w a.0 limit a.1 in
+    let u = wide_takes at what.Add 0 GREATEST v b.0 limit b.1 in
     (next ∷ r.0, r.1 ∙ append_assoc steps (next ∷ []) r.0, two_parts t.0 (two_parts u.0 r.2), All-cons IsStep next r.0 (t.2, u.2) r.3)
 
 pub steps_again : (at : ℕ) (steps more : List Step) → All IsStep more → steps_at at steps (flat_map step_fields more) ≡ Ok (steps ++ more)
@@ -47,8 +47,8 @@ unfolding steps_at
 steps_again at steps [] h = ap Ok (sym (append-nil steps))
 steps_again at steps (s ∷ more) h =
     let first = All-head IsStep s more h in
-    bind_again _ _ _ _ (natural_again at what.Above 0 GREATEST s.above limit (omega arith) first.0) (
-    bind_again _ _ _ _ (natural_again at what.Add 0 GREATEST s.add limit (omega arith) first.1) (
+    bind_again _ _ _ _ (wide_again at what.Above 0 GREATEST s.above limit (omega arith) first.0) (
+    bind_again _ _ _ _ (wide_again at what.Add 0 GREATEST s.add limit (omega arith) first.1) (
     steps_again at (steps ++ s ∷ []) more (All-tail IsStep s more h)
     ∙ ap Ok (append_assoc steps (s ∷ []) more)))
 
@@ -76,8 +76,8 @@ curve_fields_takes at w u ws v e =
     let a = bind_ok (natural_at at what.Slope 0 GREATEST w) _ v e in
     let b = bind_ok (integer_at at what.Base GREATEST u) _ v a.2 in
     let d = bind_ok (steps_at at [] ws) _ v b.2 in
-    let t = natural_takes at what.Slope 0 GREATEST w a.0 limit a.1 in
-    let r = integer_takes at what.Base GREATEST u b.0 limit b.1 in
+    let t = wide_takes at what.Slope 0 GREATEST w a.0 limit a.1 in
+    let r = signed_takes at what.Base GREATEST u b.0 limit b.1 in
     let s = steps_takes at [] ws d.0 d.1 in
     let made : Curve = record { slope = a.0; base = b.0; steps = d.0 } in
     let rest : ws ≡ flat_map step_fields d.0 = s.2 ∙ ap (flat_map step_fields) (sym s.1) in
@@ -87,8 +87,8 @@ curve_fields_takes at w u ws v e =
 curve_fields_again : (at : ℕ) (v : Curve) → AreInRange v → curve_fields_at at (curve_words v) ≡ Ok v
 unfolding curve_fields_at
 curve_fields_again at v h =
-    bind_again _ _ _ _ (natural_again at what.Slope 0 GREATEST v.slope limit (omega arith) h.slope) (
-    bind_again _ _ _ _ (integer_again at what.Base GREATEST v.base limit h.base) (
+    bind_again _ _ _ _ (wide_again at what.Slope 0 GREATEST v.slope limit (omega arith) h.slope) (
+    bind_again _ _ _ _ (signed_again at what.Base GREATEST v.base limit h.base) (
     bind_again _ _ _ _ (steps_again at [] v.steps h.steps) refl))
 
 -- a line of at least two fields

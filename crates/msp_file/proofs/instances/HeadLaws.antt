@@ -37,7 +37,7 @@ use Rattle.msp_grammar.proofs.reading.LineLaws.{bind_ok, provided_ok, ok_is, Tak
 use Rattle.msp_file.proofs.instances.KeyLaws.{IsKeyed}
 use Rattle.msp_file.proofs.instances.NeedLaws.{decimals_fields, none_takes, none_again}
 use Rattle.msp_grammar.proofs.reading.CostLaws.{plain_word}
-use Rattle.msp_grammar.proofs.reading.FieldLaws.{lacks_others, natural_takes, natural_again, number_line_takes, number_line_again}
+use Rattle.msp_grammar.proofs.reading.FieldLaws.{lacks_others, wide_takes, wide_again, number_line_takes, number_line_again}
 
 -- ---- the version
 
@@ -171,7 +171,7 @@ unfolding speeds_in
 speeds_fields_take at so_far [] all e = ([], sym (ok_is so_far all e) ∙ sym (append-nil so_far), refl, All-nil IsSpeed)
 speeds_fields_take at so_far (w ∷ ws) all e =
     let s = bind_ok (natural_at at what.Speed 1 GREATEST_SPEED w) (λ speed. speeds_in at (so_far ++ speed ∷ []) ws) all e in
-    let n = natural_takes at what.Speed 1 GREATEST_SPEED w s.0 (omega arith) s.1 in
+    let n = wide_takes at what.Speed 1 GREATEST_SPEED w s.0 (omega arith) s.1 in
     let next = speeds_fields_take at (so_far ++ s.0 ∷ []) ws all s.2 in
     (s.0 ∷ next.0, next.1 ∙ append_assoc so_far (s.0 ∷ []) next.0, ap (λ v. v ∷ ws) n.0 ∙ ap (λ vs. decimal s.0 ∷ vs) next.2, All-cons IsSpeed s.0 next.0 (n.1, n.2) next.3)
 
@@ -180,7 +180,7 @@ unfolding speeds_in
 speeds_fields_again at so_far [] h = ap Ok (sym (append-nil so_far))
 speeds_fields_again at so_far (s ∷ ss) h =
     let range = All-head IsSpeed s ss h in
-    rw (natural_again at what.Speed 1 GREATEST_SPEED s (omega arith) range.0 range.1) (speeds_fields_again at (so_far ++ s ∷ []) ss (All-tail IsSpeed s ss h) ∙ ap Ok (append_assoc so_far (s ∷ []) ss))
+    rw (wide_again at what.Speed 1 GREATEST_SPEED s (omega arith) range.0 range.1) (speeds_fields_again at (so_far ++ s ∷ []) ss (All-tail IsSpeed s ss h) ∙ ap Ok (append_assoc so_far (s ∷ []) ss))
 
 speeds_line_takes : (machines : ℕ) (p : Place) (x : List ℕ × Place) → speeds_line_at machines p ≡ Ok x
     → Takes p (line_text (codes "speeds" ∷ map decimal x.0)) x.1 × ((length x.0 ≡ machines) × All IsSpeed x.0)

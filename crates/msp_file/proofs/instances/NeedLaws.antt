@@ -27,7 +27,7 @@ use Rattle.msp_file.specs.instance.Reading.{with_need, times_at, times_line_at, 
 use Rattle.msp_file.specs.instance.Reading.{route_line_at, unwritten_needs, needs_at}
 use Rattle.msp_grammar.proofs.reading.LineLaws.{bind_ok, provided_ok, ok_is, Takes, Gets, IsField, worded_takes, worded_again, reads, bind_again, provided_again}
 use Rattle.msp_grammar.proofs.reading.CostLaws.{plain_word}
-use Rattle.msp_grammar.proofs.reading.FieldLaws.{natural_takes, natural_again, natural_field, ordinal_takes, ordinal_again}
+use Rattle.msp_grammar.proofs.reading.FieldLaws.{wide_takes, wide_again, natural_field, ordinal_takes, ordinal_again}
 use Rattle.msp_file.proofs.instances.KeyLaws.{limit}
 
 -- What is said of one operation: its machine is one of so many, its time is in range, its time is this one.
@@ -64,7 +64,7 @@ times_takes at least needs (w ∷ ws) after e =
     let a = bind_ok (natural_at at what.Time least GREATEST w) _ after e in
     let next : Need = record { machine = length needs; time = a.0 } in
     let r = times_takes at least (needs ++ next ∷ []) ws after a.2 in
-    (next ∷ r.0, r.1 ∙ append_assoc needs (next ∷ []) r.0, two_parts (natural_takes at what.Time least GREATEST w a.0 limit a.1).0 r.2)
+    (next ∷ r.0, r.1 ∙ append_assoc needs (next ∷ []) r.0, two_parts (wide_takes at what.Time least GREATEST w a.0 limit a.1).0 r.2)
 
 -- The machines are numbered on from n.
 abbrev AreNumberedFrom : ℕ → List Need → Type 0
@@ -79,7 +79,7 @@ times_again at least needs (n ∷ more) numbered h =
     let here : n.machine ≡ length needs = omega (arith, numbered 0 (omega arith)) in
     let is : with_need needs (length needs) n.time ≡ needs ++ n ∷ [] = ap (λ q. with_need needs q n.time) (sym here) in
     let next : AreNumberedFrom (length (needs ++ n ∷ [])) more = λ k l. omega (arith, numbered (suc k) (omega arith), length_push needs n) in
-    bind_again _ _ _ _ (natural_again at what.Time least GREATEST n.time limit first.0 first.1) (
+    bind_again _ _ _ _ (wide_again at what.Time least GREATEST n.time limit first.0 first.1) (
     ap (λ xs. times_at at least xs (map (λ n. decimal n.time) more)) is
     ∙ times_again at least (needs ++ n ∷ []) more next (All-tail (IsWithin least) n more h)
     ∙ ap Ok (append_assoc needs (n ∷ []) more))
@@ -128,7 +128,7 @@ timed_takes at machines needs (w ∷ v ∷ ws) after few e =
     let b = bind_ok (natural_at at what.Time 1 GREATEST v) _ after a.2 in
     let next : Need = record { machine = a.0; time = b.0 } in
     let r = timed_takes at machines (needs ++ next ∷ []) ws after few b.2 in
-    (next ∷ r.0, r.1 ∙ append_assoc needs (next ∷ []) r.0, two_parts (machine_takes at machines w a.0 few a.1) (two_parts (natural_takes at what.Time 1 GREATEST v b.0 limit b.1).0 r.2))
+    (next ∷ r.0, r.1 ∙ append_assoc needs (next ∷ []) r.0, two_parts (machine_takes at machines w a.0 few a.1) (two_parts (wide_takes at what.Time 1 GREATEST v b.0 limit b.1).0 r.2))
 
 timed_again : (at machines : ℕ) (needs more : List Need) → machines ≤ MOST_MACHINES
     → All (IsOn machines) more → HasTimes 1 GREATEST more → timed_route_at at machines needs (flat_map (operation_fields true) more) ≡ Ok (needs ++ more)
@@ -137,7 +137,7 @@ timed_again at machines needs [] few below h = ap Ok (sym (append-nil needs))
 timed_again at machines needs (n ∷ more) few below h =
     let first = All-head (IsWithin 1) n more h in
     bind_again _ _ _ _ (machine_again at machines n.machine few (All-head (IsOn machines) n more below)) (
-    bind_again _ _ _ _ (natural_again at what.Time 1 GREATEST n.time limit first.0 first.1) (
+    bind_again _ _ _ _ (wide_again at what.Time 1 GREATEST n.time limit first.0 first.1) (
     timed_again at machines (needs ++ n ∷ []) more few (All-tail (IsOn machines) n more below) (All-tail (IsWithin 1) n more h)
     ∙ ap Ok (append_assoc needs (n ∷ []) more)))
 

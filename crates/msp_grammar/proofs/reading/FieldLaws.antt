@@ -61,18 +61,11 @@ wide_takes at quantity least greatest w n h e =
     let high : n ≤ greatest = t.2 in
     (number_spells w (pos n) is (omega arith), t.1, t.2)
 
-pub natural_takes : (at : ℕ) (quantity : What) (least greatest : ℕ) (w : List ℕ) (n : ℕ)
-    → greatest ≤ GREATEST → natural_at at quantity least greatest w ≡ Ok n → (w ≡ decimal n) × (least ≤ n) × (n ≤ greatest)
-natural_takes at quantity least greatest w n h e = wide_takes at quantity least greatest w n (omega arith) e
-
 pub wide_again : (at : ℕ) (quantity : What) (least greatest n : ℕ) → greatest < 10 ^ 64 → least ≤ n → n ≤ greatest → natural_at at quantity least greatest (decimal n) ≡ Ok n
 unfolding natural_at
 wide_again at quantity least greatest n h low high =
     let is : number_of (decimal n) ≡ Some (pos n) = number_again (pos n) (omega arith) in
     rw (is, le-leb least n low, le-leb n greatest high) refl
-
-pub natural_again : (at : ℕ) (quantity : What) (least greatest n : ℕ) → greatest ≤ GREATEST → least ≤ n → n ≤ greatest → natural_at at quantity least greatest (decimal n) ≡ Ok n
-natural_again at quantity least greatest n h low high = wide_again at quantity least greatest n (omega arith) low high
 
 -- the digits of a number are no other byte
 pub digits_lack : (m n : ℕ) → is_ascii_digit m ≡ false → n < 10 ^ 64 → Lacks m (decimal n)
@@ -117,12 +110,6 @@ signed_field {greatest} (pos n) few h = wide_field n (let size = size_within gre
 signed_field {greatest} (negsuc n) few h =
     let small : suc n < 10 ^ 64 = let size = size_within greatest (negsuc n) h in omega arith in
     let f = wide_field (suc n) small in record { no_space = f.no_space; no_line_feed = f.no_line_feed }
-
-pub integer_takes : (at : ℕ) (quantity : What) (greatest : ℕ) (w : List ℕ) (x : ℤ) → greatest ≤ GREATEST → integer_at at quantity greatest w ≡ Ok x → (w ≡ signed_decimal x) × LiesWithin greatest x
-integer_takes at quantity greatest w x h e = signed_takes at quantity greatest w x (omega arith) e
-
-pub integer_again : (at : ℕ) (quantity : What) (greatest : ℕ) (x : ℤ) → greatest ≤ GREATEST → LiesWithin greatest x → integer_at at quantity greatest (signed_decimal x) ≡ Ok x
-integer_again at quantity greatest x h within = signed_again at quantity greatest x (omega arith) within
 
 pub integer_field : (x : ℤ) → LiesWithin GREATEST x → IsField (signed_decimal x)
 integer_field x h = signed_field x (omega arith) h

@@ -1,7 +1,7 @@
 -- The goals of `perform` that are proved by lemmas.
 use Rattle.std.proofs.Common.{ap, subst, Err, ◌≤◌, length}
 use Rattle.msp_top.proofs.Exits.{failed}
-use Rattle.msp_top.proofs.Endings.{answered_same, right_same, serves_taken, serves_refused, serves_written, serves_broken, refused_is_no_usage}
+use Rattle.msp_top.proofs.Endings.{answered_same, right_same, serves_taken, serves_refused, serves_written, breaks_off, right_report, refused_is_no_usage}
 use Rattle.msp_top.proofs.serve.perform.Goals as goal
 
 pub returns-in-Err-clause-served : goal.returns-in-Err-clause-served
@@ -22,9 +22,10 @@ returns-in_err-report-clause-not_usage g c = rw (failed _ c.from_residual.ensure
 
 pub returns-in_err-write_all-clause-served : goal.returns-in_err-write_all-clause-served
 returns-in_err-write_all-clause-served g c words asked = rw (failed _ c.from_residual-in_err-write_all.ensures.1)
-    (serves_broken words _ _ _ c.args.command.now c.in-Ok.input.items c.in_ok-report.report _ c.in_err-write_all.field-0.0 asked c.in-Ok.ensures.all
+    (breaks_off words _ _ _ _ _ _ c.in_err-write_all.field-0.0
+    (right_report words _ c.args.command.now c.in-Ok.input.items c.in_ok-report.report asked c.in-Ok.ensures.all
     (subst (λ n. length c.in-Ok.input.items ≤ n) c.limit_of-limit.ensures.limit c.in-Ok.ensures.within)
-    (right_same c.args.command.now c.deref.result.now c.in-Ok.input.items _ c.deref.ensures.value c.in_ok-report.ensures)
+    (right_same c.args.command.now c.deref.result.now c.in-Ok.input.items _ c.deref.ensures.value c.in_ok-report.ensures))
     c.deref-2.ensures.value c.in_err-write_all.ensures.put c.in_err-write_all.ensures.fault)
 
 pub returns-clause-served : goal.returns-clause-served

@@ -1,18 +1,21 @@
 -- The goals of `serve` that are proved by lemmas.
 use Rattle.std.proofs.Common.{◌∙◌}
 use Rattle.msp_top.specs.declared.command.Request.TheVariants.{Rows, Trial as IsTrial, Labels, Command as IsCommand}
+use Rattle.msp_top.specs.declared.notes.Note.TheVariants.{Usage}
+use Rattle.msp_top.specs.Run.{of_rows}
+use Rattle.msp_top.specs.Ending.{misfit}
 use Rattle.msp_top.proofs.Exits.{failed}
-use Rattle.msp_top.proofs.Endings.{serves_misfit, serves_unnamed, serves_any, serves_rows, serves_rows_broken, reads_as, never_usage, trial_in_range}
+use Rattle.msp_top.proofs.Endings.{serves_unnamed, serves_any, serves_rows, breaks_off, reads_as, never_usage, trial_in_range}
 use Rattle.msp_top.proofs.OneCommand.{rows_are_no_command, trial_is_no_command}
 use Rattle.msp_top.proofs.serve.serve.Goals as goal
 
 pub returns-in_err-read_words-clause-served : goal.returns-in_err-read_words-clause-served
 returns-in_err-read_words-clause-served g c =
-    rw (failed _ c.from_residual.ensures.1) (serves_misfit _ _ _ _ c.in_err-read_words.field-0.0 c.in_err-read_words.ensures)
+    rw (failed _ c.from_residual.ensures.1) (misfit (Usage c.in_err-read_words.field-0.0) c.in_err-read_words.ensures.0 c.in_err-read_words.ensures.1)
 
 pub returns-in_err-write_all-in-Rows-clause-served : goal.returns-in_err-write_all-in-Rows-clause-served
 returns-in_err-write_all-in-Rows-clause-served g c = rw (failed _ c.from_residual-in_err-write_all-in-Rows.ensures.1)
-    (serves_rows_broken _ _ _ _ _ c.in_err-write_all-in-Rows.field-0.0 (reads_as _ _ Rows c.in_ok-read_words.ensures c.in-Rows.is)
+    (breaks_off _ _ _ _ _ _ _ c.in_err-write_all-in-Rows.field-0.0 (of_rows (reads_as _ _ Rows c.in_ok-read_words.ensures c.in-Rows.is))
     (c.bytes.ensures.value ∙ c.rows_text.ensures) c.in_err-write_all-in-Rows.ensures.put c.in_err-write_all-in-Rows.ensures.fault)
 
 pub returns-in_ok-write_all-in-Rows-clause-served : goal.returns-in_ok-write_all-in-Rows-clause-served

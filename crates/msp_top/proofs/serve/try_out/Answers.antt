@@ -1,6 +1,7 @@
 -- The goals of `try_out` that are proved by lemmas.
+use Rattle.msp_top.specs.Run.{of_trial}
 use Rattle.msp_top.proofs.Exits.{failed}
-use Rattle.msp_top.proofs.Endings.{serves_untried, serves_trial, serves_trial_broken}
+use Rattle.msp_top.proofs.Endings.{serves_untried, serves_trial, breaks_off}
 use Rattle.msp_top.proofs.serve.try_out.Goals as goal
 
 pub returns-in_err-made-clause-served : goal.returns-in_err-made-clause-served
@@ -9,8 +10,8 @@ returns-in_err-made-clause-served g c words asked =
 
 pub returns-in_err-write_all-clause-served : goal.returns-in_err-write_all-clause-served
 returns-in_err-write_all-clause-served g c words asked = rw (failed _ c.from_residual-in_err-write_all.ensures.1)
-    (serves_trial_broken words _ _ _ c.args.trial.now c.in_ok-made.made
-    _ c.in_err-write_all.field-0.0 asked c.in_ok-made.ensures c.deref.ensures.value c.in_err-write_all.ensures.put c.in_err-write_all.ensures.fault)
+    (breaks_off words _ _ _ _ _ _ c.in_err-write_all.field-0.0 (of_trial c.args.trial.now _ _ asked c.in_ok-made.ensures)
+    c.deref.ensures.value c.in_err-write_all.ensures.put c.in_err-write_all.ensures.fault)
 
 pub returns-clause-served : goal.returns-clause-served
 returns-clause-served g c words asked =
