@@ -25,7 +25,7 @@ use Rattle.msp_pieces.specs.Intervals.{size_of}
 use Rattle.msp_pieces.proofs.lists.Intervals.{apart_on_each, packed, last_of, greatest_by-bound}
 use Rattle.msp_pieces.proofs.feasible.OneMachine.{unit_in_parts, pieces_timed, machines_apart, jobs_apart, total_lengths, last_end-is}
 use Rattle.msp_pieces.proofs.feasible.LastEnds.{last_end-bound}
-use Rattle.msp_pieces.proofs.feasible.Frames.{Fits, Fits-from_feasible, frame_of, rate_on, part, of_operation, map-same}
+use Rattle.msp_pieces.proofs.feasible.Frames.{Fits-from_feasible, frame_of, rate_on, part, of_operation, map-same}
 
 -- what feasibility reads of a shop
 record IsShopKind (k : EnvKind) (i : Instance) : Type 0 where
@@ -45,9 +45,6 @@ kind_reads _ e i = absurd (cc)
 module _ (i : Instance) (s : Schedule) (shop : is_shop i.class.env ≡ true) (f : Feasible i s) where
   reads : IsShopKind (kind_of i.class.env) i
   reads = kind_reads (kind_of i.class.env) shop i
-
-  fits : Fits (frame_of i) s.unit s.pieces
-  fits = Fits-from_feasible i s (record { unrelated = λ e. absurd (reads.other e) }) f
 
   abbrev unit : ℕ
   unit = nat_abs s.unit
@@ -70,7 +67,7 @@ module _ (i : Instance) (s : Schedule) (shop : is_shop i.class.env ≡ true) (f 
     full n = pos-same (
         sym (total_lengths own (All-filter (λ p. (p.job == j) && (p.op == o)) IsTimed s.pieces (pieces_timed i s f)))
         ∙ ap total (map-same length_of (part (frame_of i)) own (λ k d b. let p = get_or own k d in sym (ap (λ r. length_of p *ℤ pos r) (reads.rate p.job p.machine) ∙ *ℤ-one (length_of p))))
-        ∙ (fits.work j o l (reads.all j o m n)).sum
+        ∙ ((Fits-from_feasible i s (record { unrelated = λ e. absurd (reads.other e) }) f).work j o l (reads.all j o m n)).sum
         ∙ ap₂ (λ u t. u *ℤ pos t) (unit_in_parts i s f) (reads.want j o))
 
     operation_is_done : unit * (need_at i j o).time ≤ sum_by size (filter (λ p. eqb p.op o) (share j))

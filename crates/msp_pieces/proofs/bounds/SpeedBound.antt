@@ -26,7 +26,7 @@ use Rattle.msp_pieces.specs.Speeds.{HaveSpeeds, speed_by, speed_of, speed_above,
 use Rattle.msp_pieces.proofs.lists.Intervals.{apart_on_each, packed, work_by_job, last_of}
 use Rattle.msp_pieces.proofs.feasible.OneMachine.{length-timed, unit_in_parts, pieces_timed, machines_apart, jobs_apart, pieces_of-job, total_in_nat, last_end-is}
 use Rattle.msp_pieces.proofs.feasible.LastEnds.{last_end-bound}
-use Rattle.msp_pieces.proofs.feasible.Frames.{Fits, Fits-from_feasible, frame_of, rate_on, part, map-same}
+use Rattle.msp_pieces.proofs.feasible.Frames.{Fits-from_feasible, frame_of, rate_on, part, map-same}
 use Rattle.msp_pieces.proofs.bounds.Groups.{ends_last}
 
 -- ---- pieces of time on machines with speeds
@@ -140,9 +140,6 @@ module _ (i : Instance) (s : Schedule) (speeds : HaveSpeeds (kind_of i.class.env
   reads : IsSpeedKind (kind_of i.class.env) i
   reads = kind_reads (kind_of i.class.env) speeds i
 
-  fits : Fits (frame_of i) s.unit s.pieces
-  fits = Fits-from_feasible i s (record { unrelated = λ e. absurd (reads.other e) }) f
-
   abbrev unit : ℕ
   unit = nat_abs s.unit
 
@@ -168,7 +165,7 @@ module _ (i : Instance) (s : Schedule) (speeds : HaveSpeeds (kind_of i.class.env
       ∙ ap total (map-same (λ p. length_of p *ℤ pos (speed_of i p.machine))
       (part (frame_of i)) (own j) (λ k d b. let p = get_or (own j) k d in ap (λ r. length_of p *ℤ pos r) (sym (reads.rate p.job p.machine))))
       ∙ ap (λ ps. total (map (part (frame_of i)) ps)) (sym (pieces_of-job s j operations))
-      ∙ (fits.work j 0 l (reads.one j)).sum
+      ∙ ((Fits-from_feasible i s (record { unrelated = λ e. absurd (reads.other e) }) f).work j 0 l (reads.one j)).sum
       ∙ ap₂ (λ u t. u *ℤ pos t) (unit_in_parts i s f) (reads.want j))
 
   module _ (test : ℕ → Bool) (threshold c : ℕ) (ends : (j : ℕ) → j < n → test j ≡ true → end_of s j ≤ℤ pos c) where

@@ -35,16 +35,13 @@ meets_jobs i bound s e some = (
 
 -- ---- sums that are 0
 pub sum_zero : (n : ℕ) (g : ℕ → ℤ) → ((k : ℕ) → k < n → pos 0 ≤ℤ g k) → (int_total_below n g ≡ pos 0) ↔ ((k : ℕ) → k < n → g k ≡ pos 0)
-sum_zero n g nonneg = (each, all)
+sum_zero n g nonneg = ((λ e k l. natural (g k) (nonneg k l) ∙ ap pos (omega (arith, total_below-term n f k l, pos-same (sym whole ∙ e)))), all)
   where
     f : ℕ → ℕ
     f k = nat_abs (g k)
 
     whole : int_total_below n g ≡ pos (total_below n f)
     whole = int_total_below-natural n g f (λ k l. natural (g k) (nonneg k l))
-
-    each : int_total_below n g ≡ pos 0 → (k : ℕ) → k < n → g k ≡ pos 0
-    each e k l = natural (g k) (nonneg k l) ∙ ap pos (omega (arith, total_below-term n f k l, pos-same (sym whole ∙ e)))
 
     all : ((k : ℕ) → k < n → g k ≡ pos 0) → int_total_below n g ≡ pos 0
     all h = whole ∙ ap pos (total_below-none n f (λ k l. ap nat_abs (h k l)))

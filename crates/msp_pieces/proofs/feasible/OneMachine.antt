@@ -144,9 +144,6 @@ module _ (i : Instance) (kind : kind_of i.class.env ≡ Identical) (s : Schedule
   pub timed_pieces : All IsTimed s.pieces
   timed_pieces = pieces_timed i s f
 
-  operations : All (λ p. p.op ≡ 0) s.pieces
-  operations k d l = subst (λ x. HasOperation x i (get_or s.pieces k d).job (get_or s.pieces k d).op) kind (f.place k d l).operation
-
   pub machines_below : All (λ p. p.machine < i.machines) s.pieces
   machines_below k d l = subst (λ x. MayRun x i (get_or s.pieces k d).job (get_or s.pieces k d).op (get_or s.pieces k d).machine) kind (f.place k d l).machine
 
@@ -163,9 +160,6 @@ module _ (i : Instance) (kind : kind_of i.class.env ≡ Identical) (s : Schedule
     abbrev Gets : EnvKind → Type 0
     Gets x = MatchBool i.class.cut (total (map (part_of x i) (pieces_of s j 0)) ≡ s.unit *ℤ pos (whole_work x i j 0)) ((p : Piece) × (pieces_of s j 0 ≡ p ∷ []) × IsWholeWork x i s.unit p)
 
-    gets : Gets Identical
-    gets = subst Gets kind (f.work j 0 small (subst (λ x. HasOperation x i j 0) (sym kind) refl))
-
     -- the whole of job j in parts of the unit
     abbrev whole : ℕ
     whole = nat_abs s.unit * (need_at i j 0).time
@@ -174,10 +168,7 @@ module _ (i : Instance) (kind : kind_of i.class.env ≡ Identical) (s : Schedule
     unit_times = ap (λ u. u *ℤ pos (need_at i j 0).time) (unit_in_parts i s f)
 
     same_pieces : pieces_of s j 0 ≡ mine
-    same_pieces = pieces_of-job s j operations
-
-    in_parts : total (map length_of (pieces_of s j 0)) ≡ s.unit *ℤ pos (need_at i j 0).time → sum_by (size_of start finish) mine ≡ whole
-    in_parts h = pos-same (sym (total_lengths mine timed_mine) ∙ ap (λ l. total (map length_of l)) (sym same_pieces) ∙ h ∙ unit_times)
+    same_pieces = pieces_of-job s j (λ k d l. let p = get_or s.pieces k d in subst (λ x. HasOperation x i p.job p.op) kind (f.place k d l).operation)
 
     in_one : (p : Piece) → pieces_of s j 0 ≡ p ∷ [] → length_of p ≡ s.unit *ℤ pos (need_at i p.job p.op).time → sum_by (size_of start finish) mine ≡ whole
     in_one p e h =
@@ -190,11 +181,11 @@ module _ (i : Instance) (kind : kind_of i.class.env ≡ Identical) (s : Schedule
         ap (sum_by (size_of start finish)) is ∙ zero-add (finish p - start p) ∙ pos-same size
 
     pub full_work : work_of job_of start finish s.pieces j ≡ whole
-    full_work = by i.class.cut gets
+    full_work = by i.class.cut (subst Gets kind (f.work j 0 small (subst (λ x. HasOperation x i j 0) (sym kind) refl)))
       where
         by : (b : Bool) → MatchBool b (total (map length_of (pieces_of s j 0)) ≡ s.unit *ℤ pos (need_at i j 0).time)
             ((p : Piece) × (pieces_of s j 0 ≡ p ∷ []) × (length_of p ≡ s.unit *ℤ pos (need_at i p.job p.op).time)) → sum_by (size_of start finish) mine ≡ whole
-        by true h = in_parts h
+        by true h = pos-same (sym (total_lengths mine timed_mine) ∙ ap (λ l. total (map length_of l)) (sym same_pieces) ∙ h ∙ unit_times)
         by false h = in_one h.0 h.1 h.2
 
 module _ (i : Instance) (m : IsOneMachine i) (s : Schedule) (f : Feasible i s) where
