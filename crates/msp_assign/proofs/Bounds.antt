@@ -1,20 +1,15 @@
 -- What a row pays stays within bounds.
-use Rattle.std.proofs.Common.{◌≡◌, ℕ, ◌<◌, ◌≤◌, ℤ, pos, ◌≤ℤ◌, List, nat_abs, arith}
+use Rattle.std.proofs.Common.{◌≡◌, ℕ, ◌<◌, ◌≤◌, ℤ, pos, List, arith, sym}
 use Rattle.std.proofs.lemmas.Int.{ints}
 use Rattle.msp_matching.specs.Passing.{at}
 use Rattle.msp_assign.specs.Search.{HasCharges, greatest_charge, sizes, paid, greatest_payment}
-
-abs-at_most : (z : ℤ) (n : ℕ) → pos 0 ≤ℤ z → z ≤ℤ pos n → nat_abs z ≤ n
-abs-at_most z n l h = omega (arith, ints)
-
-abs-is : (z : ℤ) → pos 0 ≤ℤ z → pos (nat_abs z) ≡ z
-abs-is z l = omega (arith, ints)
+use Rattle.msp_class.proofs.IntegerRing.{natural}
 
 pub sizes-at_most : (rows columns : ℕ) (cost : ℕ → ℕ → ℤ) → HasCharges rows columns cost → (r c : ℕ) → r < rows → c < columns → sizes cost r c ≤ greatest_charge
-sizes-at_most rows columns cost h r c lr lc = abs-at_most (cost r c) greatest_charge (h r c lr lc).0 (h r c lr lc).1
+sizes-at_most rows columns cost h r c lr lc = omega (arith, ints, (h r c lr lc).0, (h r c lr lc).1)
 
 pub sizes-is : (rows columns : ℕ) (cost : ℕ → ℕ → ℤ) → HasCharges rows columns cost → (r c : ℕ) → r < rows → c < columns → pos (sizes cost r c) ≡ cost r c
-sizes-is rows columns cost h r c lr lc = abs-is (cost r c) (h r c lr lc).0
+sizes-is rows columns cost h r c lr lc = sym (natural (cost r c) (h r c lr lc).0)
 
 pub paid-at_most : (rows columns : ℕ) (cost : ℕ → ℕ → ℤ) (fall : List ℕ)
     → HasCharges rows columns cost → ((c : ℕ) → c < columns → at fall c ≤ greatest_charge) → (r c : ℕ) → r < rows → c < columns → paid (sizes cost) fall r c ≤ greatest_payment

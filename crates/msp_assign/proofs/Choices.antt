@@ -1,23 +1,21 @@
 -- Columns that a function gives to rows, as an assignment, and the columns of an assignment as a function.
 use Rattle.std.proofs.Common.{◌≡◌, ℕ, ◌<◌, inl, inr, ℤ, ◌≤ℤ◌, List, length, get_or, map, sym, ap, subst, ◌∙◌, arith}
 use Rattle.std.specs.List.{range_with_len}
-use Rattle.std.proofs.lemmas.Bool.{cases_lt}
 use Rattle.std.proofs.lemmas.List.FromFn.{length-map-range_with_len, get_or-map-range_with_len}
 use Rattle.msp_class.specs.Sums.{int_total_below}
 use Rattle.msp_class.proofs.Sums.{int_total_below-same}
 use Rattle.msp_assign.specs.Prices.{IsAssigned, IsLeast, column_of, cost_of}
+use Rattle.std.proofs.lemmas.Bool.{cases_order}
 
 module _ (rows columns : ℕ) (column : List ℕ) (h : IsAssigned rows columns column) where
   pub column-inside : (r : ℕ) → r < rows → column_of column r < columns
   column-inside r l = h.inside r 0 (omega (arith, l, h.all))
 
   pub column-once : (q r : ℕ) → q < rows → r < rows → column_of column q ≡ column_of column r → q ≡ r
-  column-once q r lq lr e = elim (cases_lt q r) [
-    | inl less ↦ absurd (h.apart q r 0 less (omega (arith, lr, h.all)) e)
-    | inr more ↦ elim (cases_lt r q) [
-      | inl less ↦ absurd (h.apart r q 0 less (omega (arith, lq, h.all)) (sym e))
-      | inr last ↦ omega (arith, more, last)
-    ]
+  column-once q r lq lr e = elim (cases_order q r) [
+    | inl same ↦ same
+    | inr (inl less) ↦ absurd (h.apart q r 0 less (omega (arith, lr, h.all)) e)
+    | inr (inr more) ↦ absurd (h.apart r q 0 more (omega (arith, lq, h.all)) (sym e))
   ]
 
 module _ (rows columns : ℕ) (choice : ℕ → ℕ) (inside : (r : ℕ) → r < rows → choice r < columns) (once : (q r : ℕ) → q < rows → r < rows → choice q ≡ choice r → q ≡ r) where

@@ -30,20 +30,14 @@ module _ (distance left next : List ℕ) (far k near : ℕ) (h : IsGathering dis
   }
 
   module _ (last : List ℕ) (c : ℕ) (e : c ≡ at next k) (as_far : at distance c ≡ far) (inside : k < length next) (p : IsPermutation next last) (s : SwappedAt next last k near) where
-    at_near : at distance (at last near) ≡ far
-    at_near = ap (at distance) (s.1 0 ∙ sym e) ∙ as_far
-
-    before_near : (j : ℕ) → j < near → at distance (at last j) ≡ far
-    before_near j l = ap (at distance) (s.2 j 0 (omega (arith, l, h.within)) (omega (arith, l))) ∙ h.nearest.same j l
-
     pub IsGathering-swap : IsGathering distance left last far (k + 1) (near + 1)
     IsGathering-swap = record {
       same = IsPermutation-trans left next last h.same p;
       nearest = record {
         inside = omega (arith, h.within, inside, length_permutation next last p);
         same = λ j l. elim (same_or_not j near) [
-          | inl q ↦ ap (λ x. at distance (at last x)) q ∙ at_near
-          | inr q ↦ before_near j (omega arith)
+          | inl q ↦ ap (λ x. at distance (at last x)) q ∙ ap (at distance) (s.1 0 ∙ sym e) ∙ as_far
+          | inr q ↦ let b : j < near = omega arith in ap (at distance) (s.2 j 0 (omega (arith, b, h.within)) (omega (arith, b))) ∙ h.nearest.same j b
         ];
         least = λ j l.
             let m = at-Contains next (at last j) (Contains-permutation last next (at last j) (IsPermutation-sym next last p) (Contains-at last j (at last j) l refl)) in

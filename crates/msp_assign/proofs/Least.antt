@@ -1,14 +1,14 @@
 -- Prices show that an assignment is least.
-use Rattle.std.proofs.Common.{◌≡◌, ℕ, zero, suc, ◌+◌, ◌*◌, ◌/◌, ◌%◌, ◌<◌, ◌≤◌, inl, inr, ℤ, pos, neg_ℤ, ◌+ℤ◌, ◌≤ℤ◌, nat_abs, List, [], ◌∷◌, true, eqb, length, Contains, count_by}
+use Rattle.std.proofs.Common.{◌≡◌, ℕ, zero, suc, ◌+◌, ◌*◌, ◌/◌, ◌%◌, ◌<◌, ◌≤◌, inl, inr, ℤ, pos, neg_ℤ, ◌+ℤ◌, ◌≤ℤ◌, nat_abs, List, [], true, eqb, length, Contains, count_by}
 use Rattle.std.proofs.Common.{sum_by, sym, ap, subst, subst₂, ◌∙◌, arith, refl}
 use Rattle.std.proofs.Math.Nat.{div-add-mod, mod-lt}
 use Rattle.std.proofs.lemmas.Int.{ints}
 use Rattle.std.proofs.lemmas.List.{get_or_default}
 use Rattle.std.proofs.lemmas.List.Elements.{All-get_or}
 use Rattle.msp_class.specs.Sums.{total_below, int_total_below}
-use Rattle.msp_class.proofs.Sums.{total_below-mono, total_below-same, total_below-split, int_total_below-same, int_total_below-mono, int_total_below-add, sum_by_counts}
-use Rattle.msp_class.proofs.Sums.{sum_by-distinct_test, sum_by-cons}
-use Rattle.msp_class.proofs.IntegerRing.{≤ℤ_trans, ≤ℤ_of_same}
+use Rattle.msp_class.proofs.Sums.{total_below-mono, int_total_below-same, int_total_below-mono, int_total_below-add, sum_by_counts}
+use Rattle.msp_class.proofs.Sums.{sum_by-distinct_test, count-from_contains, sum_by-places}
+use Rattle.msp_class.proofs.IntegerRing.{≤ℤ_of_same}
 use Rattle.msp_matching.specs.Passing.{at}
 use Rattle.msp_assign.specs.declared.assignment.Assignment.{Assignment}
 use Rattle.msp_assign.specs.declared.column.Column.{Column}
@@ -16,27 +16,10 @@ use Rattle.msp_assign.specs.Prices.{IsAssigned, IsPriced, IsLeast, HasFreeColumn
 use Rattle.msp_assign.specs.Search.{HasCharges, sizes, IsRowPrices}
 use Rattle.msp_assign.specs.Given.{IsGiven}
 use Rattle.msp_assign.specs.View.{no_column, column_at, number_at, seen, AreNumbers, AreColumnPrices, IsPlacement}
-use Rattle.msp_assign.proofs.Lists.{counted, Contains-at, at-Contains}
+use Rattle.msp_assign.proofs.Lists.{Contains-at, at-Contains}
 use Rattle.msp_assign.proofs.Bounds.{sizes-is}
 use Rattle.msp_assign.proofs.Views.{number-inside, number-once, line-inside}
 use Rattle.msp_assign.proofs.Placements.{Rises, some_places}
-
-sum_by-places : (f : ℕ → ℕ) (xs : List ℕ) → sum_by f xs ≡ total_below (length xs) (λ j. f (at xs j))
-sum_by-places f [] = refl
-sum_by-places f (x ∷ xs) =
-    let whole = total_below-split 1 (length xs) (λ j. f (at (x ∷ xs) j)) in
-    omega (
-      arith,
-      sum_by-cons f x xs,
-      sum_by-places f xs,
-      whole,
-      ap (λ n. total_below n (λ j. f (at (x ∷ xs) j))) (one_more (length xs)),
-      total_below-same
-          (length xs) (λ i. f (at (x ∷ xs) (1 + i))) (λ i. f (at xs i)) (λ i l. ap f (ap (at (x ∷ xs)) (sym (one_more i)))),
-    )
-  where
-    one_more : (n : ℕ) → suc n ≡ 1 + n
-    one_more n = omega arith
 
 int_total_below-negative : (n : ℕ) (f : ℕ → ℕ) → int_total_below n (λ i. neg_ℤ (pos (f i))) ≡ neg_ℤ (pos (total_below n f))
 int_total_below-negative zero f = refl
@@ -60,7 +43,7 @@ module _ (rows columns : ℕ) (cost : ℕ → ℕ → ℤ) (a : Assignment) (own
       int_total_below-same rows (λ r. price_at a.column_price (column_of other r))
       (λ r. neg_ℤ (pos (fall (column_of other r)))) (λ r l. fall_is (column_of other r) (o.inside r 0 (omega (arith, o.all))))
       ∙ int_total_below-negative rows (λ r. fall (column_of other r))
-      ∙ ap (λ n. neg_ℤ (pos n)) (ap (λ n. total_below n (λ r. fall (column_of other r))) (sym o.all) ∙ sym (sum_by-places fall other))
+      ∙ ap (λ n. neg_ℤ (pos n)) (ap (λ n. total_below n (λ r. fall (column_of other r))) (sym o.all) ∙ sym (sum_by-places fall other 0))
 
   both : (other : List ℕ) → IsAssigned rows columns other
       → int_total_below rows (λ r. price_at a.row_price r +ℤ price_at a.column_price (column_of other r)) ≡ rows_price +ℤ neg_ℤ (pos (sum_by fall other))
@@ -86,29 +69,19 @@ module _ (rows columns : ℕ) (cost : ℕ → ℕ → ℤ) (a : Assignment) (own
   none_left = omega (arith, sum_by_counts fall columns a.column own.inside, total_below-mono columns fall (λ c. fall c * count_by (λ x. eqb x c) a.column) each)
     where
       each : (c : ℕ) → c < columns → fall c ≤ fall c * count_by (λ x. eqb x c) a.column
-      each c l = priced_once c (count_by (λ x. eqb x c) a.column) l (λ e m. omega (arith, e, counted a.column c m))
+      each c l = priced_once c (count_by (λ x. eqb x c) a.column) l (λ e m. omega (arith, e, count-from_contains a.column c m))
 
   pub total_is : cost_of rows cost a.column ≡ price_of rows columns a
   total_is =
       int_total_below-same rows (λ r. cost r (column_of a.column r)) (λ r. price_at a.row_price r +ℤ price_at a.column_price (column_of a.column r)) (λ r l. sym (h.exact r l))
-      ∙ both a.column own ∙ ap (λ n. rows_price +ℤ neg_ℤ (pos n)) (same (sum_by fall a.column) (total_below columns fall) (at_most_all a.column own) none_left) ∙ sym price_is
-    where
-      same : (m n : ℕ) → m ≤ n → n ≤ m → m ≡ n
-      same m n x y = omega arith
+      ∙ both a.column own ∙ ap (λ n. rows_price +ℤ neg_ℤ (pos n))
+      (let same : sum_by fall a.column ≡ total_below columns fall = omega (arith, at_most_all a.column own, none_left) in same) ∙ sym price_is
 
   pub IsLeast-from_prices : IsLeast rows columns cost a.column
   IsLeast-from_prices other o =
-      ≤ℤ_trans (≤ℤ_of_same (total_is ∙ price_is))
-      (≤ℤ_trans (less (at_most_all other o))
-      (≤ℤ_trans (≤ℤ_of_same (sym (both other o)))
-      (int_total_below-mono rows (λ r. price_at a.row_price r +ℤ price_at a.column_price (column_of other r))
-      (λ r. cost r (column_of other r)) (λ r l. h.at_most r (column_of other r) l (o.inside r 0 (omega (arith, o.all)))))))
-    where
-      lower : (x : ℤ) (m n : ℕ) → m ≤ n → (x +ℤ neg_ℤ (pos n)) ≤ℤ (x +ℤ neg_ℤ (pos m))
-      lower x m n l = omega (arith, ints)
-
-      less : sum_by fall other ≤ total_below columns fall → (rows_price +ℤ neg_ℤ (pos (total_below columns fall))) ≤ℤ (rows_price +ℤ neg_ℤ (pos (sum_by fall other)))
-      less l = lower rows_price (sum_by fall other) (total_below columns fall) l
+      let pays = int_total_below-mono rows (λ r. price_at a.row_price r +ℤ price_at a.column_price (column_of other r))
+      (λ r. cost r (column_of other r)) (λ r l. h.at_most r (column_of other r) l (o.inside r 0 (omega (arith, o.all)))) in
+      omega (arith, ints, total_is, price_is, at_most_all other o, both other o, pays)
 
 -- ---- columns in view where each row pays least there
 module _ (rows count lines long : ℕ) (cost : ℕ → ℕ → ℤ)

@@ -93,7 +93,8 @@ module _ (cost : ℕ → ℕ → ℕ) (columns : ℕ) (fall column : List ℕ) (
       low = low;
       inside = All-permutation (λ c. c < columns) (column ++ free ∷ [])
           after q.same (All-append (λ c. c < columns) column (free ∷ []) p.inside (All-cons (λ c. c < columns) free [] in_view (All-nil (λ c. c < columns))));
-      apart = distinct-permutation (column ++ free ∷ []) after q.same (all_pairs_push (λ c d. c ≢ d) column free p.apart (λ k d l e. unused (subst (Contains column) e (get k d l))));
+      apart = distinct-permutation (column ++ free ∷ []) after q.same (all_pairs_push (λ c d. c ≢ d) column free p.apart
+          (λ k d l e. unused (subst (Contains column) e (Contains-get_or column k d l))));
       cheapest = λ r l. elim (q.each r (omega (arith, l, length_permutation (column ++ free ∷ []) after q.same))) [
         | inl a ↦
             let old : r < length column = omega (arith, l, longer, a.0, h.grown.first) in
@@ -102,9 +103,6 @@ module _ (cost : ℕ → ℕ → ℕ) (columns : ℕ) (fall column : List ℕ) (
       ];
       unused = λ c l n. (still c l (λ m. n (Contains-permutation (column ++ free ∷ []) after c q.same (Contains-append_left column (free ∷ []) c m)))).1;
     }
-      where
-        get : (k d : ℕ) → k < length column → Contains column (get_or column k d)
-        get k d l = Contains-get_or column k d l
 
     pub IsOneMore-moved : IsOneMore columns column next after free
     IsOneMore-moved = record { same = q.same; inside = in_view; free_before = unused; unfallen = (still free in_view unused).1 }

@@ -1,13 +1,12 @@
 -- Prices to begin from, and those at the end, of which the greatest is 0.
-use Rattle.std.proofs.Common.{◌≡◌, ℕ, ◌+◌, ◌-◌, ◌<◌, ◌≤◌, inl, inr, refl, ℤ, pos, ◌+ℤ◌, ◌≤ℤ◌, nat_abs, List, length, set, min}
-use Rattle.std.proofs.Common.{sym, ap, subst, ◌∙◌, arith}
+use Rattle.std.proofs.Common.{◌≡◌, ℕ, ◌+◌, ◌-◌, ◌<◌, ◌≤◌, inl, inr, refl, ℤ, nat_abs, List, length, set, min, sym, ap, subst, ◌∙◌, arith}
 use Rattle.std.proofs.Math.Nat.{min-le_left, min-le_right, min-eq_left, min-eq_right}
 use Rattle.std.proofs.lemmas.Int.{ints}
 use Rattle.std.proofs.lemmas.List.{get_or-set_same, get_or-set_other, length-set}
 use Rattle.msp_class.proofs.Cases.{same_or_not, less_or_not}
 use Rattle.msp_matching.specs.Passing.{at}
 use Rattle.msp_assign.specs.declared.column.Column.{Column}
-use Rattle.msp_assign.specs.Prices.{HasCosts, greatest_cost}
+use Rattle.msp_assign.specs.Prices.{HasCosts}
 use Rattle.msp_assign.specs.Search.{greatest_charge, sizes, paid, IsCheapest, IsPlaced}
 use Rattle.msp_assign.specs.Square.{raised, AreNormal, IsLeastTogether}
 use Rattle.msp_assign.specs.View.{number_at, seen, AreFirst, IsView, IsPlacement}
@@ -18,12 +17,9 @@ use Rattle.msp_assign.proofs.Views.{IsView-first}
 -- ---- the least that columns have fallen together with their beginning
 pub IsLeastTogether-start : (fall begun : List ℕ) (x : ℕ) → x ≡ at fall 0 + at begun 0 → IsLeastTogether fall begun 1 x
 IsLeastTogether-start fall begun x e = record {
-  least = λ c l. omega (arith, e, ap (λ k. at fall k + at begun k) (first c l));
+  least = λ c l. omega (arith, e, ap (λ k. at fall k + at begun k) (let first : c ≡ 0 = omega arith in first));
   attained = (0, omega arith, sym e);
 }
-  where
-    first : (c : ℕ) → c < 1 → c ≡ 0
-    first c l = omega arith
 
 pub IsLeastTogether-next : (fall begun : List ℕ) (k least x least2 : ℕ)
     → IsLeastTogether fall begun k least → x ≡ at fall k + at begun k → least2 ≡ min least x → IsLeastTogether fall begun (k + 1) least2
@@ -65,15 +61,11 @@ IsNormalising-next fall begun least next k x h l low e = record {
 pub AreNormal-end : (fall begun : List ℕ) (least : ℕ) (next : List ℕ) (k : ℕ) → k ≡ length fall → IsNormalising fall begun least next k → AreNormal fall begun least next
 AreNormal-end fall begun least next k e h = record { size = h.size; each = λ c l. h.done c (omega (arith, e, l)) }
 
--- ---- raised costs
-raised-size : (z : ℤ) (b : ℕ) → pos 0 ≤ℤ z → nat_abs (z +ℤ pos b) ≡ nat_abs z + b
-raised-size z b l = omega (arith, ints)
-
 -- ---- the placement at the end
 module _ (n : ℕ) (cost : ℕ → ℕ → ℤ) (begun fall used : List ℕ) (costs : HasCosts n n cost) (p : IsPlaced (sizes (raised cost begun)) n fall used) (whole : length used ≡ n)
     (least : ℕ) (together : IsLeastTogether fall begun (length fall) least) (next : List ℕ) (normal : AreNormal fall begun least next) where
   paid_next : (r c : ℕ) → r < n → c < n → paid (sizes cost) next r c + least ≡ paid (sizes (raised cost begun)) fall r c
-  paid_next r c lr lc = omega (arith, raised-size (cost r c) (at begun c) (costs r c lr lc).0, normal.each c (omega (arith, lc, p.size)))
+  paid_next r c lr lc = omega (arith, ints, (costs r c lr lc).0, normal.each c (omega (arith, lc, p.size)))
 
   cheapest : (r : ℕ) → r < n → IsCheapest (sizes cost) n next r (at used r)
   cheapest r l = record {
@@ -86,18 +78,13 @@ module _ (n : ℕ) (cost : ℕ → ℕ → ℤ) (begun fall used : List ℕ) (co
 
   -- its row pays no more at it than at the column that has not fallen
   low : (c : ℕ) → c < n → at next c ≤ greatest_charge
-  low c l = at_owner (at-Contains used c (all_taken n used p.inside p.apart whole c l))
-    where
-      small : (z : ℤ) → pos 0 ≤ℤ z → z ≤ℤ pos greatest_cost → nat_abs z ≤ greatest_cost
-      small z a b = omega (arith, ints)
-
-      at_owner : (r : ℕ) × (r < length used) × (at used r ≡ c) → at next c ≤ greatest_charge
-      at_owner w =
-          let lr : w.0 < n = omega (arith, w.1, whole) in
-          let z = together.attained.0 in
-          let k = (cheapest w.0 lr).cheapest z zero_at.1 in
-          let s = small (cost w.0 z) (costs w.0 z lr zero_at.1).0 (costs w.0 z lr zero_at.1).1 in
-          omega (arith, k, s, zero_at.0, ap (at next) w.2)
+  low c l =
+      let w = at-Contains used c (all_taken n used p.inside p.apart whole c l) in
+      let lr : w.0 < n = omega (arith, w.1, whole) in
+      let z = together.attained.0 in
+      let k = (cheapest w.0 lr).cheapest z zero_at.1 in
+      let s = costs w.0 z lr zero_at.1 in
+      omega (arith, ints, k, s.0, s.1, zero_at.0, ap (at next) w.2)
 
   module _ (columns : List Column) (first : AreFirst n columns) where
     number_is : (k : ℕ) → k < n → number_at 1 columns k ≡ k

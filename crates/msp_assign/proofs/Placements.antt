@@ -1,5 +1,5 @@
 -- Row after row gets a column, while columns come into view.
-use Rattle.std.proofs.Common.{◌≡◌, ℕ, zero, suc, ◌+◌, ◌*◌, ◌<◌, ◌≤◌, ℤ, ◌≤ℤ◌, List, [], length, replicate, Contains, sym, subst, arith}
+use Rattle.std.proofs.Common.{◌≡◌, ℕ, zero, ◌+◌, ◌*◌, ◌<◌, ◌≤◌, ℤ, ◌≤ℤ◌, List, [], length, replicate, Contains, sym, subst, arith}
 use Rattle.msp_assign.specs.declared.column.Column.{Column}
 use Rattle.msp_assign.specs.Search.{HasCharges, sizes, HasUnfallen, IsPlaced, IsOneMore}
 use Rattle.msp_assign.specs.View.{seen, AreFirst, IsView, IsWidened, IsPlacement}
@@ -19,12 +19,10 @@ pub record IsPlacing (rows lines long : ℕ) (cost : ℕ → ℕ → ℤ) (colum
   pub zero : HasUnfallen (length columns) falls
 
 factor : (m n : ℕ) → 1 ≤ m * n → 1 ≤ n
-factor m zero h = omega (arith, h)
-factor m (suc n) h = omega arith
+factor m n h = grind arith
 
 other_factor : (m n : ℕ) → 1 ≤ m * n → 1 ≤ m
-other_factor zero n h = omega (arith, h)
-other_factor (suc m) n h = omega arith
+other_factor m n h = grind arith
 
 -- a table with rows has lines and places
 pub some_places : (rows lines long columns : ℕ) → lines * long ≡ columns → 1 ≤ rows → rows ≤ columns → (1 ≤ lines) × (1 ≤ long)
@@ -48,9 +46,6 @@ IsPlacing-start rows lines lines2 long count cost columns k falls used whole el 
 
 module _ (rows lines long count : ℕ) (cost : ℕ → ℕ → ℤ) (columns : List Column)
     (falls used : List ℕ) (whole : lines * long ≡ count) (costs : HasCharges rows count cost) (h : IsPlacing rows lines long cost columns falls used) where
-  costs_all : HasCharges rows (lines * long) cost
-  costs_all = subst (λ x. HasCharges rows x cost) (sym whole) costs
-
   pub HasCharges-placing : (columns2 : List Column) → columns2 ≡ columns → HasCharges rows (length columns2) (seen cost long columns2)
   HasCharges-placing columns2 e = HasCharges-read rows count lines long cost columns columns2 whole e costs h.view.inside
 
@@ -69,7 +64,8 @@ module _ (rows lines long count : ℕ) (cost : ℕ → ℕ → ℤ) (columns : L
       let one = rw ec at o in
       let wider = rw (eg, el) at w in
       record {
-        placed = IsPlaced-next lines long columns used lowered after f h.view one rows cost costs_all rise placed (omega (arith, longer, more)) wide wide_falls wider;
+        placed = IsPlaced-next lines long columns used lowered after f h.view one rows cost (subst (λ x. HasCharges rows x cost) (sym whole) costs)
+            rise placed (omega (arith, longer, more)) wide wide_falls wider;
         view = IsView-next lines long columns used lowered after f h.view one wide wide_falls placed.inside wider;
         at_most = omega (arith, longer, more);
         few = omega (arith, longer, h.few, (longer-next long columns lowered f wide wide_falls wider).1);

@@ -74,9 +74,6 @@ module _ (cost : ℕ → ℕ → ℕ) (fall : List ℕ) (r place depth own : ℕ
       IsNear-relaxed = (record { inside = first.inside; same = as_near; least = λ j l. h.least j (omega (arith, e, l)) }, attained)
 
   module _ (apart : AllPairs (λ c d. c ≢ d) left) (most : ℕ) (next next_from last last_from : List ℕ) (k far : ℕ) (h : IsRelaxing most next next_from k far) (inside : k < length left) where
-    ahead : (j : ℕ) → j < k → at left j ≢ at left k
-    ahead j l = apart j k 0 l inside
-
     pub IsRelaxing-next : (c way shortest far2 : ℕ) → c ≡ at left k → IsWay cost fall r depth own c way → IsShortened way place next next_from last last_from c shortest
         → far2 ≡ min far shortest → IsRelaxing most last last_from (k + 1) far2
     IsRelaxing-next c way shortest far2 e w s n = record {
@@ -106,7 +103,7 @@ module _ (cost : ℕ → ℕ → ℕ) (fall : List ℕ) (r place depth own : ℕ
     }
       where
         fresh : (j : ℕ) → j < k → at left j ≢ c
-        fresh j l x = ahead j l (x ∙ e)
+        fresh j l x = apart j k 0 l inside (x ∙ e)
 
   pub IsRelaxed-from_all : (most : ℕ) (next next_from : List ℕ) (k far : ℕ)
       → k ≡ length left → IsRelaxing most next next_from k far → IsRelaxed cost fall r place depth own left distance «from» next next_from

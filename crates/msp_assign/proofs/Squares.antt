@@ -3,16 +3,16 @@ use Rattle.std.proofs.Common.{◌≡◌, ◌≢◌, ℕ, ◌+◌, ◌<◌, ◌�
 use Rattle.std.proofs.Common.{length, set, replicate, All, AllPairs, Contains, sym, ap, subst, ◌∙◌, arith}
 use Rattle.std.proofs.lemmas.List.{get_or-set_same, get_or-set_other, length-set, length-append, length-replicate, get_or-replicate, get_or_append_left}
 use Rattle.std.proofs.Math.Seq.{get_or-append_seam}
-use Rattle.std.proofs.lemmas.List.Elements.{All-append, All-cons, All-nil, Contains-append_left, Contains-append_cases, Contains-push_cases, Contains-get_or}
+use Rattle.std.proofs.lemmas.List.Elements.{All-append, All-cons, All-nil, Contains-append_left, Contains-push_cases, Contains-get_or}
 use Rattle.std.proofs.lemmas.List.Quantifiers.{all_pairs_push}
 use Rattle.std.proofs.lemmas.List.Sorted.{Contains-permutation, IsPermutation-refl, IsPermutation-sym}
-use Rattle.msp_class.proofs.Sums.{total_below-constant, sum_by-constant, sum_by-distinct_test}
 use Rattle.msp_class.proofs.Cases.{same_or_not}
 use Rattle.msp_matching.specs.Passing.{at}
 use Rattle.msp_assign.specs.declared.square.Cheapest.{Cheapest}
 use Rattle.msp_assign.specs.Search.{paid, IsCheapest, IsPlaced, IsOneMore}
 use Rattle.msp_assign.specs.Square.{is_taken, AreMarked, IsCheaper, IsFreeCheapest}
-use Rattle.msp_assign.proofs.Lists.{contained_or_not, at-Contains}
+use Rattle.msp_assign.proofs.Lists.{at-Contains}
+use Rattle.msp_class.proofs.Sums.{OnceBelow-from_distinct, OnceBelow-contains}
 
 -- ---- a free column where the row pays least
 if_some : (o : Option ℕ) (P : ℕ → Type 0) → ((c : ℕ) → o ≡ Some c → P c) → IfSome o P
@@ -54,7 +54,8 @@ IsCheapestSoFar-next cost fall taken r k best price mark next h e m q = record {
   found = if_some-weaker next.column _ _ (λ c x. step c x) q.found;
 }
   where
-    old : (o : Option ℕ) (c : ℕ) → IfSome o (λ c. (c < k) × (is_taken taken c ≡ false) × (best.paid ≡ paid cost fall r c)) → o ≡ Some c → (c < k) × (is_taken taken c ≡ false) × (best.paid ≡ paid cost fall r c)
+    old : (o : Option ℕ) (c : ℕ) → IfSome o (λ c. (c < k) × (is_taken taken c ≡ false) × (best.paid ≡ paid cost fall r c))
+        → o ≡ Some c → (c < k) × (is_taken taken c ≡ false) × (best.paid ≡ paid cost fall r c)
     old o c i s = subst (λ o. IfSome o (λ c. (c < k) × (is_taken taken c ≡ false) × (best.paid ≡ paid cost fall r c))) s i
 
     step : (c : ℕ) → ((c ≡ k) × (next.paid ≡ price) × (mark ≡ false)) ⊎ ((best.column ≡ Some c) × (next.paid ≡ best.paid)) → (c < k + 1) × (is_taken taken c ≡ false) × (next.paid ≡ paid cost fall r c)
@@ -73,9 +74,6 @@ module _ (cost : ℕ → ℕ → ℕ) (columns : ℕ) (fall column : List ℕ) (
   unused : ¬ Contains column free
   unused = m.free free f.inside f.free
 
-  longer : length (column ++ free ∷ []) ≡ length column + 1
-  longer = length-append column (free ∷ [])
-
   pub IsOneMore-free : IsOneMore columns column fall (column ++ free ∷ []) free
   IsOneMore-free = record { same = IsPermutation-refl (column ++ free ∷ []); inside = f.inside; free_before = unused; unfallen = p.unused free f.inside unused }
 
@@ -89,7 +87,7 @@ module _ (cost : ℕ → ℕ → ℕ) (columns : ℕ) (fall column : List ℕ) (
       | inl s ↦ subst (λ r. IsCheapest cost columns fall r (at (column ++ free ∷ []) r)) (sym s)
           (subst (IsCheapest cost columns fall (length column)) (sym (get_or-append_seam column free [] 0)) f.cheapest)
       | inr n ↦
-          let lr : r < length column = omega (arith, l, longer) in
+          let lr : r < length column = omega (arith, l, length-append column (free ∷ [])) in
           subst (IsCheapest cost columns fall r) (sym (get_or_append_left column (free ∷ []) 0 r lr)) (p.cheapest r lr)
     ];
     unused = λ c l n. p.unused c l (λ x. n (Contains-append_left column (free ∷ []) c x));
@@ -102,12 +100,9 @@ AreMarked-next columns column after fall taken c h o = record {
   size = length-set taken c true ∙ h.size;
   free = λ d l e m. elim (same_or_not d c) [
     | inl s ↦ absurd (let both : true ≡ false = sym (get_or-set_same taken c true true (omega (arith, h.size, o.inside))) ∙ sym (ap (is_taken (set taken c true)) s) ∙ e in cc)
-    | inr n ↦ elim (Contains-append_cases column (c ∷ []) d (Contains-permutation after (column ++ c ∷ []) d (IsPermutation-sym (column ++ c ∷ []) after o.same) m)) [
+    | inr n ↦ elim (Contains-push_cases column c d (Contains-permutation after _ d (IsPermutation-sym (column ++ c ∷ []) after o.same) m)) [
       | inl x ↦ h.free d l (sym (get_or-set_other taken c d true true n) ∙ e) x
-      | inr x ↦ elim (Contains-push_cases [] c d x) [
-        | inl y ↦ let w = at-Contains [] d y in omega (arith, w.1)
-        | inr y ↦ n (sym y)
-      ]
+      | inr y ↦ n (sym y)
     ]
   ];
 }
@@ -133,18 +128,5 @@ IsPlaced-start cost columns falls n same e = record {
     fallen c l = ap (λ x. at x c) e ∙ get_or-replicate n c 0 0 (omega (arith, same, l))
 
 -- ---- rows with columns of their own, as many as columns, have them all
-module _ (n : ℕ) (xs : List ℕ) (inside : All (λ x. x < n) xs) (apart : AllPairs (λ x y. x ≢ y) xs) where
-  pub at_most : length xs ≤ n
-  at_most = omega (arith, sum_by-constant 1 xs, sum_by-distinct_test (λ _. 1) (λ _. true) n xs inside apart (λ k d l. refl), total_below-constant n 1)
-
 pub all_taken : (n : ℕ) (xs : List ℕ) → All (λ x. x < n) xs → AllPairs (λ x y. x ≢ y) xs → length xs ≡ n → (c : ℕ) → c < n → Contains xs c
-all_taken n xs inside apart whole c l = elim (contained_or_not xs c) [
-  | inl m ↦ m
-  | inr m ↦ absurd (omega (
-    arith,
-    whole,
-    length-append xs (c ∷ []),
-    at_most n (xs ++ c ∷ []) (All-append (λ x. x < n) xs (c ∷ []) inside (All-cons (λ x. x < n) c [] l (All-nil (λ x. x < n))))
-        (all_pairs_push (λ x y. x ≢ y) xs c apart (λ k d b e. m (subst (Contains xs) e (Contains-get_or xs k d b)))),
-  ))
-]
+all_taken n xs inside apart whole c l = OnceBelow-contains (OnceBelow-from_distinct n xs whole inside apart) c l

@@ -1,5 +1,5 @@
 -- Columns come into view along their lines.
-use Rattle.std.proofs.Common.{◌≡◌, ◌≢◌, ℕ, ◌+◌, ◌*◌, ◌/◌, ◌%◌, ◌<◌, ◌≤◌, ◌⊎◌, inl, inr, refl, List, [], ◌∷◌, ◌++◌, length, map, ℤ, pos, ◌≤ℤ◌, nat_abs, All, Contains}
+use Rattle.std.proofs.Common.{◌≡◌, ◌≢◌, ℕ, ◌+◌, ◌*◌, ◌/◌, ◌%◌, ◌<◌, ◌≤◌, ◌⊎◌, inl, inr, refl, List, [], ◌∷◌, ◌++◌, length, map, ℤ, ◌≤ℤ◌, All, Contains}
 use Rattle.std.proofs.Common.{sym, ap, subst, ◌∙◌, arith}
 use Rattle.std.proofs.Math.Seq.{get_or-append_seam}
 use Rattle.std.proofs.Math.Nat.{mul-le-mul_right, div-mul-le_self, div-add-mod, mod-lt}
@@ -7,20 +7,18 @@ use Rattle.std.proofs.lemmas.Int.{ints}
 use Rattle.std.proofs.lemmas.List.{get_or_append_left, length-append, length-map, get_or-map}
 use Rattle.std.proofs.lemmas.List.Elements.{All-append, All-cons, All-nil, All-from_get_or, All-get_or, Contains-append_left, Contains-push, Contains-push_cases}
 use Rattle.std.proofs.lemmas.List.Sorted.{Contains-permutation, IsPermutation-sym}
-use lib.Arith.{digits_div, digits_mod}
 use Rattle.msp_matching.specs.Passing.{at}
 use Rattle.msp_class.proofs.Cases.{same_or_not, less_or_not}
 use Rattle.msp_assign.specs.declared.column.Column.{Column}
 use Rattle.msp_assign.specs.Search.{HasCharges, sizes, paid, HasUnfallen, IsPlaced, IsOneMore}
 use Rattle.msp_assign.specs.View.{no_column, column_at, number_of, number_at, seen, AreInside, AreFirst, IsView, column_after, IsWidened}
-use Rattle.msp_assign.proofs.Lists.{Contains-at, at-Contains, missing}
+use Rattle.msp_assign.proofs.Lists.{Contains-at, at-Contains}
+use Rattle.msp_class.proofs.Quotients.{lesser_block, same_block}
+use Rattle.msp_class.proofs.Sums.{missing}
 
 -- ---- numbers of columns
 pub number-inside : (lines long : ℕ) (c : Column) → c.line < lines → c.place < long → number_of long c < lines * long
-number-inside lines long c a b = by c.line c.place a b
-  where
-    by : (l k : ℕ) → l < lines → k < long → l * long + k < lines * long
-    by l k a b = let s : (l + 1) * long ≤ lines * long = mul-le-mul_right long (omega arith) in omega (arith, s)
+number-inside lines long c a b = omega (arith, lesser_block long c.line lines c.place 0 b a)
 
 pub line-inside : (lines long c : ℕ) → c < lines * long → c / long < lines
 line-inside lines long c l = elim (less_or_not (c / long) lines) [
@@ -30,23 +28,17 @@ line-inside lines long c l = elim (less_or_not (c / long) lines) [
 
 -- a number is that of one column alone
 pub number-once : (long : ℕ) (c d : Column) → c.place < long → d.place < long → number_of long c ≡ number_of long d → (c.line ≡ d.line) × (c.place ≡ d.place)
-number-once long c d a b e = (
-  sym (digits_div c.line a) ∙ ap (λ x. x / long) e ∙ digits_div d.line b,
-  sym (digits_mod c.line a) ∙ ap (λ x. x % long) e ∙ digits_mod d.line b,
-)
+number-once long c d a b e = same_block long c.line d.line c.place d.place a b e
 
 -- ---- the first column of each line
 module _ (lines long : ℕ) (columns : List Column) (h : AreFirst lines columns) (some : 1 ≤ long) where
   line_of : (k : ℕ) → k < length columns → ((column_at columns k).line ≡ k) × ((column_at columns k).place ≡ 0)
   line_of k l = h.each k (omega (arith, h.count))
 
-  first-inside : AreInside lines long columns
-  first-inside = All-from_get_or (λ c. (c.line < lines) × (c.place < long)) columns no_column
-      (λ k l. (omega (arith, (line_of k l).0, h.count), omega (arith, (line_of k l).1, some)))
-
   pub IsView-first : IsView lines long columns []
   IsView-first = record {
-    inside = first-inside;
+    inside = All-from_get_or (λ c. (c.line < lines) × (c.place < long)) columns no_column
+        (λ k l. (omega (arith, (line_of k l).0, h.count), omega (arith, (line_of k l).1, some)));
     once = λ j k lj lk e p. sym (line_of j lj).0 ∙ e ∙ (line_of k lk).0;
     behind = λ j k lj lk e p. absurd (omega (arith, p, (line_of k lk).1));
     ahead = λ l k a b.
@@ -150,9 +142,6 @@ module _ (lines long : ℕ) (columns : List Column) (used falls after : List ℕ
     old_ahead : (l k j : ℕ) → IsOld j → (column_at columns j).line ≡ l → (column_at columns j).place ≤ k → ((column_at columns j).place ≡ k) ⊎ ¬ Contains after j → IsAhead l k j
     old_ahead l k j a e p c = (omega (arith, a.0, longer), a.1 ∙ e, omega (arith, a.2, p), elim c [ inl x ↦ inl (a.2 ∙ x) | inr x ↦ inr x ])
 
-    new_ahead : (l k : ℕ) → IsNew (length columns) → (column_at columns f).line ≡ l → (column_at columns f).place < k → ¬ Contains after (length columns) → IsAhead l k (length columns)
-    new_ahead l k a e p n = (omega (arith, longer), a.1 ∙ e, omega (arith, a.2, p), inr n)
-
     ahead : (inside : All (λ c. c < length columns) after) (l k : ℕ) → l < lines → k < long → (j : ℕ) × IsAhead l k j
     ahead inside l k a b =
         let w = v.ahead l k a b in
@@ -169,7 +158,7 @@ module _ (lines long : ℕ) (columns : List Column) (used falls after : List ℕ
 
         at_taken : (column_at columns f).line ≡ l → (column_at columns f).place ≤ k → (j : ℕ) × IsAhead l k j
         at_taken e p = elim (less_or_not (column_at columns f).place k) [
-          | inl q ↦ (length columns, new_ahead l k (new (length columns) refl) e q fresh)
+          | inl q ↦ let a = new (length columns) refl in (length columns, (omega (arith, longer), a.1 ∙ e, omega (arith, a.2, q), inr fresh))
           | inr q ↦ (f, old_ahead l k f (old f o.inside) e p (inl (omega (arith, p, q))))
         ]
 
@@ -209,21 +198,12 @@ module _ (lines long : ℕ) (columns : List Column) (used falls after : List ℕ
     paid_old : (r k : ℕ) → k < length columns → paid (sizes (seen cost long wide)) (falls ++ 0 ∷ []) r k ≡ paid (sizes (seen cost long columns)) falls r k
     paid_old r k l = omega (arith, ap (sizes cost r) (number_old k l), fall_old k l)
 
-    paid_new : (r : ℕ) → paid (sizes (seen cost long wide)) (falls ++ 0 ∷ []) r (length columns) ≡ sizes cost r (number_of long (column_after columns f))
-    paid_new r = omega (arith, ap (sizes cost r) number_new, fall_new)
-
     dearer : (r : ℕ) → r < rows → sizes cost r (number_at long columns f) ≤ sizes cost r (number_of long (column_after columns f))
     dearer r l =
         let i = place_inside f o.inside in
-        by (cost r (number_at long columns f)) (cost r (number_of long (column_after columns f)))
-        (costs r (number_at long columns f) l (number-inside lines long (column_at columns f) i.0 i.1)).0
-        (rise r (column_at columns f).line (column_at columns f).place ((column_at columns f).place + 1) i.0 (omega arith) more)
-      where
-        by : (x y : ℤ) → pos 0 ≤ℤ x → x ≤ℤ y → nat_abs x ≤ nat_abs y
-        by x y a b = omega (arith, ints, a, b)
-
-    taken_paid : (r : ℕ) → paid (sizes (seen cost long columns)) falls r f ≡ sizes cost r (number_at long columns f)
-    taken_paid r = omega (arith, o.unfallen)
+        let some = costs r (number_at long columns f) l (number-inside lines long (column_at columns f) i.0 i.1) in
+        let more = rise r (column_at columns f).line (column_at columns f).place ((column_at columns f).place + 1) i.0 (omega arith) more in
+        omega (arith, ints, some.0, more)
 
     one_of : (c : ℕ) → c < length columns + 1 → (c < length columns) ⊎ (c ≡ length columns)
     one_of c l = elim (same_or_not c (length columns)) [ inl e ↦ inr e | inr n ↦ inl (omega arith) ]
@@ -238,7 +218,7 @@ module _ (lines long : ℕ) (columns : List Column) (used falls after : List ℕ
         → paid (sizes (seen cost long wide)) (falls ++ 0 ∷ []) r (at after r) ≤ paid (sizes (seen cost long wide)) (falls ++ 0 ∷ []) r d
     cheapest r d l (inl a) = omega (arith, paid_old r (at after r) (own r l), paid_old r d a, (p.cheapest r l).cheapest d a)
     cheapest r d l (inr e) = subst (λ x. paid (sizes (seen cost long wide)) (falls ++ 0 ∷ []) r (at after r) ≤ paid (sizes (seen cost long wide)) (falls ++ 0 ∷ []) r x) (sym e)
-        (omega (arith, paid_old r (at after r) (own r l), paid_new r, (p.cheapest r l).cheapest f o.inside, taken_paid r, dearer r (omega (arith, l, few))))
+        (omega (arith, paid_old r (at after r) (own r l), ap (sizes cost r) number_new, fall_new, (p.cheapest r l).cheapest f o.inside, o.unfallen, dearer r (omega arith)))
 
     IsPlaced-wider : IsPlaced (sizes (seen cost long wide)) (length wide) (falls ++ 0 ∷ []) after
     IsPlaced-wider = record {
@@ -299,17 +279,8 @@ module _ (lines long : ℕ) (columns : List Column)
   abbrev numbers : List ℕ
   numbers = map (number_at long columns) used
 
-  numbers-inside : All (λ c. c < lines * long) numbers
-  numbers-inside = All-from_get_or (λ c. c < lines * long) numbers 0 (λ r l.
-      let lr : r < length used = omega (arith, l, length-map used (number_at long columns)) in
-      let i = All-get_or (λ c. (c.line < lines) × (c.place < long)) columns (at used r) no_column (own r 0 lr) v.inside in
-      subst (λ x. x < lines * long) (sym (get_or-map (number_at long columns) used r 0 0 lr)) (number-inside lines long (column_at columns (at used r)) i.0 i.1))
-
   gap : (c : ℕ) × (c < lines * long) × ¬ Contains numbers c
-  gap = missing (lines * long) numbers numbers-inside (omega (arith, few, size))
-    where
-      size : length numbers ≡ length used
-      size = length-map used (number_at long columns)
+  gap = missing (lines * long) numbers (omega (arith, few, length-map used (number_at long columns)))
 
   taken_number : (k : ℕ) → Contains used k → Contains numbers (number_at long columns k)
   taken_number k m = let w = at-Contains used k m in

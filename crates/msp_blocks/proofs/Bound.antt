@@ -12,7 +12,7 @@ use Rattle.msp_pieces.specs.Blocks.{cost_at}
 use Rattle.msp_pieces.specs.Cost.{Best, end_of, job_cost, cost_of}
 use Rattle.msp_pieces.specs.Feasible.{Feasible}
 use Rattle.msp_pieces.proofs.bounds.Certified.{law_of_blocks}
-use Rattle.msp_pieces.proofs.costs.Charges.{job_cost-mono, charge_of, cost_of-least}
+use Rattle.msp_pieces.proofs.costs.Charges.{job_cost-mono, cost_of-least}
 use Rattle.msp_blocks.specs.Blocks.{IsBestCost}
 use Rattle.msp_blocks.specs.Filling.{IsBound}
 
@@ -23,19 +23,13 @@ module _ (i : Instance) (env : i.class.env ≡ One) (greatest : is_greatest i.cl
   module _ (s : Schedule) (single : s.unit ≡ pos 1) (feasible : Feasible i s)
       (some : 0 < length i.jobs) (each : (k : ℕ) → k < length i.jobs → (moment : ℕ) × (end_of s k ≤ℤ pos moment) × (cost_at i k moment ≤ℤ cost)) where
     no_more : cost_of i s ≤ℤ cost
-    no_more = cost_of-least i s cost greatest some by
-      where
-        by : (k : ℕ) → k < length i.jobs → charge_of i s k ≤ℤ cost
-        by k l =
-            let (moment, early, costs) = each k l in
-            subst (λ u. job_cost i.class.crit u (job_at i k) (end_of s k) ≤ℤ cost)
-            (sym single) (≤ℤ_trans (job_cost-mono i.class.crit (pos 1) (job_at i k) (end_of s k) (pos moment) (omega (arith, ints)) early) costs)
+    no_more = cost_of-least i s cost greatest some (λ k l.
+        let (moment, early, costs) = each k l in
+        subst (λ u. job_cost i.class.crit u (job_at i k) (end_of s k) ≤ℤ cost)
+        (sym single) (≤ℤ_trans (job_cost-mono i.class.crit (pos 1) (job_at i k) (end_of s k) (pos moment) (omega (arith, ints)) early) costs))
 
     scaled : (t : Schedule) → Feasible i t → (cost_of i s *ℤ t.unit) ≤ℤ (t.unit *ℤ cost)
-    scaled t f = ≤ℤ_trans (≤ℤ_of_same (*ℤ_comm (cost_of i s) t.unit)) (*ℤ-mono_nonneg t.unit (positive t.unit f.unit) no_more)
-      where
-        positive : (u : ℤ) → pos 1 ≤ℤ u → pos 0 ≤ℤ u
-        positive u h = omega (arith, ints, h)
+    scaled t f = ≤ℤ_trans (≤ℤ_of_same (*ℤ_comm (cost_of i s) t.unit)) (*ℤ-mono_nonneg t.unit (omega (arith, ints, f.unit)) no_more)
 
     whole : (t : Schedule) → cost_of i t ≡ cost_of i t *ℤ s.unit
     whole t = sym (ap (λ u. cost_of i t *ℤ u) single ∙ *ℤ-one (cost_of i t))

@@ -1,12 +1,12 @@
 -- One job more is placed: the one that ends last in the first block takes what the others of the block leave of its time.
-use Rattle.std.proofs.Common.{◌≡◌, ◌≢◌, ℕ, ◌+◌, ◌<◌, ◌≤◌, false, eqb, ◌⊎◌, inl, inr, List, [], ◌∷◌, ◌++◌, length, get_or, filter, All, AllPairs, Contains, sum_by, ℤ, ◌≤ℤ◌, refl}
+use Rattle.std.proofs.Common.{◌≡◌, ◌≢◌, ℕ, ◌+◌, ◌<◌, ◌≤◌, eqb, ◌⊎◌, inl, inr, List, ◌∷◌, ◌++◌, length, get_or, filter, All, AllPairs, Contains, sum_by, ℤ, ◌≤ℤ◌, refl}
 use Rattle.std.proofs.Common.{sym, ap, subst, ◌∙◌, arith, le_trans, length-append, append_assoc}
-use Rattle.std.proofs.lemmas.Bool.{cases_Bool, eqb-true, eqb-false, eq-eqb, false≢true}
+use Rattle.std.proofs.lemmas.Bool.{cases_Bool, eqb-true, eqb-false, eq-eqb, ne_eqb, false≢true}
 use Rattle.std.proofs.lemmas.List.{get_or_default}
 use Rattle.std.proofs.lemmas.List.Sums.{sum_by-cons, sum_by-append}
-use Rattle.std.proofs.lemmas.List.Elements.{All-cons, All-append, All-contains, Contains-get_or, Contains-append_left, Contains-append_cases, filter-append}
+use Rattle.std.proofs.lemmas.List.Elements.{All-append, All-contains, Contains-get_or, Contains-append_left, Contains-append_cases, filter-append}
 use Rattle.msp_class.proofs.IntegerRing.{≤ℤ_of_same, <ℤ_weak}
-use Rattle.msp_class.proofs.Sums.{AllPairs-head, AllPairs-tail}
+use Rattle.msp_class.proofs.Sums.{AllPairs-tail}
 use Rattle.std.specs.List.{list_any}
 use Rattle.msp_instance.specs.declared.Arc.{Arc}
 use Rattle.msp_instance.specs.Paths.{HasStep, HasPath, one, more}
@@ -19,7 +19,7 @@ use Rattle.msp_instance.proofs.ArcLemmas.{filter_none, filter_all}
 use Rattle.msp_pieces.specs.Piece.{job_of, start, finish}
 use Rattle.msp_pieces.specs.BackToBack.{piece, time_at}
 use Rattle.msp_pieces.proofs.feasible.Series.{AllPairs-append}
-use Rattle.msp_route.specs.LastJob.{EndsAt, CostsLess}
+use Rattle.msp_route.specs.LastJob.{EndsAt}
 use Rattle.msp_pieces.proofs.lists.Intervals.{piece_of}
 use Rattle.msp_pieces.proofs.lists.Parts.{All-front, AllPairs-front, AllPairs-back}
 use Rattle.msp_blocks.specs.Filling.{done_by, busy_until, Follow, gaps, IsPut, IsFilling, IsBound, CostAtMost}
@@ -33,10 +33,7 @@ work_of-append ps new j = ap (sum_by (size_of start finish)) (filter-append (λ 
     ∙ sum_by-append (size_of start finish) (filter (λ q. eqb (job_of q) j) ps) (filter (λ q. eqb (job_of q) j) new)
 
 work_of-none : (ps : List Piece) (j : ℕ) → All (λ p. p.job ≢ j) ps → work_of job_of start finish ps j ≡ 0
-work_of-none ps j h = ap (sum_by (size_of start finish)) (filter_none (λ q. eqb (job_of q) j) ps (λ k d l. no (get_or ps k d).job (h k d l)))
-  where
-    no : (m : ℕ) → m ≢ j → eqb m j ≡ false
-    no m n = elim (cases_Bool (eqb m j)) [ inl e ↦ absurd (n (eqb-true m j e)) | inr e ↦ e ]
+work_of-none ps j h = ap (sum_by (size_of start finish)) (filter_none (λ q. eqb (job_of q) j) ps (λ k d l. ne_eqb _ _ (h k d l)))
 
 work_of-own : (ps : List Piece) (j : ℕ) → All (λ p. p.job ≡ j) ps → work_of job_of start finish ps j ≡ sum_by (size_of start finish) ps
 work_of-own ps j h = ap (sum_by (size_of start finish)) (filter_all (λ q. eqb (job_of q) j) ps (λ k d l. eq-eqb _ _ (h k d l)))
@@ -131,11 +128,9 @@ module _ (i : Instance) (head : ℕ → ℕ) (greatest : ℕ) (takes : (j : ℕ)
 
   -- the first head is the least
   from_first : All (λ k. h ≤ head k) block
-  from_first = subst (λ n. All (λ k. n ≤ head k) block) (sym first) (by block in_block (AllPairs-front (λ j k. head j ≤ head k) block C f.sorted))
-    where
-      by : (xs : List ℕ) → 0 < length xs → AllPairs (λ j k. head j ≤ head k) xs → All (λ k. head (get_or xs 0 0) ≤ head k) xs
-      by [] some s = absurd (omega (arith, some))
-      by (x ∷ xs) some s = All-cons (λ k. head x ≤ head k) x xs (omega arith) (AllPairs-head (λ j k. head j ≤ head k) x xs s)
+  from_first k d b =
+      let same = get_or_default block 0 d 0 in_block in
+      rw first (grind (arith, AllPairs-front (λ j k. head j ≤ head k) block C f.sorted 0 k d, same))
 
   -- each older piece lies before or after the block
   apart_from_block : All (λ p. (finish p ≤ h) ⊎ (e ≤ start p)) ps
@@ -337,10 +332,7 @@ module _ (i : Instance) (head : ℕ → ℕ) (greatest : ℕ) (takes : (j : ℕ)
 
     from_last : {j k : ℕ} → j ≡ l → HasPath i.arcs j k → ¬ Contains block k
     from_last same (one c) = free _ _ same c
-    from_last same (more c p) = path_enters p (free _ _ same c) (past _ _ same c)
-      where
-        past : (j m : ℕ) → j ≡ l → HasStep i.arcs j m → head l < head m
-        past j m same c = omega (arith, ap head same, climbs j m c)
+    from_last {j} same (more {k = m} c p) = path_enters p (free _ _ same c) (omega (arith, ap head same, climbs j m c))
 
     leads_to_none : LeadsToNone i block l
     leads_to_none k d b p = from_last refl p (Contains-get_or block k d b)
@@ -352,10 +344,8 @@ module _ (i : Instance) (head : ℕ → ℕ) (greatest : ℕ) (takes : (j : ℕ)
     -- ---- so the block's value is what the last job costs at its end
     module _ (heads : List ℕ) (each : length heads ≡ length i.jobs) (are : (j : ℕ) → get_or heads j 0 ≡ head j) (sound : IsSound i (λ j. get_or heads j 0)) where
       owed : All (λ j. LeadsToNone i block j → cost_at i l e ≤ℤ cost_at i j (h + total_time i block)) block
-      owed k d b none = subst (λ m. cost_at i l e ≤ℤ cost_at i (get_or block k d) m) end (at_most (get_or block k d) (last.least k d b (no_successor (get_or block k d) none)))
-        where
-          at_most : (x : ℕ) → CostsLess i e l x → cost_at i l e ≤ℤ cost_at i x e
-          at_most x c = elim c [ inl g ↦ <ℤ_weak g | inr g ↦ ≤ℤ_of_same g.0 ]
+      owed k d b none = subst (λ m. cost_at i l e ≤ℤ cost_at i (get_or block k d) m) end
+          (elim (last.least k d b (no_successor (get_or block k d) none)) [ inl g ↦ <ℤ_weak g | inr g ↦ ≤ℤ_of_same g.0 ])
 
       IsBound-made : IsBound i heads block (cost_at i l e)
       IsBound-made = record {

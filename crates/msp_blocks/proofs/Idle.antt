@@ -1,7 +1,7 @@
 -- The earliest schedule of jobs by their heads, when it is idle, and what it leaves of a block when one job is taken out.
-use Rattle.std.proofs.Common.{◌≡◌, ℕ, suc, ◌+◌, ◌-◌, ◌<◌, ◌≤◌, max, Bool, true, false, cond, ltb, ◌⊎◌, inl, inr, List, [], ◌∷◌, ◌++◌, length, get_or, take, All, AllPairs, sum_by}
-use Rattle.std.proofs.Common.{refl, sym, ap, subst, ◌∙◌, arith, le_trans, length-append}
-use Rattle.std.proofs.lemmas.Bool.{cond_both, cases_lt, lt-ltb, ltb-true, ltb-false}
+use Rattle.std.proofs.Common.{◌≡◌, ℕ, suc, ◌+◌, ◌-◌, ◌<◌, ◌≤◌, max, cond, ltb, ◌⊎◌, inl, inr, List, [], ◌∷◌, ◌++◌, length, get_or, take, All, AllPairs, sum_by}
+use Rattle.std.proofs.Common.{refl, sym, ap, subst, ◌∙◌, arith, add-zero, le_trans, length-append}
+use Rattle.std.proofs.lemmas.Bool.{cases_Bool, cond_both, cases_lt, lt-ltb, ltb-true, ltb-false}
 use Rattle.std.proofs.lemmas.List.Sums.{sum_by-cons, sum_by-append}
 use Rattle.std.proofs.lemmas.List.Elements.{All-nil, All-cons, All-head, All-tail, All-append, All-weaker}
 use Rattle.msp_class.proofs.Sums.{AllPairs-head, AllPairs-tail}
@@ -53,11 +53,10 @@ module _ (q p : ℕ → ℕ) where
   -- ---- when those are done whose heads are before a moment
   pub busy-mono : (s t : ℕ) (js : List ℕ) (y : ℕ) → s ≤ t → busy s js y ≤ busy t js y
   busy-mono s t [] y h = h
-  busy-mono s t (j ∷ js) y h = by (ltb (q j) y) (busy-mono (max s (q j) + p j) (max t (q j) + p j) js y (omega (arith, h))) (busy-mono s t js y h)
-    where
-      by : (b : Bool) {k l m n : ℕ} → k ≤ l → m ≤ n → cond b k m ≤ cond b l n
-      by true h g = h
-      by false h g = g
+  busy-mono s t (j ∷ js) y h = elim (cases_Bool (ltb (q j) y)) [
+    | inl e ↦ rw e (busy-mono (max s (q j) + p j) (max t (q j) + p j) js y (omega (arith, h)))
+    | inr e ↦ rw e (busy-mono s t js y h)
+  ]
 
   pub busy-after : (t : ℕ) (js : List ℕ) (y : ℕ) → t ≤ busy t js y
   busy-after t [] y = omega arith
@@ -65,11 +64,10 @@ module _ (q p : ℕ → ℕ) where
 
   pub busy-append : (t : ℕ) (xs ys : List ℕ) (y : ℕ) → busy t (xs ++ ys) y ≡ busy (busy t xs y) ys y
   busy-append t [] ys y = refl
-  busy-append t (j ∷ xs) ys y = by (ltb (q j) y) (busy (max t (q j) + p j) xs y) (busy t xs y) (busy-append (max t (q j) + p j) xs ys y) (busy-append t xs ys y)
-    where
-      by : (b : Bool) (l n : ℕ) {k m : ℕ} → k ≡ busy l ys y → m ≡ busy n ys y → cond b k m ≡ busy (cond b l n) ys y
-      by true l n h g = h
-      by false l n h g = g
+  busy-append t (j ∷ xs) ys y = elim (cases_Bool (ltb (q j) y)) [
+    | inl e ↦ rw e (busy-append (max t (q j) + p j) xs ys y)
+    | inr e ↦ rw e (busy-append t xs ys y)
+  ]
 
   pub busy-none : (t : ℕ) (js : List ℕ) (y : ℕ) → All (λ j. y ≤ q j) js → busy t js y ≡ t
   busy-none t [] y h = refl
@@ -87,10 +85,7 @@ module _ (q p : ℕ → ℕ) where
 
   -- ---- jobs that follow each other without idle time
   pub Follow-append : (t : ℕ) (xs ys : List ℕ) → Follow q p t (xs ++ ys) → Follow q p t xs × Follow q p (t + sum_by p xs) ys
-  Follow-append t [] ys h = (tt, subst (λ n. Follow q p n ys) (same t) h)
-    where
-      same : (t : ℕ) → t ≡ t + 0
-      same t = omega arith
+  Follow-append t [] ys h = (tt, subst (λ n. Follow q p n ys) (sym (add-zero t)) h)
   Follow-append t (x ∷ xs) ys h =
       let rest = Follow-append (t + p x) xs ys h.1 in
       let same : t + p x + sum_by p xs ≡ t + sum_by p (x ∷ xs) = omega (arith, sum_by-cons p x xs) in
@@ -161,10 +156,7 @@ module _ (q p : ℕ → ℕ) where
   gaps-size job t e (j ∷ ys) h =
       let rest = gaps-size job (max t (q j) + p j) e ys h in
       let both = sum_by-append (size_of start finish) (gap job t (q j)) (gaps q p job (max t (q j) + p j) ys e) in
-      adds t (q j) (p j) _ _ _ _ e (sum_by-cons p j ys) both (gap-size job t (q j)) rest
-    where
-      adds : (t a b s g r m e : ℕ) {whole : ℕ} → s ≡ b + m → whole ≡ g + r → g ≡ a - t → max t a + b + r + m ≡ e → t + whole + s ≡ e
-      adds t a b s g r m e {whole} h k l i = omega (arith, h, k, l, i)
+      omega (arith, sum_by-cons p j ys, both, gap-size job t (q j), rest)
 
   pub gaps-few : (job t e : ℕ) (ys : List ℕ) → length (gaps q p job t ys e) ≤ length ys + 1
   gaps-few job t e [] = gap-few job t e

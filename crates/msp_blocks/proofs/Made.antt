@@ -1,5 +1,5 @@
 -- All jobs are placed: the pieces are a feasible schedule, and it is best.
-use Rattle.std.proofs.Common.{◌≡◌, ℕ, ◌+◌, ◌<◌, ◌≤◌, ◌⊎◌, inl, inr, Bool, true, false, List, [], ◌∷◌, length, get_or, map, filter, ℤ, pos, ◌-ℤ◌, ◌*ℤ◌, ◌≤ℤ◌, All, AllPairs}
+use Rattle.std.proofs.Common.{◌≡◌, ℕ, ◌+◌, ◌<◌, ◌≤◌, ◌⊎◌, inl, inr, Bool, true, false, List, [], ◌∷◌, length, get_or, map, filter, ℤ, pos, ◌*ℤ◌, ◌≤ℤ◌, All, AllPairs}
 use Rattle.std.proofs.Common.{Contains, IsPermutation, MatchBool, sum_by, refl, sym, ap, ◌∙◌, subst, arith}
 use Rattle.std.specs.Prelude.{◌==◌}
 use Rattle.std.specs.List.{range_with_len}
@@ -19,7 +19,7 @@ use Rattle.msp_instance.specs.Instance.{job_at, need_at, no_job, no_need}
 use Rattle.msp_instance.specs.Conditions.{HasSameTimes, Inner}
 use Rattle.msp_pieces.specs.declared.Piece.{Piece}
 use Rattle.msp_pieces.specs.declared.Schedule.{Schedule}
-use Rattle.msp_pieces.specs.Piece.{pieces_of, IsBefore, start, finish, IsTimed}
+use Rattle.msp_pieces.specs.Piece.{pieces_of, start, finish, IsTimed}
 use Rattle.msp_pieces.specs.Feasible.{Feasible, GetsWork, IsWholeWork, total, work_of as part_of}
 use Rattle.msp_pieces.specs.Cost.{end_of}
 use Rattle.msp_pieces.specs.Intervals.{size_of}
@@ -91,11 +91,8 @@ module _ (i : Instance) (one : IsOneInstance i) (heads : List ℕ) (are : AreHea
     machines = λ a b d m k _. f.apart a b d m k;
     apart = λ a b d m k _. f.apart a b d m k;
     released = λ k d l. omega (arith, are.release (get_or ps k d).job (f.put k d l).job, f.after k d l);
-    arcs = λ n d b k x y k' x' y' same is. before (get_or ps k x) (get_or ps k' x') (timed k x y) (timed k' x' y') (f.ordered n d b k x y k' x' y' same is);
+    arcs = λ n d b k x y k' x' y' same is. omega (arith, ints, (timed k x y).to, (timed k' x' y').from, f.ordered n d b k x y k' x' y' same is);
   }
-    where
-      before : (p q : Piece) → IsTimed p → IsTimed q → finish p ≤ start q → IsBefore p q
-      before p q tp tq l = omega (arith, ints, tp.to, tq.from, l)
 
   module _ (whole : (i.class.cut ≡ true) ⊎ (i.class.times ≡ UnitTimes)) where
     module _ (j : ℕ) (small : j < length i.jobs) where
@@ -116,10 +113,7 @@ module _ (i : Instance) (one : IsOneInstance i) (heads : List ℕ) (are : AreHea
           let (p, is, size) = sole_piece mine timed_mine (work_is ∙ unit_time i one unit j small) in
           let put : IsPut i p = All-head (IsPut i) p [] (subst (All (IsPut i)) is (All-filter (λ p. p.job == j) (IsPut i) ps f.put)) in
           let time_is : (need_at i p.job p.op).time ≡ 1 = ap (λ o. (need_at i p.job o).time) put.op ∙ unit_time i one unit p.job put.job in
-          (p, same_pieces ∙ is, by p.from p.to (start p) (finish p) _ put.timed.from put.timed.to size time_is)
-        where
-          by : (x y : ℤ) (a b t : ℕ) → x ≡ pos a → y ≡ pos b → b ≡ a + 1 → t ≡ 1 → (y -ℤ x) ≡ pos 1 *ℤ pos t
-          by x y a b t e g h k = omega (arith, ints, e, g, h, k)
+          (p, same_pieces ∙ is, omega (arith, ints, put.timed.from, put.timed.to, size, time_is))
 
       adds_up : total (map (part_of Identical i) (pieces_of s j 0)) ≡ pos 1 *ℤ pos (time_at i j)
       adds_up = laid_adds_up i 1 ps laid j (omega (arith, work_is))
@@ -127,7 +121,8 @@ module _ (i : Instance) (one : IsOneInstance i) (heads : List ℕ) (are : AreHea
       gets : GetsWork i s j 0
       gets = gets_by_kind Identical i s j one.machine.kind (by i.class.cut refl)
         where
-          by : (b : Bool) → i.class.cut ≡ b → MatchBool b (total (map (part_of Identical i) (pieces_of s j 0)) ≡ pos 1 *ℤ pos (time_at i j)) ((p : Piece) × (pieces_of s j 0 ≡ p ∷ []) × IsWholeWork Identical i (pos 1) p)
+          by : (b : Bool) → i.class.cut ≡ b → MatchBool b (total (map (part_of Identical i) (pieces_of s j 0)) ≡ pos 1 *ℤ pos (time_at i j))
+              ((p : Piece) × (pieces_of s j 0 ≡ p ∷ []) × IsWholeWork Identical i (pos 1) p)
           by true e = adds_up
           by false e = elim whole [ inl cut ↦ absurd (cc) | inr unit ↦ in_one unit ]
 
@@ -138,10 +133,7 @@ module _ (i : Instance) (one : IsOneInstance i) (heads : List ℕ) (are : AreHea
       pub each : (k : ℕ) → k < length i.jobs → (moment : ℕ) × (end_of s k ≤ℤ pos moment) × (cost_at i k moment ≤ℤ cost)
       each k l =
           let (end, ended, most) = costs k l (nothing k) in
-          (end, last_end-least ps k (pos end) (omega (arith, ints)) (λ n d m same. by (get_or ps n d) (timed n d m) end (ended n d m same)), most)
-        where
-          by : (p : Piece) → IsTimed p → (e : ℕ) → finish p ≤ e → p.to ≤ℤ pos e
-          by p t e l = omega (arith, ints, t.to, l)
+          (end, last_end-least ps k (pos end) (omega (arith, ints)) (λ n d m same. omega (arith, ints, (timed n d m).to, ended n d m same)), most)
 
 -- no job costs more than so much before the first one is placed
 pub CostAtMost-none : (i : Instance) → IsOneInstance i → (head : ℕ → ℕ) (greatest : ℕ) (jobs : List ℕ) (most : ℤ) → IsFilling i head greatest jobs [] → CostAtMost i most jobs []

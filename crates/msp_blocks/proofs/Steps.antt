@@ -1,8 +1,7 @@
 -- The steps of the loops, at the numbers as the code passes them.
-use Rattle.std.proofs.Common.{◌≡◌, ℕ, suc, ◌+◌, ◌<◌, ◌≤◌, max, List, ◌∷◌, ◌++◌, length, get_or, take, drop, All, AllPairs, sum_by, ℤ, refl, sym, ap, ap₂, subst, subst₂, ◌∙◌, arith}
-use Rattle.std.proofs.Common.{le_trans, append_assoc, inl, inr, OnOk, Ok, Err, Result}
+use Rattle.std.proofs.Common.{◌≡◌, ℕ, ◌+◌, ◌<◌, ◌≤◌, max, List, ◌∷◌, ◌++◌, length, get_or, take, drop, All, AllPairs, sum_by, ℤ, refl, sym, ap, ap₂, subst, subst₂, ◌∙◌, arith}
+use Rattle.std.proofs.Common.{add-one, le_trans, append_assoc, OnOk, Ok, Err, Result}
 use Rattle.std.specs.List.{remove}
-use Rattle.std.proofs.lemmas.Bool.{cases_lt}
 use Rattle.std.proofs.lemmas.List.{take-take, drop_all, length-drop, get_or-drop, drop_more, take-append-drop, length-take, get_or-take, get_or_default}
 use Rattle.std.proofs.lemmas.List.Edits.{remove-append_left}
 use Rattle.std.proofs.lemmas.List.Sums.{sum_by-cons, sum_by-append, sum_by_more}
@@ -33,10 +32,7 @@ module _ (head time : ℕ → ℕ) (jobs : List ℕ) where
     some = omega arith;
     within = omega (arith, inside);
     end_is = omega (arith, e, h.end_is, sum_by_more time jobs count 0 inside);
-    near = λ k l. elim (cases_lt k count) [
-      | inl before ↦ h.near k before
-      | inr now ↦ let is : k ≡ count = omega (arith, l, now) in subst (λ n. head (get_or jobs n 0) ≤ head (get_or jobs 0 0) + sum_by time (take n jobs)) (sym is) (omega (arith, early, h.end_is))
-    ];
+    near = λ k l. grind (arith, h.near k, early, h.end_is);
   }
 
 -- ---- the gaps
@@ -108,10 +104,7 @@ module _ (i : Instance) (one : IsOneInstance i) (heads : List ℕ) (are : AreHea
     after k d l =
         let inside : count + k < length left = omega (arith, l, length-drop count left, block.within) in
         let here : get_or (drop count left) k d ≡ get_or left (count + k) 0 = get_or-drop count left k d ∙ get_or_default left (count + k) d 0 inside in
-        subst (λ x. end < head x) (sym here) (elim (cases_lt 0 k) [
-          | inl some ↦ omega (arith, later (omega (arith, inside)), sorted count (count + k) 0 (omega (arith, some)) inside)
-          | inr none ↦ let zero_is : count + k ≡ count = omega (arith, none) in subst (λ n. end < head (get_or left n 0)) (sym zero_is) (later (omega (arith, inside)))
-        ])
+        rw here (grind (arith, later, sorted count (count + k) 0, inside))
 
     module _ (place : ℕ) (inside : place < length first) where
       abbrev X : List ℕ
@@ -133,34 +126,19 @@ module _ (i : Instance) (one : IsOneInstance i) (heads : List ℕ) (are : AreHea
       whole = sym (take-append-drop count left) ∙ ap (λ l. l ++ C) parts
 
       without : remove left place ≡ X ++ Y ++ C
-      without = ap (λ l. remove l place) (sym (take-append-drop count left)) ∙ remove-append_left first C place inside ∙ ap (λ n. take place first ++ drop n first ++ C) next
-        where
-          next : suc place ≡ place + 1
-          next = omega arith
-
-      begin : ℕ
-      begin = head (get_or first 0 0) + sum_by time X
+      without = ap (λ l. remove l place) (sym (take-append-drop count left)) ∙ remove-append_left first C place inside
+          ∙ ap (λ n. take place first ++ drop n first ++ C) (sym (add-one place))
 
       tight : Follow head time (head (get_or first 0 0)) (X ++ job ∷ Y)
       tight = subst (Follow head time (head (get_or first 0 0))) parts follow
 
       -- the others of the block leave time enough
       pub has_room : (moment : ℕ) → moment ≡ head (get_or first 0 0) + sum_by time X → done_by head time moment Y ≤ end
-      has_room moment e = subst (λ t. done_by head time t Y ≤ end) (sym e) (by (Follow-append head time (head (get_or first 0 0)) X (job ∷ Y) tight).1)
-        where
-          by : Follow head time (head (get_or first 0 0) + sum_by time X) (job ∷ Y) → done_by head time (head (get_or first 0 0) + sum_by time X) Y ≤ end
-          by f =
-              let m = head (get_or first 0 0) + sum_by time X in
-              omega (
-                arith,
-                done-mono head time m (m + time job) Y (omega arith),
-                done-tight head time
-                    (m + time job) Y f.1,
-                end_is,
-                ap (sum_by time) parts,
-                sum_by-append time X (job ∷ Y),
-                sum_by-cons time job Y,
-              )
+      has_room moment e =
+          let m = head (get_or first 0 0) + sum_by time X in
+          let done = done-tight head time (m + time job) Y (Follow-append head time (head (get_or first 0 0)) X (job ∷ Y) tight).1.1 in
+          let sum = ap (sum_by time) parts ∙ sum_by-append time X (job ∷ Y) in
+          rw e (omega (arith, done-mono head time m (m + time job) Y (omega arith), done, end_is, sum, sum_by-cons time job Y))
 
       pub placed_next : (ps new : List Piece) (left_now : List ℕ) (moment : ℕ) → moment ≡ head (get_or first 0 0) + sum_by time X
           → EndsAt i end first job → left_now ≡ remove left place → new ≡ ps ++ gaps head time job moment Y end

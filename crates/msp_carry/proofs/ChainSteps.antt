@@ -2,15 +2,13 @@
 use Rattle.std.proofs.Common.{◌≡◌, ℕ, ◌-◌, ◌≤◌, ◌<◌, List, [], ◌∷◌, length, take, drop, Some, Result, Ok, Err, inr, ℤ, pos, ◌≤ℤ◌, ◌<ℤ◌, refl, sym, ap, ap₂, subst, ◌∙◌, arith}
 use Rattle.std.specs.Prelude.{IsTrue, IsSome, IfOk, slice_index_or}
 use Rattle.std.proofs.lemmas.Int.{ints}
-use Rattle.std.proofs.lemmas.List.{take_all}
+use Rattle.std.proofs.lemmas.List.{take_all, nil_from_length}
+use Rattle.std.proofs.lemmas.Result.{IfOk-weaker}
 use Rattle.msp_class.specs.declared.NoMemory.{NoMemory}
 use Rattle.msp_class.specs.declared.class.Class.{Class}
-use Rattle.msp_class.specs.declared.environments.EnvKind.{EnvKind}
-use Rattle.msp_class.specs.declared.environments.EnvKind.TheVariants.{Identical, Uniform, Unrelated, OpenShop, FlowShop, JobShop}
 use Rattle.msp_class.specs.Env.{kind_of}
-use Rattle.msp_class.proofs.IntegerRing.{≤ℤ_refl, ≤ℤ_trans}
+use Rattle.msp_class.proofs.IntegerRing.{≤ℤ_trans}
 use Rattle.msp_instance.specs.declared.Instance.{Instance}
-use Rattle.msp_class.specs.declared.sizes.TheConstants.{GREATEST_UNIT}
 use Rattle.msp_pieces.specs.declared.Schedule.{Schedule}
 use Rattle.msp_pieces.specs.declared.Solution.{Solution}
 use Rattle.msp_pieces.specs.Feasible.{Feasible}
@@ -19,6 +17,7 @@ use Rattle.msp_table.specs.Rows.{carries}
 use Rattle.msp_table.specs.Chains.{Leads, stay, step}
 use Rattle.msp_table.proofs.ChainLemmas.{Leads-first, Leads-one}
 use Rattle.msp_route.specs.Law.{Applies, IsLower}
+use Rattle.msp_route.proofs.KindLimits.{greatest_unit-most}
 use Rattle.msp_route.specs.Bounds.{EndsBy, IsSized, IsBounded, KeepsBounds, greatest_unit}
 use Rattle.msp_route.specs.declared.bounds.TheConstants.{GREATEST_BACK_MOMENT}
 use Rattle.msp_carry.specs.Carried.{lower_of, carried, IsChainTo}
@@ -64,8 +63,7 @@ first_step i k rows last some is chain =
 
 -- a chain without rows stays
 pub no_rows : (rows : List ℕ) → length rows < 1 → rows ≡ []
-no_rows [] none = refl
-no_rows (k ∷ ks) none = absurd (omega (arith, none))
+no_rows rows none = nil_from_length rows (omega (arith, none))
 
 pub stays_at : (a b : Class) (rows : List ℕ) → length rows < 1 → Leads carries a rows b → a ≡ b
 stays_at a b rows none leads = Leads-one {usable = carries} a a b [] stay (subst (λ r. Leads carries a r b) (no_rows rows none) leads)
@@ -76,8 +74,7 @@ IfOk-stay i rows (Err e) none same = tt
 
 pub IfOk-leads : {i j : Instance} {k : ℕ} {rows : List ℕ} {last : Class} (result : Result Instance NoMemory) → FirstStep i k rows last → IsLower k i j
     → IfOk result (λ x. Leads carries j.class (behind rows) x.class) → IfOk result (λ x. Leads carries i.class rows x.class)
-IfOk-leads {i} {j} (Ok x) first led leads = first.leads j x.class led leads
-IfOk-leads (Err e) first led leads = tt
+IfOk-leads {j = j} result first led = IfOk-weaker result _ _ (λ x. first.leads j x.class led)
 
 -- the instance at the end of a chain is that at the end of what is left
 pub carried_on : {i j : Instance} {k : ℕ} {rows : List ℕ} {last : Class} → FirstStep i k rows last → j ≡ lower_of k i → carried rows i ≡ carried (behind rows) j
@@ -95,20 +92,12 @@ pub IfOk-ends : {i : Instance} {k : ℕ} {rows : List ℕ} {last : Class} (lower
 IfOk-ends {i} {k} {rows} lower t (Ok s) first ends keeps = subst (λ r. EndsBy (moment_over r) s.schedule) (sym first.is) (keeps.ends (moment_over (behind rows)) ends)
 IfOk-ends lower t (Err e) first ends keeps = tt
 
-unit-most : (k : EnvKind) → greatest_unit k ≤ℤ GREATEST_UNIT
-unit-most Identical = ≤ℤ_refl _
-unit-most Uniform = ≤ℤ_refl _
-unit-most Unrelated = omega (arith, ints)
-unit-most OpenShop = ≤ℤ_refl _
-unit-most FlowShop = ≤ℤ_refl _
-unit-most JobShop = ≤ℤ_refl _
-
 moments : (from to : ℤ) → (pos 0 ≤ℤ from) × (from <ℤ to) → to ≤ℤ GREATEST_BACK_MOMENT → IsMoment from × IsMoment to
 moments from to span ends = ((span.0, omega (arith, ints, span.1, ends)), (omega (arith, ints, span.0, span.1), omega (arith, ints, ends)))
 
 Within-bounded : (i : Instance) (s : Schedule) → Feasible i s → IsBounded i s → Within i s
 Within-bounded i s feasible bounded = record {
-  unit = (feasible.unit, ≤ℤ_trans bounded.sized.unit (unit-most (kind_of i.class.env)));
+  unit = (feasible.unit, ≤ℤ_trans bounded.sized.unit (greatest_unit-most (kind_of i.class.env)));
   few = bounded.sized.few;
   moments = λ k d l. moments _ _ (feasible.span k d l) (bounded.ends k d l);
   scaled = λ e. inr (subst (λ k. s.unit ≤ℤ greatest_unit k) e bounded.sized.unit);

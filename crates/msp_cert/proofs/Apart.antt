@@ -1,15 +1,16 @@
 -- Numbers that stand once in a list, by what is seen.
-use Rattle.std.proofs.Common.{◌≡◌, ◌≢◌, ℕ, suc, ◌+◌, ◌-◌, ◌<◌, ◌≤◌, inl, inr, Bool, true, false, cond, List, [], ◌∷◌, ◌++◌, reverse, length, map, get_or, count_by, All, AllPairs}
-use Rattle.std.proofs.Common.{sym, ap, ap₂, subst, subst₂, ◌∙◌, arith, zero-add}
+use Rattle.std.proofs.Common.{◌≡◌, ◌≢◌, ℕ, ◌+◌, ◌-◌, ◌<◌, ◌≤◌, inl, inr, Bool, true, false, cond, List, [], ◌∷◌, ◌++◌, reverse, length, map, get_or, count_by, All, AllPairs}
+use Rattle.std.proofs.Common.{sym, ap, ap₂, subst, subst₂, ◌∙◌, arith, add-one}
 use Rattle.std.specs.Prelude.{slice_set as set}
 use Rattle.std.specs.List.{range_with_len}
 use Rattle.std.specs.List.Sorted.{IsNonDecreasing}
-use Rattle.std.proofs.lemmas.List.{get_or_default, map-append, length-set, length-reverse, get_or-reverse, get_or-set_other}
+use Rattle.std.proofs.lemmas.List.FromFn.{map-range_with_len_more}
+use Rattle.std.proofs.lemmas.List.{get_or_default, length-set, length-reverse, get_or-reverse, get_or-set_other}
 use Rattle.std.proofs.lemmas.Grind.{get_or-set_at}
 use Rattle.std.proofs.lemmas.Bool.{false≢true}
 use Rattle.msp_class.specs.declared.sizes.TheConstants.{MOST_JOBS}
 use Rattle.msp_class.proofs.Cases.{same_or_not}
-use Rattle.msp_class.proofs.Sums.{range_with_len_last, total_below-range}
+use Rattle.msp_class.proofs.Sums.{total_below-range}
 use Rattle.msp_class.specs.Sums.{total_below}
 
 -- the first k numbers stand once, and are seen, and no other number is
@@ -39,51 +40,33 @@ seen_next jobs k seen h s l new = record {
   long = length-set seen (get_or jobs k 0) true ∙ s.long;
   apart = λ p q a b e. elim (same_or_not q k) [
     | inl is ↦ false≢true (sym new ∙ ap (λ x. get_or seen x false) (sym (e ∙ ap (λ x. get_or jobs x 0) is)) ∙ s.there p (omega (arith, a, is)))
-    | inr other ↦ s.apart p q a (below q b other) e
+    | inr other ↦ s.apart p q a (omega (arith, b, other)) e
   ];
   back = λ j b e. elim (same_or_not j (get_or jobs k 0)) [
     | inl is ↦ (k, omega arith, sym is)
-    | inr other ↦ earlier j (s.back j b (sym (get_or-set_other seen (get_or jobs k 0) j true false other) ∙ e))
+    | inr other ↦ let (p, m, is) = s.back j b (sym (get_or-set_other seen (get_or jobs k 0) j true false other) ∙ e) in (p, omega (arith, m), is)
   ];
   there = λ p b. elim (same_or_not (get_or jobs p 0) (get_or jobs k 0)) [
-    | inl is ↦ get_or-set_at seen (get_or jobs k 0) (get_or jobs p 0) true false is inside
-    | inr other ↦ get_or-set_other seen (get_or jobs k 0) (get_or jobs p 0) true false other ∙ s.there p (below p b (λ e. other (ap (λ x. get_or jobs x 0) e)))
+    | inl is ↦ get_or-set_at seen (get_or jobs k 0) (get_or jobs p 0) true false is (omega (arith, h k 0 l, s.long))
+    | inr other ↦
+        let ne : p ≢ k = λ e. other (ap (λ x. get_or jobs x 0) e) in
+        get_or-set_other seen (get_or jobs k 0) (get_or jobs p 0) true false other ∙ s.there p (omega (arith, b, ne))
   ];
 }
-  where
-    inside : get_or jobs k 0 < length seen
-    inside = omega (arith, h k 0 l, s.long)
-
-    below : (q : ℕ) → q < k + 1 → q ≢ k → q < k
-    below q b other = omega (arith, b, other)
-
-    earlier : (j : ℕ) → (p : ℕ) × (p < k) × (get_or jobs p 0 ≡ j) → (p : ℕ) × (p < k + 1) × (get_or jobs p 0 ≡ j)
-    earlier j (p, l, e) = (p, omega (arith, l), e)
 
 pub all_apart : (jobs : List ℕ) (k : ℕ) (seen : List Bool) → AreSeen jobs k seen → length jobs ≤ k → AllPairs (λ x y. x ≢ y) jobs
 all_apart jobs k seen s many p q d l b e =
     s.apart p q l (omega (arith, b, many)) (sym (get_or_default jobs p d 0 (omega (arith, l, b))) ∙ e ∙ get_or_default jobs q d 0 b)
 
 pub range_next : {X : Type 0} (f : ℕ → X) (old new : List X) (k : ℕ) (x : X) → new ≡ old ++ x ∷ [] → x ≡ f k → old ≡ map f (range_with_len 0 k) → new ≡ map f (range_with_len 0 (k + 1))
-range_next f old new k x e one so_far =
-    e ∙ ap₂ (λ l y. l ++ y ∷ []) so_far one ∙ sym (map-append f (range_with_len 0 k) (k ∷ []))
-    ∙ ap (λ n. map f (range_with_len 0 k ++ n ∷ [])) (sym (zero-add k)) ∙ ap (map f) (sym (range_with_len_last 0 k) ∙ ap (range_with_len 0) place)
-  where
-    place : suc k ≡ k + 1
-    place = omega arith
+range_next f old new k x e one so_far = e ∙ ap₂ (λ l y. l ++ y ∷ []) so_far one ∙ sym (map-range_with_len_more f 0 k k (omega arith))
 
 pub turned : (xs ys : List ℕ) → ys ≡ reverse xs → IsNonDecreasing xs → AllPairs (λ x y. y ≤ x) ys
 turned xs ys e h = subst (AllPairs (λ x y. y ≤ x)) (sym e) (λ p q d l b.
     let m : q < length xs = omega (arith, b, length-reverse xs) in
     subst₂ (λ u v. u ≤ v) (sym (get_or-reverse xs q d m)) (sym (get_or-reverse xs p d (omega (arith, l, m)))) (h (length xs - 1 - q) (length xs - 1 - p) d (omega (arith, l, m)) (omega (arith, l, m))))
 
-pub one_at_most : (b : Bool) (n : ℕ) → n ≡ cond b 1 0 → n ≤ 1
-one_at_most true n e = omega (arith, e)
-one_at_most false n e = omega (arith, e)
-
 pub count_next : (test : ℕ → Bool) (old k one : ℕ) → one ≡ cond (test k) 1 0 → old ≡ count_by test (range_with_len 0 k) → old + one ≡ count_by test (range_with_len 0 (k + 1))
 count_next test old k one e h =
-    ap₂ (λ x y. x + y) (h ∙ total_below-range k (λ j. cond (test j) 1 0)) e ∙ sym (total_below-range (k + 1) (λ j. cond (test j) 1 0) ∙ ap (λ n. total_below n (λ j. cond (test j) 1 0)) place)
-  where
-    place : k + 1 ≡ suc k
-    place = omega arith
+    ap₂ (λ x y. x + y) (h ∙ total_below-range k (λ j. cond (test j) 1 0)) e
+    ∙ sym (total_below-range (k + 1) (λ j. cond (test j) 1 0) ∙ ap (λ n. total_below n (λ j. cond (test j) 1 0)) (add-one k))

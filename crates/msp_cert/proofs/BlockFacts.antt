@@ -1,9 +1,9 @@
 -- Heads that arcs back, and the least cost of the last jobs of a block.
 use Rattle.std.proofs.Common.{◌≡◌, ◌⊎◌, inl, inr, ℕ, ◌+◌, ◌*◌, ◌<◌, ◌≤◌, Bool, true, false, cond, List, [], ◌∷◌, ◌++◌, length, get_or, take, All, Any, Some, None, ℤ, pos, ◌+ℤ◌}
-use Rattle.std.proofs.Common.{◌*ℤ◌, ◌≤ℤ◌, sum_by, refl, sym, ap, subst, ◌∙◌, arith, unwrap_or}
+use Rattle.std.proofs.Common.{◌*ℤ◌, ◌≤ℤ◌, sum_by, refl, sym, ap, subst, subst₂, ◌∙◌, arith, unwrap_or}
 use Rattle.std.specs.Prelude.{slice_get, Option, int_lt}
 use Rattle.std.specs.Option.{IfSome}
-use Rattle.std.proofs.lemmas.Bool.{false≢true, cases_lt}
+use Rattle.std.proofs.lemmas.Bool.{false≢true, cases_Bool, cases_lt}
 use Rattle.std.proofs.lemmas.Int.{ints}
 use Rattle.std.proofs.lemmas.Nat.{mul-le}
 use Rattle.std.proofs.lemmas.Option.{unwrap_or-slice_get}
@@ -20,9 +20,9 @@ use Rattle.msp_instance.specs.declared.Instance.{Instance}
 use Rattle.msp_instance.specs.Instance.{no_job, no_need, job_at, need_at}
 use Rattle.msp_instance.specs.Conditions.{LiesWithin, HasCurve, InClass, text_limits}
 use Rattle.msp_instance.specs.declared.path_bits.Paths.{Paths}
-use Rattle.msp_instance.specs.Paths.{HasPath, ShowsPaths, leads}
+use Rattle.msp_instance.specs.Paths.{ShowsPaths, leads}
 use Rattle.msp_pieces.specs.declared.Frac.{Frac}
-use Rattle.msp_pieces.specs.Blocks.{IsSound, LeadsToNone, IsBlockValue, total_time, cost_at}
+use Rattle.msp_pieces.specs.Blocks.{LeadsToNone, IsBlockValue, total_time, cost_at}
 use Rattle.msp_pieces.specs.Cost.{jump, jumps, job_cost}
 use Rattle.msp_pieces.specs.Within.{HasSmallCost}
 use Rattle.msp_pieces.proofs.costs.Jumps.{jumps_le}
@@ -30,7 +30,7 @@ use Rattle.msp_pieces.proofs.costs.Small.{FitTogether, HasSmallCost-from, produc
 use Rattle.msp_cert.specs.declared.Proof.TheVariants.{Block}
 use Rattle.msp_cert.specs.Certificates.{IsBlockOf, of_job}
 use Rattle.msp_cert.specs.Worth.{IsWorth, greatest_value, latest_end}
-use Rattle.msp_cert.specs.Least.{IsBacked, IsLast, IsOwnCost, IsLeast, lesser}
+use Rattle.msp_cert.specs.Least.{IsLast, IsOwnCost, IsLeast, lesser}
 
 -- ---- what is read past the last job
 missing : (i : Instance) (j : ℕ) → None ≡ slice_get i.jobs j → job_at i j ≡ no_job
@@ -41,19 +41,6 @@ no_release i j e = sym (ap (λ (x : Job). x.release) (missing i j e))
 
 pub no_time : (i : Instance) (j : ℕ) → None ≡ slice_get i.jobs j → 0 ≡ (need_at i j 0).time
 no_time i j e = sym (ap (λ (x : Job). (get_or x.needs 0 no_need).time) (missing i j e))
-
--- ---- heads
-pub sound_from_backed : (i : Instance) (heads : ℕ → ℕ) → ((j : ℕ) → j < length i.jobs → IsBacked i heads j) → IsSound i heads
-sound_from_backed i heads h j t = elim (h j t) [
-  | inl early ↦ inl early
-  | inr a ↦ inr (a.1, (a.0, a.2, a.3), a.4.0, a.4.1)
-]
-
-pub backed_from_sound : (i : Instance) (heads : ℕ → ℕ) → IsSound i heads → (j : ℕ) → j < length i.jobs → IsBacked i heads j
-backed_from_sound i heads h j t = elim (h j t) [
-  | inl early ↦ inl early
-  | inr a ↦ inr (a.1.0, a.0, a.1.1, a.1.2, (a.2, a.3))
-]
 
 -- ---- the least head
 pub record IsLeastHead (head jobs : List ℕ) (k least : ℕ) : Type 0 where
@@ -106,26 +93,14 @@ small_cost i jobs k j c same is t =
     let fit : FitTogether text_limits 1 = record { dates = omega arith; times = omega arith; levels = omega arith; releases = omega arith; equal = omega arith } in
     subst (HasSmallCost (pos 1)) (sym (is ∙ ap (λ xs. get_or xs k j) same)) (HasSmallCost-from text_limits 1 1 i (get_or i.jobs k j) fit (omega arith) (c.conditions.jobs k j t))
 
-cost_within : (i : Instance) (j e : ℕ) → InClass i → i.class.crit ≡ Fmax → j < length i.jobs → e ≤ latest_end → LiesWithin greatest_value (cost_at i j e)
-cost_within i j e c is t early = subst (λ f. LiesWithin greatest_value (job_cost f (pos 1) (job_at i j) (pos e))) (sym is) (by c is t early)
-  where
-    by : InClass i → i.class.crit ≡ Fmax → j < length i.jobs → e ≤ latest_end → LiesWithin greatest_value (job_cost Fmax (pos 1) (job_at i j) (pos e))
-    by c is t early =
-        let own = c.conditions.jobs j no_job t in
-        let curve = subst (λ f. HasCurve text_limits (uses_curve f) (job_at i j).curve) is own.curve in
-        curve_within (job_at i j).curve.slope e (jumps (pos 1) (job_at i j).curve (pos e))
-        (job_at i j).curve.base curve.slope early (adds_few (job_at i j).curve.steps (pos e) curve.few curve.steps) curve.base
-
 pub own_cost_within : (i : Instance) (j e : ℕ) (x : ℤ) → InClass i → i.class.crit ≡ Fmax → j < length i.jobs → e ≤ latest_end → x ≡ cost_at i j e → LiesWithin greatest_value x
-own_cost_within i j e x c is t early same = subst (LiesWithin greatest_value) (sym same) (cost_within i j e c is t early)
+own_cost_within i j e x c is t early same =
+    let own = (job_at i j).curve in
+    let curve = subst (λ f. HasCurve text_limits (uses_curve f) own) is (c.conditions.jobs j no_job t).curve in
+    subst (LiesWithin greatest_value) (sym (same ∙ ap (λ f. job_cost f (pos 1) (job_at i j) (pos e)) is))
+    (curve_within own.slope e (jumps (pos 1) own (pos e)) own.base curve.slope early (adds_few own.steps (pos e) curve.few curve.steps) curve.base)
 
 -- ---- the least cost
-not_above : (a b : ℤ) → int_lt a b ≡ true → a ≤ℤ b
-not_above a b e = omega (arith, ints, e)
-
-not_below : (a b : ℤ) → int_lt a b ≡ false → b ≤ℤ a
-not_below a b e = omega (arith, ints, e)
-
 module _ (counts : ℕ → Type 0) (cost : ℕ → ℤ) (jobs : List ℕ) (k : ℕ) (d : ℕ) (t : k < length jobs) where
   abbrev now : ℕ
   now = get_or jobs k d
@@ -133,8 +108,9 @@ module _ (counts : ℕ → Type 0) (cost : ℕ → ℤ) (jobs : List ℕ) (k : �
   abbrev longer : List ℕ
   longer = take k jobs ++ now ∷ []
 
-  pub least_next : (least own : Option ℤ) → IsLeast counts cost (take k jobs) least → IsOwnCost (counts now) (cost now) own → IsLeast counts cost (take (k + 1) jobs) (lesser least own)
-  least_next least own h o = subst (λ l. IsLeast counts cost l (lesser least own)) (sym (take_more jobs k d t)) (by least own h o)
+  pub next_least : (least own new : Option ℤ) → new ≡ lesser least own
+      → IsLeast counts cost (take k jobs) least → IsOwnCost (counts now) (cost now) own → IsLeast counts cost (take (k + 1) jobs) new
+  next_least least own new e h o = subst₂ (IsLeast counts cost) (sym (take_more jobs k d t)) (sym e) (by least own h o)
     where
       here : (x : ℤ) → counts now → x ≡ cost now → Any (λ j. counts j × (x ≡ cost j)) longer
       here x mine e = let c = Contains-push (take k jobs) now in (c.0, now, c.1, c.2, (mine, e))
@@ -150,21 +126,16 @@ module _ (counts : ℕ → Type 0) (cost : ℕ → ℤ) (jobs : List ℕ) (k : �
         where
           both : (b : Bool) → int_lt y x ≡ b → IsLeast counts cost longer (Some (cond b y x))
           both true less =
-              (here y o.0 o.1, All-push (λ j. counts j → y ≤ℤ cost j) (take k jobs) now (λ p e u mine. ≤ℤ_trans (not_above y x less) (l.1 p e u mine)) (λ mine. subst (λ z. y ≤ℤ z) o.1 (≤ℤ_refl y)))
-          both false more = (there x l.0, All-push (λ j. counts j → x ≤ℤ cost j) (take k jobs) now l.1 (λ mine. subst (λ z. x ≤ℤ z) o.1 (not_below y x more)))
+              let low : y ≤ℤ x = omega (arith, ints, less) in
+              (here y o.0 o.1, All-push (λ j. counts j → y ≤ℤ cost j) (take k jobs) now (λ p e u mine. ≤ℤ_trans low (l.1 p e u mine)) (λ mine. subst (λ z. y ≤ℤ z) o.1 (≤ℤ_refl y)))
+          both false more =
+              let low : x ≤ℤ y = omega (arith, ints, more) in
+              (there x l.0, All-push (λ j. counts j → x ≤ℤ cost j) (take k jobs) now l.1 (λ mine. subst (λ z. x ≤ℤ z) o.1 low))
 
 pub lesser_within : (P : ℤ → Type 0) (a b : Option ℤ) → IfSome a P → IfSome b P → IfSome (lesser a b) P
 lesser_within P None b h g = g
 lesser_within P (Some x) None h g = h
-lesser_within P (Some x) (Some y) h g = by (int_lt y x)
-  where
-    by : (b : Bool) → P (cond b y x)
-    by true = g
-    by false = h
-
-pub next_least : (counts : ℕ → Type 0) (cost : ℕ → ℤ) (jobs : List ℕ) (k d : ℕ) → k < length jobs → (least own new : Option ℤ) → new ≡ lesser least own
-    → IsLeast counts cost (take k jobs) least → IsOwnCost (counts (get_or jobs k d)) (cost (get_or jobs k d)) own → IsLeast counts cost (take (k + 1) jobs) new
-next_least counts cost jobs k d t least own new e h o = subst (IsLeast counts cost (take (k + 1) jobs)) (sym e) (least_next counts cost jobs k d t least own h o)
+lesser_within P (Some x) (Some y) h g = elim (int_lt y x) as (λ b. P (cond b y x)) [ true ↦ g | false ↦ h ]
 
 pub least_of_all : (counts : ℕ → Type 0) (cost : ℕ → ℤ) (jobs : List ℕ) (k : ℕ) (least : Option ℤ) → length jobs ≤ k → IsLeast counts cost (take k jobs) least → IsLeast counts cost jobs least
 least_of_all counts cost jobs k least past h = subst (λ l. IsLeast counts cost l least) (take_all k jobs past) h
@@ -174,21 +145,14 @@ next_within P a b new e h g = subst (λ o. IfSome o P) (sym e) (lesser_within P 
 
 -- ---- what the block is worth
 module _ (i : Instance) (p : Paths) (head jobs : List ℕ) (shows : ShowsPaths i p) (inside : All (λ j. j < length i.jobs) jobs) where
-  no_path : (j k : ℕ) → j < length i.jobs → k < length i.jobs → leads p j k ≡ false → ¬ HasPath i.arcs j k
-  no_path j k in_j in_k off path = false≢true (sym off ∙ (shows j k in_j in_k).1 path)
-
-  off : (j k : ℕ) → j < length i.jobs → k < length i.jobs → ¬ HasPath i.arcs j k → leads p j k ≡ false
-  off j k in_j in_k never = by (leads p j k) refl
-    where
-      by : (b : Bool) → leads p j k ≡ b → leads p j k ≡ false
-      by true e = absurd (never ((shows j k in_j in_k).0 e))
-      by false e = e
-
   leads_to_none : (j : ℕ) → j < length i.jobs → IsLast p jobs j → LeadsToNone i jobs j
-  leads_to_none j t h k d u = no_path j (get_or jobs k d) t (inside k d u) (h k d u)
+  leads_to_none j t h k d u path = false≢true (sym (h k d u) ∙ (shows j (get_or jobs k d) t (inside k d u)).1 path)
 
   is_last : (j : ℕ) → j < length i.jobs → LeadsToNone i jobs j → IsLast p jobs j
-  is_last j t h k d u = off j (get_or jobs k d) t (inside k d u) (h k d u)
+  is_last j t h k d u = elim (cases_Bool (leads p j (get_or jobs k d))) [
+    | inl is ↦ absurd (h k d u ((shows j (get_or jobs k d) t (inside k d u)).0 is))
+    | inr isnt ↦ isnt
+  ]
 
   pub block_is_worth : (begin time end : ℕ) (x : ℤ) (v : Frac)
       → IsBlockOf i head jobs → Any (λ j. of_job head j ≡ begin) jobs → All (λ j. begin ≤ of_job head j) jobs → time ≡ total_time i jobs → end ≡ begin + time

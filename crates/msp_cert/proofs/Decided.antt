@@ -34,11 +34,9 @@ first_below (x ∷ xs) (suc n) t = by (sum (take (suc n) (x ∷ xs))) _ _ _ (sum
 speed_at_most : (i : Instance) (count a b : ℕ) → 1 ≤ count → IsSpeedOfFastest i count a → IsSpeedOfFastest i count b → a ≤ b
 speed_at_most i count a b some h g =
     let (t, is) = some_threshold g.order count some g.falls in
-    by t is.reached (first_below h.order count t) (sym (sum_by-IsPermutation (λ x. x - t) (speeds_of i) h.order h.all))
-    (sym (sum_by-IsPermutation (λ x. x - t) (speeds_of i) g.order g.all)) h.first g.first
-  where
-    by : (t : ℕ) {p q r : ℕ} {m n : ℕ} → count * t + q ≤ m → n ≤ count * t + p → r ≡ p → r ≡ q → a ≡ n → b ≡ m → a ≤ b
-    by t reached below e f an bm = omega (arith, reached, below, e, f, an, bm)
+    let one = sum_by-IsPermutation (λ x. x - t) (speeds_of i) h.order h.all in
+    let two = sum_by-IsPermutation (λ x. x - t) (speeds_of i) g.order g.all in
+    omega (arith, is.reached, first_below h.order count t, one, two, h.first, g.first)
 
 speed_same : (i : Instance) (count a b : ℕ) → 1 ≤ count → IsSpeedOfFastest i count a → IsSpeedOfFastest i count b → a ≡ b
 speed_same i count a b some h g = omega (arith, speed_at_most i count a b some h g, speed_at_most i count b a some g h)

@@ -1,5 +1,5 @@
 -- What an instance of its class says of the numbers that are added up.
-use Rattle.std.proofs.Common.{IsPermutation, inl, inr, ℕ, ◌<◌, ◌≤◌, List, length, get_or, All, sym, subst, arith}
+use Rattle.std.proofs.Common.{IsPermutation, ℕ, ◌≤◌, List, length, get_or, All, arith}
 use Rattle.msp_class.specs.declared.class.Env.{Env}
 use Rattle.msp_class.specs.declared.class.Env.TheVariants.{J2Short}
 use Rattle.msp_class.specs.declared.class.Times.{Times}
@@ -9,13 +9,12 @@ use Rattle.msp_class.specs.declared.environments.EnvKind.TheVariants as kind
 use Rattle.msp_class.specs.Env.{kind_of, most_operations}
 use Rattle.msp_instance.specs.declared.Need.{Need}
 use Rattle.msp_instance.specs.declared.Instance.{Instance}
-use Rattle.msp_instance.specs.Conditions.{InClass, HasShape, HasSpeeds, text_limits, greatest_time}
+use Rattle.msp_instance.specs.Conditions.{InClass, HasShape, text_limits, greatest_time}
 use Rattle.std.proofs.lemmas.List.Sorted.{All-permutation, length_permutation}
-use Rattle.std.proofs.lemmas.List.FromFn.{get_or-map-range_with_len}
 use Rattle.msp_class.specs.declared.sizes.TheConstants.{MOST_MACHINES, MOST_OPERATIONS, GREATEST, GREATEST_SPEED}
-use Rattle.msp_pieces.specs.Speeds.{HaveSpeeds, speed_by, speed_of}
+use Rattle.msp_pieces.specs.Speeds.{HaveSpeeds}
 use Rattle.msp_cert.specs.Certificates.{speeds_of}
-use Rattle.msp_cert.proofs.Soundness.{speeds_many, speed_some}
+use Rattle.msp_cert.proofs.Soundness.{speeds_many, speeds_between}
 use Rattle.msp_cert.specs.Small.{HasSmallNeeds}
 
 short_times : (t : Times) → greatest_time text_limits t ≤ GREATEST
@@ -38,12 +37,6 @@ small_needs i c k d l =
     let (some, few) = some_few (kind_of i.class.env) i.class.env i.machines (get_or i.jobs k d).needs c.conditions.machines.0 c.conditions.machines.1 job.needs.shape in
     record { some = some; few = few; short = λ o z b. omega (arith, (job.needs.times o z b).1, short_times i.class.times) }
 
-speed_small : (i : Instance) (k : ℕ) (e : EnvKind) → HasSpeeds e i.machines i.speeds → k < i.machines → HaveSpeeds e → speed_by e i k ≤ GREATEST_SPEED
-speed_small i k n h l (inl e) = subst (λ x. speed_by x i k ≤ GREATEST_SPEED) (sym e) (omega arith)
-speed_small i k n h l (inr e) =
-    let g : HasSpeeds kind.Uniform i.machines i.speeds = subst (λ x. HasSpeeds x i.machines i.speeds) e h in
-    subst (λ x. speed_by x i k ≤ GREATEST_SPEED) (sym e) (g.1 k 0 (omega (arith, l, g.0))).1
-
 -- the speeds of all machines are few and small, in any order
 pub record AreSmallSpeeds (order : List ℕ) : Type 0 where
   pub some : 1 ≤ length order
@@ -56,8 +49,6 @@ small_speeds i order c speeds all =
     record {
       some = omega (arith, length_permutation (speeds_of i) order all, speeds_many i, c.conditions.machines.0);
       few = omega (arith, length_permutation (speeds_of i) order all, speeds_many i, c.conditions.machines.1);
-      slow = All-permutation (λ s. s ≤ GREATEST_SPEED) (speeds_of i) order all (λ k d l.
-          let b : k < i.machines = omega (arith, l, speeds_many i) in
-          subst (λ x. x ≤ GREATEST_SPEED) (sym (get_or-map-range_with_len (speed_of i) 0 i.machines k k d b (omega arith))) (speed_small i k (kind_of i.class.env) c.conditions.speeds b speeds));
-      fast = All-permutation (λ s. 1 ≤ s) (speeds_of i) order all (speed_some i c speeds);
+      slow = All-permutation (λ s. s ≤ GREATEST_SPEED) (speeds_of i) order all (λ k d l. (speeds_between i c k d l).1);
+      fast = All-permutation (λ s. 1 ≤ s) (speeds_of i) order all (λ k d l. (speeds_between i c k d l).0);
     }

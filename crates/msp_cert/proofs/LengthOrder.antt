@@ -3,7 +3,7 @@ use Rattle.std.proofs.Common.{◌≡◌, ◌≢◌, ℕ, ◌<◌, Bool, false, �
 use Rattle.std.specs.List.{range_with_len}
 use Rattle.std.specs.Ordering.{is_lt, nat_cmp, ordering_then, MatchOrdering, then_cmp, on, flip_args}
 use Rattle.std.specs.declared.cmp.Ordering.{Ordering}
-use Rattle.std.specs.declared.cmp.Ordering.TheVariants.{Less, Equal, Greater}
+use Rattle.std.specs.declared.cmp.Ordering.TheVariants.{Equal, Greater}
 use Rattle.std.specs.Cmp.{IsTotalOrder, IsStrictWeakOrder}
 use Rattle.std.specs.List.Sorted.{IsSortedBy}
 use Rattle.std.proofs.lemmas.Cmp.{ranked, nat_cmp_total, on_total, then_total, back_total}
@@ -14,11 +14,10 @@ use Rattle.msp_pieces.proofs.lists.Permuted.{AllPairs-permutation}
 -- two different jobs, of which the second does not stand first
 stands_first : (t u j k : ℕ) (x y : Ordering) → MatchOrdering x (t < u) (t ≡ u) (u < t)
     → MatchOrdering y (k < j) (k ≡ j) (j < k) → j ≢ k → is_lt (ordering_then x y) ≡ false → (u < t) ⊎ ((u ≡ t) × (j < k))
-stands_first t u j k Less y h g apart e = absurd (cc)
-stands_first t u j k Equal Less h g apart e = absurd (cc)
 stands_first t u j k Equal Equal h g apart e = absurd (omega (arith, g, apart))
 stands_first t u j k Equal Greater h g apart e = inr (omega (arith, h), g)
 stands_first t u j k Greater y h g apart e = inl h
+stands_first t u j k _ _ h g apart e = absurd (cc)
 
 module _ (time : ℕ → ℕ) where
   abbrev pub longer : ℕ → ℕ → Bool

@@ -1,12 +1,13 @@
 -- Prices added up and compared, machine by machine.
-use Rattle.std.proofs.Common.{◌≡◌, ℕ, zero, suc, ◌+◌, ◌*◌, ◌/◌, ◌%◌, ◌<◌, ◌≤◌, inl, inr, true, false, List, length, get_or, map, Some, ℤ, pos, ◌+ℤ◌, ◌≤ℤ◌, All, IsTrue, ◌↔◌, refl}
-use Rattle.std.proofs.Common.{sym, ap, ap₂, subst, subst₂, ◌∙◌, arith}
+use Rattle.std.proofs.Common.{◌≡◌, ℕ, zero, suc, ◌+◌, ◌*◌, ◌/◌, ◌%◌, ◌<◌, ◌≤◌, true, false, List, length, get_or, map, Some, ℤ, pos, ◌+ℤ◌, ◌≤ℤ◌, All, IsTrue, ◌↔◌, refl}
+use Rattle.std.proofs.Common.{sym, ap, ap₂, subst, subst₂, ◌∙◌, arith, add-one, add-zero, add-suc, mul-zero, mul-suc, pos_of_ne-zero, below_more}
 use Rattle.std.specs.List.{range_with_len}
 use Rattle.std.proofs.lemmas.Int.{ints}
 use Rattle.std.proofs.lemmas.Nat.{div_below, mod_below, div-add-mod'}
-use Rattle.std.proofs.lemmas.Bool.{cases_lt, false≢true}
+use Rattle.std.proofs.lemmas.Bool.{false≢true}
 use Rattle.std.proofs.lemmas.List.{get_or_default}
 use Rattle.msp_class.specs.Sums.{int_total_below}
+use Rattle.msp_class.proofs.IntegerRing.{+ℤ_assoc, +ℤ_idr}
 use Rattle.msp_class.proofs.Sums.{int_total_below-same}
 use Rattle.msp_class.specs.declared.environments.EnvKind.TheVariants.{Unrelated}
 use Rattle.msp_class.specs.Env.{kind_of}
@@ -35,44 +36,25 @@ pub record IsSum (prices : List ℤ) (k : ℕ) (sum : ℤ) : Type 0 where
 pub IsSum-next : (prices : List ℤ) (k : ℕ) (sum x new : ℤ)
     → x ≡ get_or prices k (pos 0) → LiesWithin GREATEST_PRICE (get_or prices k (pos 0)) → new ≡ sum +ℤ x → IsSum prices k sum → IsSum prices (k + 1) new
 IsSum-next prices k sum x new is w e h = record {
-  value = e ∙ ap₂ ◌+ℤ◌ h.value is ∙ ap (λ n. int_total_below n (λ j. get_or prices j (pos 0))) place;
+  value = e ∙ ap₂ ◌+ℤ◌ h.value is ∙ ap (λ n. int_total_below n (λ j. get_or prices j (pos 0))) (sym (add-one k));
   size = (let l = h.size.0 in let m = w.0 in omega (arith, ints, e, is), let l = h.size.1 in let m = w.1 in omega (arith, ints, e, is));
 }
-  where
-    place : suc k ≡ k + 1
-    place = omega arith
 
 pub sum_is_total : (prices : List ℤ) (k : ℕ) (sum : ℤ) → k ≡ length prices → IsSum prices k sum → sum ≡ total prices
 sum_is_total prices k sum e h = h.value ∙ ap (λ n. int_total_below n (λ j. get_or prices j (pos 0))) e ∙ sym (total-below prices)
 
 -- ---- machine by machine
 int_split : (a b : ℕ) (g : ℕ → ℤ) → int_total_below (a + b) g ≡ int_total_below a g +ℤ int_total_below b (λ k. g (a + k))
-int_split a zero g = ap (λ n. int_total_below n g) none ∙ zero_right (int_total_below a g)
-  where
-    none : a + 0 ≡ a
-    none = omega arith
-
-    zero_right : (x : ℤ) → x ≡ x +ℤ pos 0
-    zero_right x = omega (arith, ints)
-int_split a (suc b) g = ap (λ n. int_total_below n g) place ∙ apart (int_total_below (a + b) g) (int_total_below a g) (int_total_below b (λ k. g (a + k))) (g (a + b)) (int_split a b g)
-  where
-    apart : (x y z w : ℤ) → x ≡ y +ℤ z → x +ℤ w ≡ y +ℤ (z +ℤ w)
-    apart x y z w e = omega (arith, ints)
-
-    place : a + suc b ≡ suc (a + b)
-    place = omega arith
+int_split a zero g = ap (λ n. int_total_below n g) (add-zero a) ∙ sym (+ℤ_idr (int_total_below a g))
+int_split a (suc b) g =
+    ap (λ n. int_total_below n g) (add-suc a b) ∙ ap (λ x. x +ℤ g (a + b)) (int_split a b g)
+    ∙ +ℤ_assoc (int_total_below a g) (int_total_below b (λ k. g (a + k))) (g (a + b))
 
 by_machine : (m n : ℕ) (g : ℕ → ℤ) → int_total_below (n * m) g ≡ int_total_below m (λ a. int_total_below n (λ k. g (a * n + k)))
-by_machine zero n g = ap (λ k. int_total_below k g) none
-  where
-    none : n * 0 ≡ 0
-    none = omega arith
+by_machine zero n g = ap (λ k. int_total_below k g) (mul-zero n)
 by_machine (suc m) n g =
-    ap (λ k. int_total_below k g) place ∙ int_split (n * m) n g
+    ap (λ k. int_total_below k g) (mul-suc n m) ∙ int_split (n * m) n g
     ∙ ap₂ ◌+ℤ◌ (by_machine m n g) (int_total_below-same n (λ k. g (n * m + k)) (λ k. g (m * n + k)) (λ k t. ap g (omega arith)))
-  where
-    place : n * suc m ≡ n * m + n
-    place = omega arith
 
 pub total_is_all : (i : Instance) (row column : List ℤ) (r c : ℤ) → length row ≡ length i.jobs → length column ≡ length i.jobs * i.machines → r ≡ total row → c ≡ total column
     → (r +ℤ c) ≡ all_prices i (row_price row) (column_price i column)
@@ -113,21 +95,15 @@ pub priced_shape : (i : Instance) (row column : List ℤ) → IsPriced i row col
 priced_shape i row column p = record { sum = p.sum; unrelated = p.unrelated; uncut = p.uncut; rows = p.rows; columns = p.columns }
 
 pub priced_low : (i : Instance) (row column : List ℤ) → IsPriced i row column → All (λ p. p ≤ℤ pos 0) column
-priced_low i row column p k d t = subst (λ x. x ≤ℤ pos 0) (get_or_default column k (pos 0) d t)
-    (subst (λ q. get_or column q (pos 0) ≤ℤ pos 0) way (p.prices.low (k / length i.jobs) (k % length i.jobs) (div_below k (length i.jobs) i.machines some inside) (mod_below k (length i.jobs) some)))
+priced_low i row column p k d t =
+    let place = p.prices.low (k / length i.jobs) (k % length i.jobs) (div_below k (length i.jobs) i.machines some inside) (mod_below k (length i.jobs) some) in
+    subst (λ x. x ≤ℤ pos 0) (get_or_default column k (pos 0) d t) (subst (λ q. get_or column q (pos 0) ≤ℤ pos 0) (div-add-mod' k (length i.jobs)) place)
   where
-    some : 0 < length i.jobs
-    some = positive (length i.jobs) i.machines (omega (arith, t, p.columns))
-      where
-        positive : (a b : ℕ) → 0 < a * b → 0 < a
-        positive zero b h = absurd (omega (arith, h))
-        positive (suc a) b h = omega arith
-
     inside : k < i.machines * length i.jobs
     inside = omega (arith, t, p.columns)
 
-    way : k / length i.jobs * length i.jobs + k % length i.jobs ≡ k
-    way = div-add-mod' k (length i.jobs)
+    some : 0 < length i.jobs
+    some = pos_of_ne-zero (λ z. let none = ap (λ n. i.machines * n) z in omega (arith, inside, none))
 
 pub priced_fair : (i : Instance) (row column : List ℤ) → InClass i → IsPriced i row column → AreFair i row column
 priced_fair i row column c p j in_j m in_m k in_k = p.prices.fair j m k in_j (omega (arith, in_m, needs_many i j c p.unrelated in_j)) in_k
@@ -149,10 +125,7 @@ module _ (i : Instance) (row column : List ℤ) (job : ℕ) (price : ℤ) (needs
 
   pub fair_next : (IsTrue true ↔ IsFair price column (length jobs) needs) → ((j : ℕ) → j < job → IsFair (get_or row j (pos 0)) column (length i.jobs) (job_at i j).needs)
       → (j : ℕ) → j < job + 1 → IsFair (get_or row j (pos 0)) column (length i.jobs) (job_at i j).needs
-  fair_next ok before j u = elim (cases_lt j job) as (λ _. IsFair (get_or row j (pos 0)) column (length i.jobs) (job_at i j).needs) [
-    | inl low ↦ before j low
-    | inr high ↦ let e : job ≡ j = omega (arith, u, high) in subst (λ q. IsFair (get_or row q (pos 0)) column (length i.jobs) (job_at i q).needs) e (there (ok.0 refl))
-  ]
+  fair_next ok before = below_more (λ j. IsFair (get_or row j (pos 0)) column (length i.jobs) (job_at i j).needs) job before (there (ok.0 refl))
 
 pub prices_are_worth : (i : Instance) (row column : List ℤ) (r c x : ℤ) (v : Frac)
     → IsPriced i row column → r ≡ total row → c ≡ total column → v.num ≡ x → x ≡ r +ℤ c → v.den ≡ pos 1 → IsWorth i (Prices row column) (Some v)

@@ -1,102 +1,60 @@
--- The jobs of an instance of its class have levels: round by round, those of ever longer paths.
-use Rattle.std.proofs.Common.{◌≡◌, ℕ, zero, suc, ◌+◌, ◌<◌, ◌≤◌, ◌⊎◌, inl, inr, List, [], ◌∷◌, length, get_or, map, All, Contains, refl, sym, subst, arith}
-use Rattle.std.specs.List.{range_with_len}
-use Rattle.std.proofs.lemmas.Bool.{cases_lt}
-use Rattle.std.proofs.lemmas.List.Elements.{All-nil, All-cons, All-weaker, All-contains}
+-- The jobs of an instance of its class have levels: whether a path of so many arcs leads out of a job can be tested, and the greatest such
+-- number is its level.
+use Rattle.std.proofs.Common.{◌≡◌, ℕ, zero, suc, ◌<◌, ◌≤◌, ◌&&◌, inl, inr, Bool, true, List, length, map, refl, sym, ap, ap₂, subst, ◌∙◌, arith}
+use Rattle.std.specs.Prelude.{◌==◌}
+use Rattle.std.specs.List.{list_any, range_with_len}
+use Rattle.std.proofs.lemmas.Bool.{cases_Bool, cases_lt, and_parts, eqb-true, eq-eqb, false≢true}
+use Rattle.std.proofs.lemmas.List.Folds.{Any-from_list_any, list_any-from_Any}
 use Rattle.std.proofs.lemmas.List.FromFn.{length-map-range_with_len, get_or-map-range_with_len}
 use Rattle.msp_instance.specs.declared.Arc.{Arc}
 use Rattle.msp_instance.specs.declared.Instance.{Instance}
-use Rattle.msp_instance.specs.Conditions.{InClass, IsSequence, GoesForward}
+use Rattle.msp_instance.specs.Conditions.{InClass}
 use Rattle.msp_instance.specs.Paths.{HasStep}
 use Rattle.msp_pieces.specs.Levels.{LeadsOut, IsLevel}
-use Rattle.msp_pieces.proofs.lists.ForwardOrders.{each_at, leads_to}
 use Rattle.msp_cert.specs.Search.{AreAllLevels}
-use Rattle.msp_class.proofs.Cases.{same_or_not}
+use Rattle.msp_cert.proofs.Tails.{few_arcs}
 
--- one more than the greatest level of a job to which one of the arcs leads from this one, and 0 where none does
-record IsAbove (arcs : List Arc) (level : ℕ → ℕ) (j above : ℕ) : Type 0 where
-  reached : (above ≡ 0) ⊎ ((a : Arc) × Contains arcs a × (a.before ≡ j) × (above ≡ level a.after + 1))
-  over : All (λ a. a.before ≡ j → level a.after < above) arcs
+abbrev leads_out : List Arc → ℕ → ℕ → Bool
+leads_out arcs zero j = true
+leads_out arcs (suc n) j = list_any (λ (a : Arc). (a.before == j) && leads_out arcs n a.after) arcs
 
-there : (a b : Arc) (arcs : List Arc) → Contains arcs b → Contains (a ∷ arcs) b
-there a b arcs (k, l, e) = (suc k, omega (arith, l), e)
+out_there : (arcs : List Arc) (n j : ℕ) → leads_out arcs n j ≡ true → LeadsOut arcs n j
+out_there arcs zero j h = tt
+out_there arcs (suc n) j h =
+    let (k, a, l, at, both) = Any-from_list_any (λ (a : Arc). (a.before == j) && leads_out arcs n a.after) arcs h in
+    let (here, rest) = and_parts (a.before == j) (leads_out arcs n a.after) both in
+    (a.after, subst (λ x. HasStep arcs x a.after) (eqb-true a.before j here) (k, l, at), out_there arcs n a.after rest)
 
-above_next : (a : Arc) (arcs : List Arc) (level : ℕ → ℕ) (j : ℕ) → (above : ℕ) × IsAbove arcs level j above → (above : ℕ) × IsAbove (a ∷ arcs) level j above
-above_next a arcs level j (above, h) = elim (same_or_not a.before j) [
-  | inr other ↦ (
-    above,
-    record {
-      reached = elim h.reached [ inl z ↦ inl z | inr (b, c, e, is) ↦ inr (b, there a b arcs c, e, is) ];
-      over = All-cons (λ b. b.before ≡ j → level b.after < above) a arcs (λ e. absurd (other e)) h.over;
-    },
-  )
-  | inl here ↦ elim (cases_lt (level a.after) above) [
-    | inl less ↦ (
-      above,
-      record {
-        reached = elim h.reached [ inl z ↦ absurd (omega (arith, less, z)) | inr (b, c, e, is) ↦ inr (b, there a b arcs c, e, is) ];
-        over = All-cons (λ b. b.before ≡ j → level b.after < above) a arcs (λ e. less) h.over;
-      },
-    )
-    | inr more ↦ (
-      level a.after + 1,
-      record {
-        reached = inr (a, (0, omega arith, refl), here, refl);
-        over = All-cons (λ b. b.before ≡ j → level b.after < level a.after + 1) a arcs (λ e. omega arith)
-            (All-weaker (λ b. b.before ≡ j → level b.after < above) (λ b. b.before ≡ j → level b.after < level a.after + 1) (λ b f e. let less = f e in omega (arith, less, more)) arcs h.over);
-      },
-    )
-  ]
+out_back : (arcs : List Arc) (n j : ℕ) → LeadsOut arcs n j → leads_out arcs n j ≡ true
+out_back arcs zero j out = refl
+out_back arcs (suc n) j (k, (p, l, at), rest) = list_any-from_Any (λ (a : Arc). (a.before == j) && leads_out arcs n a.after)
+    arcs (p, record { before = j; after = k }, l, at, ap₂ ◌&&◌ (eq-eqb j j refl) (out_back arcs n k rest))
+
+-- the greatest number up to a bound that passes a test
+deepest : (test : ℕ → Bool) → test 0 ≡ true → (b : ℕ) → (m : ℕ) × (test m ≡ true) × ((n : ℕ) → n ≤ b → test n ≡ true → n ≤ m)
+deepest test first zero = (0, first, λ n l h. l)
+deepest test first (suc b) = elim (cases_Bool (test (suc b))) [
+  | inl is ↦ (suc b, is, λ n l h. l)
+  | inr isnt ↦
+      let (m, is, most) = deepest test first b in
+      let never = λ (n : ℕ) (e : suc b ≡ n) (h : test n ≡ true). false≢true (sym isnt ∙ ap test e ∙ h) in
+      (m, is, λ n l h. elim (cases_lt n (suc b)) [ inl less ↦ most n (omega (arith, less)) h | inr more ↦ absurd (never n (omega (arith, l, more)) h) ])
 ]
 
-some_above : (arcs : List Arc) (level : ℕ → ℕ) (j : ℕ) → (above : ℕ) × IsAbove arcs level j above
-some_above [] level j = (0, record { reached = inl refl; over = All-nil (λ a. a.before ≡ j → level a.after < 0) })
-some_above (a ∷ arcs) level j = above_next a arcs level j (some_above arcs level j)
+level_in : Instance → ℕ → ℕ
+level_in i j = (deepest (λ n. leads_out i.arcs n j) refl (length i.jobs)).0
 
--- the levels by paths of fewer than so many arcs
-round : List Arc → ℕ → ℕ → ℕ
-round arcs zero j = 0
-round arcs (suc n) j = (some_above arcs (round arcs n) j).0
-
--- where the jobs to which its arcs lead have their levels, what is above them is that of the job
-module _ (arcs : List Arc) (level : ℕ → ℕ) (j above : ℕ) (known : All (λ a. a.before ≡ j → IsLevel arcs a.after (level a.after)) arcs) (h : IsAbove arcs level j above) where
-  level_path : LeadsOut arcs above j
-  level_path = elim h.reached [
-    | inl z ↦ subst (λ m. LeadsOut arcs m j) (sym z) tt
-    | inr (a, c, e, is) ↦
-        let next = All-contains (λ a. a.before ≡ j → IsLevel arcs a.after (level a.after)) arcs a known c e in
-        let out : LeadsOut arcs (suc (level a.after)) j = (a.after, subst (λ x. HasStep arcs x a.after) e c, next.path) in
-        let more : suc (level a.after) ≡ above = omega (arith, is) in
-        subst (λ m. LeadsOut arcs m j) more out
-  ]
-
-  level_longest : (m : ℕ) → LeadsOut arcs m j → m ≤ above
-  level_longest zero out = omega arith
-  level_longest (suc m) (k, step, rest) =
-      let arc : Arc = record { before = j; after = k } in
-      let less : level k < above = All-contains (λ a. a.before ≡ j → level a.after < above) arcs arc h.over step refl in
-      let deep : m ≤ level k = (All-contains (λ a. a.before ≡ j → IsLevel arcs a.after (level a.after)) arcs arc known step refl).longest m rest in
-      omega (arith, less, deep)
-
-  level_above : IsLevel arcs j above
-  level_above = record { path = level_path; longest = level_longest }
-
-module _ (i : Instance) (order : List ℕ) (s : IsSequence i order) (forward : All (GoesForward order) i.arcs) where
-  placed : (n p : ℕ) → p < length order → length order ≤ n + p → IsLevel i.arcs (get_or order p 0) (round i.arcs n (get_or order p 0))
-  unfolding round
-  placed zero p l enough = absurd (omega (arith, l, enough))
-  placed (suc n) p l enough =
-      level_above i.arcs (round i.arcs n) (get_or order p 0) (some_above i.arcs (round i.arcs n) (get_or order p 0)).0
-      (λ k d b e. let (q, later, near, at) = leads_to i order s forward p l k d b e in subst (λ x. IsLevel i.arcs x (round i.arcs n x)) at (placed n q near (omega (arith, enough, later))))
-      (some_above i.arcs (round i.arcs n) (get_or order p 0)).1
+is_level : (i : Instance) → InClass i → (j : ℕ) → j < length i.jobs → IsLevel i.arcs j (level_in i j)
+unfolding level_in
+is_level i c j l =
+    let (m, is, most) = deepest (λ n. leads_out i.arcs n j) refl (length i.jobs) in
+    record { path = out_there i.arcs m j is; longest = λ n out. most n (let few = few_arcs i c n j l out in omega (arith, few)) (out_back i.arcs n j out) }
 
 pub some_levels : (i : Instance) → InClass i → (level : List ℕ) × AreAllLevels i level
-some_levels i c =
-    let (order, s, forward) = c.acyclic in (
-      map (round i.arcs (length order)) (range_with_len 0 (length i.jobs)),
-      record {
-        each = length-map-range_with_len (round i.arcs (length order)) 0 (length i.jobs);
-        levels = λ j l. subst (IsLevel i.arcs j) (sym (get_or-map-range_with_len (round i.arcs (length order)) 0 (length i.jobs) j j 0 l (omega arith)))
-            (each_at i order s (λ x. IsLevel i.arcs x (round i.arcs (length order) x)) (λ p b. placed i order s forward (length order) p b (omega arith)) j l);
-      },
-    )
+some_levels i c = (
+  map (level_in i) (range_with_len 0 (length i.jobs)),
+  record {
+    each = length-map-range_with_len (level_in i) 0 (length i.jobs);
+    levels = λ j l. subst (IsLevel i.arcs j) (sym (get_or-map-range_with_len (level_in i) 0 (length i.jobs) j j 0 l (omega arith))) (is_level i c j l);
+  },
+)

@@ -1,18 +1,20 @@
 -- The law of certificates, kind by kind.
-use Rattle.std.proofs.Common.{◌≡◌, ◌≢◌, ℕ, ◌+◌, ◌*◌, ◌-◌, ◌<◌, ◌≤◌, ◌⊎◌, inl, inr, Bool, cond, eqb, List, length, sum_by, All, AllPairs, ℤ, pos, ◌*ℤ◌, ◌≤ℤ◌, sym, ap, subst, ◌∙◌, arith}
-use Rattle.std.specs.Prelude.{take, sum}
+use Rattle.std.proofs.Common.{◌≡◌, ◌≢◌, ℕ, ◌+◌, ◌*◌, ◌-◌, ◌<◌, ◌≤◌, Bool, cond, eqb, List, length, All, AllPairs, ℤ, pos, ◌*ℤ◌, ◌≤ℤ◌, sym, ap, subst, ◌∙◌, arith}
+use Rattle.std.specs.Prelude.{sum}
 use Rattle.std.specs.List.{list_any, range_with_len}
 use Rattle.std.proofs.lemmas.Int.{ints}
 use Rattle.std.proofs.lemmas.List.Sorted.{All-permutation, length_permutation}
 use Rattle.std.proofs.lemmas.List.{get_or_default}
-use Rattle.std.proofs.lemmas.List.FromFn.{length-map-range_with_len, get_or-map-range_with_len}
+use Rattle.std.proofs.lemmas.List.Elements.{All-map}
+use Rattle.std.proofs.lemmas.List.FromFn.{length-map-range_with_len}
 use Rattle.msp_class.specs.declared.class.Crit.TheVariants.{Cmax}
 use Rattle.msp_class.specs.declared.class.Times.TheVariants.{Unit as UnitTimes}
 use Rattle.msp_class.specs.declared.environments.EnvKind.{EnvKind}
-use Rattle.msp_class.specs.declared.environments.EnvKind.TheVariants.{Identical, Uniform}
+use Rattle.msp_class.specs.declared.environments.EnvKind.TheVariants.{Uniform}
+use Rattle.msp_class.specs.declared.sizes.TheConstants.{GREATEST_SPEED}
 use Rattle.msp_class.specs.Env.{kind_of}
 use Rattle.msp_class.specs.Crit.{is_greatest}
-use Rattle.msp_class.proofs.Sums.{sum_by-map, sum_by-constant, sum_by-IsPermutation, total_below-range}
+use Rattle.msp_class.proofs.Sums.{sum_by-map, sum_by-constant, sum_by-IsPermutation, total_below-range, OnceBelow-range}
 use Rattle.msp_class.proofs.IntegerRing.{zero-le-pos, pos-le, ≤ℤ_trans, ≤ℤ_of_same, *ℤ_comm, *ℤ_assoc, *ℤ-one, *ℤ-mono_nonneg, *ℤ-cancel}
 use Rattle.msp_instance.specs.declared.Instance.{Instance}
 use Rattle.msp_instance.specs.Instance.{no_job, no_need, job_at, need_at, common_time}
@@ -21,7 +23,7 @@ use Rattle.msp_pieces.specs.declared.Schedule.{Schedule}
 use Rattle.msp_pieces.specs.Feasible.{Feasible}
 use Rattle.msp_pieces.specs.Cost.{end_of, cost_of}
 use Rattle.msp_pieces.specs.Laws.{time_together, jobs_together}
-use Rattle.msp_pieces.specs.Speeds.{HaveSpeeds, speed_by, speed_of, speed_above}
+use Rattle.msp_pieces.specs.Speeds.{speed_by, speed_of, speed_above}
 use Rattle.msp_pieces.specs.Blocks.{total_time}
 use Rattle.msp_pieces.proofs.costs.Makespan.{ends_by_cost, cost_natural}
 use Rattle.msp_pieces.proofs.bounds.SpeedBound.{law_of_speeds}
@@ -89,47 +91,35 @@ module _ (i : Instance) (jobs : List ℕ) (inside : All (λ j. j < length i.jobs
   many : jobs_together i among ≡ length jobs
   many = total_below-range (length i.jobs) (λ j. cond (among j) 1 0) ∙ list_total (λ _. 1) (length i.jobs) jobs inside apart ∙ sum_by-constant 1 jobs ∙ omega arith
 
-speed_at : (i : Instance) → InClass i → (k : ℕ) → k < i.machines → (kind : EnvKind) → (kind ≡ Identical) ⊎ (kind ≡ Uniform) → HasSpeeds kind i.machines i.speeds → 1 ≤ speed_by kind i k
-speed_at i c k l kind (inl e) h = subst (λ x. 1 ≤ speed_by x i k) (sym e) (omega arith)
-speed_at i c k l kind (inr e) h =
-    let g : HasSpeeds Uniform i.machines i.speeds = subst (λ x. HasSpeeds x i.machines i.speeds) e h in
-    subst (λ x. 1 ≤ speed_by x i k) (sym e) (g.1 k 0 (omega (arith, l, g.0))).0
+speed_at : (i : Instance) (k : ℕ) → k < i.machines → (kind : EnvKind) → HasSpeeds kind i.machines i.speeds → (1 ≤ speed_by kind i k) × (speed_by kind i k ≤ GREATEST_SPEED)
+speed_at i k l Uniform h = h.1 k 0 (omega (arith, l, h.0))
+speed_at i k l _ h = (omega arith, omega arith)
 
 pub speeds_many : (i : Instance) → length (speeds_of i) ≡ i.machines
 speeds_many i = length-map-range_with_len (speed_of i) 0 i.machines
 
-pub speed_some : (i : Instance) → InClass i → HaveSpeeds (kind_of i.class.env) → All (λ x. 1 ≤ x) (speeds_of i)
-speed_some i c speeds k d l =
-    let b : k < i.machines = omega (arith, l, speeds_many i) in
-    subst (λ x. 1 ≤ x) (sym (get_or-map-range_with_len (speed_of i) 0 i.machines k k d b (omega arith))) (speed_at i c k b (kind_of i.class.env) speeds c.conditions.speeds)
+pub speeds_between : (i : Instance) → InClass i → All (λ x. (1 ≤ x) × (x ≤ GREATEST_SPEED)) (speeds_of i)
+speeds_between i c = All-map (λ x. (1 ≤ x) × (x ≤ GREATEST_SPEED)) (speed_of i) (range_with_len 0 i.machines)
+    (λ k d l. speed_at i _ ((OnceBelow-range i.machines).within k d l) (kind_of i.class.env) c.conditions.speeds)
 
 fastest_above : (i : Instance) (count speed : ℕ) → 1 ≤ count → IsSpeedOfFastest i count speed → (threshold : ℕ) × (count * threshold + speed_above i threshold ≤ speed)
 fastest_above i count speed some h =
     let (t, is) = some_threshold h.order count some h.falls in
-    (t, by t (is.reached) h.first (sym (sum_by-map (λ x. x - t) (speed_of i) (range_with_len 0 i.machines)) ∙ sym (sum_by-IsPermutation (λ x. x - t) (speeds_of i) h.order h.all)))
-  where
-    by : (t : ℕ) → count * t + sum_by (λ x. x - t) h.order ≤ sum (take count h.order)
-        → speed ≡ sum (take count h.order) → speed_above i t ≡ sum_by (λ x. x - t) h.order → count * t + speed_above i t ≤ speed
-    by t reached first same = omega (arith, reached, first, same)
+    let same = sum_by-IsPermutation (λ x. x - t) (speeds_of i) h.order h.all in
+    (t, omega (arith, is.reached, h.first, same, sum_by-map (λ x. x - t) (speed_of i) (range_with_len 0 i.machines)))
 
 group : (i : Instance) (jobs : List ℕ) (num : ℤ) (den : ℕ) (s : Schedule) → InClass i → IsGroup i jobs → num ≡ pos (total_time i jobs) → IsSpeedOfFastest i (length jobs) den → Feasible i s
     → (1 ≤ den) × ((num *ℤ s.unit) ≤ℤ (cost_of i s *ℤ pos den))
 group i jobs num den s c g e v f =
     let (t, above) = fastest_above i (length jobs) den g.some v in
-    let room = law_of_speeds.room i s (among i jobs g.inside g.apart) t (cost_of i s) g.speeds f (nonneg i s c f g.makespan) (λ j l _. ends i s c f g.makespan j l) in (
+    let room = law_of_speeds.room i s (among i jobs g.inside g.apart) t (cost_of i s) g.speeds f (nonneg i s c f g.makespan) (λ j l _. ends i s c f g.makespan j l) in
+    let less = subst (λ n. n * t + speed_above i t ≤ den) (sym (many i jobs g.inside g.apart)) above in
+    let same = *ℤ_comm num s.unit ∙ ap (λ x. s.unit *ℤ x) (e ∙ ap pos (sym (together i jobs g.inside g.apart))) in (
       subst (λ d. 1 ≤ d) (sym v.first) (first_some v.order (length jobs) g.some
           (omega (arith, length_permutation (speeds_of i) v.order v.all, speeds_many i, c.conditions.machines.0))
-          (All-permutation (λ x. 1 ≤ x) (speeds_of i) v.order v.all (speed_some i c g.speeds))),
-      by t room above,
+          (All-permutation (λ x. 1 ≤ x) (speeds_of i) v.order v.all (λ k d l. (speeds_between i c k d l).0))),
+      ≤ℤ_trans (≤ℤ_of_same same) (≤ℤ_trans room (*ℤ-mono_nonneg (cost_of i s) (nonneg i s c f g.makespan) (pos-le less))),
     )
-  where
-    by : (t : ℕ) → (s.unit *ℤ pos (time_together i (among i jobs g.inside g.apart))) ≤ℤ (cost_of i s *ℤ pos (jobs_together i (among i jobs g.inside g.apart) * t + speed_above i t))
-        → length jobs * t + speed_above i t ≤ den
-        → (num *ℤ s.unit) ≤ℤ (cost_of i s *ℤ pos den)
-    by t room above =
-        ≤ℤ_trans (≤ℤ_of_same (*ℤ_comm num s.unit ∙ ap (λ x. s.unit *ℤ x) (e ∙ ap pos (sym (together i jobs g.inside g.apart)))))
-        (≤ℤ_trans room
-        (*ℤ-mono_nonneg (cost_of i s) (nonneg i s c f g.makespan) (pos-le (subst (λ n. n * t + speed_above i t ≤ den) (sym (many i jobs g.inside g.apart)) above))))
 
 -- ---- each kind
 value : (i : Instance) (proof : Proof) (num : ℤ) (den : ℕ) (s : Schedule) → InClass i → HoldsFor i proof → IsValue i proof num den → Feasible i s

@@ -1,13 +1,14 @@
 -- How many jobs have at least a level, level by level, and what the levels of all jobs are worth with each tail.
-use Rattle.std.proofs.Common.{◌≡◌, ◌≢◌, ℕ, zero, suc, ◌+◌, ◌-◌, ◌/◌, ◌<◌, ◌≤◌, ◌⊎◌, inl, inr, Bool, cond, List, length, get_or, set, take, count_by, Some, None, All, pos, refl}
+use Rattle.std.proofs.Common.{◌≡◌, ℕ, zero, suc, ◌+◌, ◌-◌, ◌/◌, ◌<◌, ◌≤◌, inl, inr, Bool, cond, List, length, get_or, set, take, count_by, Some, All, pos, refl}
 use Rattle.std.proofs.Common.{sym, ap, subst, ◌∙◌, arith}
 use Rattle.std.specs.Prelude.{Any, nat_le, ◌==◌}
+use Rattle.std.proofs.lemmas.Bool.{eq-eqb, ne_eqb}
 use Rattle.std.proofs.lemmas.Bool.Decides.{nat_tests}
 use Rattle.std.proofs.lemmas.List.{get_or_default, get_or-set_same, get_or-set_other, length-set, length-take-le}
 use Rattle.std.proofs.lemmas.List.Elements.{All-contains}
 use Rattle.msp_class.specs.declared.sizes.TheConstants.{MOST_JOBS}
 use Rattle.msp_class.specs.Sums.{total_below}
-use Rattle.msp_class.proofs.Sums.{sum_by-agree, sum_by-add, sum_by-constant, sum_by-contains, sum_by-some, sum_by-mono, sum_by-take_more, cond-le, total_below-range}
+use Rattle.msp_class.proofs.Sums.{sum_by-agree, sum_by-add, sum_by-constant, sum_by-some, sum_by-mono, sum_by-take_more, cond-le, cond-yes, cond-no, total_below-range}
 use Rattle.msp_instance.specs.declared.Instance.{Instance}
 use Rattle.msp_instance.specs.Conditions.{InClass, IsSequence, GoesForward}
 use Rattle.msp_pieces.specs.declared.Frac.{Frac}
@@ -20,7 +21,7 @@ use Rattle.msp_cert.specs.Certificates.{HasUnitJobs, of_job}
 use Rattle.msp_cert.specs.Search.{AreAllLevels}
 use Rattle.msp_cert.specs.Worth.{IsWorth}
 use Rattle.msp_class.proofs.Cases.{same_or_not}
-use Rattle.msp_cert.proofs.Decided.{levels_are_worth, worth_nothing}
+use Rattle.msp_cert.proofs.Decided.{levels_are_worth}
 
 -- ---- how many have at least a level
 abbrev one_if : Bool → ℕ
@@ -61,15 +62,6 @@ at_most_all t xs = omega (arith, sum_by-mono (λ x. cond (x == t) 1 0) (λ _. 1)
 pub counted_few : (level counts : List ℕ) (k t : ℕ) → AreCounted level k counts → k ≤ length level → t < MOST_JOBS → get_or counts t 0 ≤ k
 counted_few level counts k t h l b = omega (arith, h.each t b, at_most_all t (take k level), length-take-le k level l)
 
-here_or_not : (x t : ℕ) → ((x ≡ t) × (one_if (x == t) ≡ 1)) ⊎ ((t ≢ x) × (one_if (x == t) ≡ 0))
-here_or_not x t = elim (same_or_not x t) [ inl e ↦ inl (e, here x t e) | inr ne ↦ inr ((λ e. ne (sym e)), gone x t ne) ]
-  where
-    here : (x t : ℕ) → x ≡ t → one_if (x == t) ≡ 1
-    here x t e = grind (arith, nat_tests)
-
-    gone : (x t : ℕ) → x ≢ t → one_if (x == t) ≡ 0
-    gone x t ne = grind (arith, nat_tests)
-
 pub count_one : (level counts : List ℕ) (k value : ℕ) → k < length level → get_or level k 0 < MOST_JOBS
     → value ≡ get_or counts (get_or level k 0) 0 + 1 → AreCounted level k counts → AreCounted level (k + 1) (set counts (get_or level k 0) value)
 count_one level counts k value l small is h = record { wide = length-set counts (get_or level k 0) value ∙ h.wide; each = each }
@@ -78,46 +70,38 @@ count_one level counts k value l small is h = record { wide = length-set counts 
     more t = sum_by-take_more (λ x. cond (x == t) 1 0) level k 0 l
 
     each : (t : ℕ) → t < MOST_JOBS → get_or (set counts (get_or level k 0) value) t 0 ≡ count_by (λ l. l == t) (take (k + 1) level)
-    each t b = elim (here_or_not (get_or level k 0) t) [
-      | inl (e, one) ↦ omega (
-        arith,
-        more t,
-        one,
-        h.each t b,
-        ap (λ x. get_or counts x 0)
-            e,
-        ap (λ x. get_or (set counts (get_or level k 0) value) x 0) e,
-        get_or-set_same counts (get_or level k 0) value 0 (omega (arith, small, h.wide)),
-        is,
-      )
-      | inr (ne, none) ↦ omega (arith, more t, none, h.each t b, get_or-set_other counts (get_or level k 0) t value 0 ne)
+    each t b = elim (same_or_not (get_or level k 0) t) [
+      | inl e ↦
+          let new = get_or-set_same counts (get_or level k 0) value 0 (omega (arith, small, h.wide)) in
+          let same = ap (λ x. get_or (set counts (get_or level k 0) value) x 0) e in
+          omega (arith, more t, cond-yes 1 (eq-eqb (get_or level k 0) t e), h.each t b, ap (λ x. get_or counts x 0) e, same, new, is)
+      | inr ne ↦
+          let other = get_or-set_other counts (get_or level k 0) t value 0 (λ e. ne (sym e)) in
+          omega (arith, more t, cond-no 1 (ne_eqb (get_or level k 0) t ne), h.each t b, other)
     ]
 
 -- ---- no level is as great as the number of jobs
-module _ (i : Instance) (level : ℕ → ℕ) (c : InClass i) (h : AreLevels i level) where
-  beyond : (order : List ℕ) → IsSequence i order → All (GoesForward order) i.arcs → (n p : ℕ) → p < length order → LeadsOut i.arcs n (get_or order p 0) → n + p < length order
-  beyond order s forward zero p l out = omega (arith, l)
-  beyond order s forward (suc n) p l (k, step, rest) =
-      let (q, later, near, at) = All-contains (λ a. a.before ≡ get_or order p 0 → (q : ℕ) × (p < q) × (q < length order) × (get_or order q 0 ≡ a.after))
-      i.arcs (record { before = get_or order p 0; after = k }) (leads_to i order s forward p l) step refl in
-      let less : n + q < length order = beyond order s forward n q near (subst (LeadsOut i.arcs n) (sym at) rest) in
-      omega (arith, less, later)
+beyond : (i : Instance) (order : List ℕ) → IsSequence i order → All (GoesForward order) i.arcs
+    → (n p : ℕ) → p < length order → LeadsOut i.arcs n (get_or order p 0) → n + p < length order
+beyond i order s forward zero p l out = omega (arith, l)
+beyond i order s forward (suc n) p l (k, step, rest) =
+    let (q, later, near, at) = All-contains (λ a. a.before ≡ get_or order p 0 → (q : ℕ) × (p < q) × (q < length order) × (get_or order q 0 ≡ a.after))
+    i.arcs (record { before = get_or order p 0; after = k }) (leads_to i order s forward p l) step refl in
+    let less : n + q < length order = beyond i order s forward n q near (subst (LeadsOut i.arcs n) (sym at) rest) in
+    omega (arith, less, later)
 
-  pub level_few : (j : ℕ) → j < length i.jobs → level j < length i.jobs
-  level_few j l =
-      let (order, s, forward) = c.acyclic in
-      each_at i order s (λ x. LeadsOut i.arcs (level j) x → level j < length i.jobs) (λ k b out. omega (arith, beyond order s forward (level j) k b out, s.whole)) j l (h j l).path
+pub few_arcs : (i : Instance) → InClass i → (n j : ℕ) → j < length i.jobs → LeadsOut i.arcs n j → n < length i.jobs
+few_arcs i c n =
+    let (order, s, forward) = c.acyclic in
+    each_at i order s (λ x. LeadsOut i.arcs n x → n < length i.jobs) (λ k b out. omega (arith, beyond i order s forward n k b out, s.whole))
+
+pub level_few : (i : Instance) (level : ℕ → ℕ) → InClass i → AreLevels i level → (j : ℕ) → j < length i.jobs → level j < length i.jobs
+level_few i level c h j l = few_arcs i c (level j) j l (h j l).path
 
 -- ---- what levels are worth
 module _ (i : Instance) (level : List ℕ) (c : InClass i) (h : AreAllLevels i level) where
   pub levels_small : All (λ l. l < length i.jobs) level
   levels_small j d l = subst (λ x. x < length i.jobs) (get_or_default level j 0 d l) (level_few i (of_job level) c h.levels j (omega (arith, l, h.each)))
-
-  pub no_tail : (tail : ℕ) → 0 ≡ count_by (nat_le tail) level → IsWorth i (Levels level tail) None
-  no_tail tail none = worth_nothing i (Levels level tail) (λ holds. never holds.some)
-    where
-      never : Any (λ l. tail ≤ l) level → ⊥
-      never (k, x, l, at, high) = omega (arith, none, sum_by-contains (λ y. cond (nat_le tail y) 1 0) level x (k, l, at), one_high tail x high)
 
   pub tail_is_worth : (tail high value : ℕ) (v : Frac) → HasUnitJobs i → high ≡ count_by (nat_le tail) level
       → 0 < high → value ≡ tail + (high + (i.machines - 1)) / i.machines → v.num ≡ pos value → v.den ≡ pos 1 → IsWorth i (Levels level tail) (Some v)

@@ -1,6 +1,6 @@
 -- The proofs that are tried: the first of a list, by places and by parts, and what the groups of the longest jobs are worth.
 use Rattle.std.proofs.Common.{◌≡◌, ℕ, zero, suc, ◌+◌, ◌*◌, ◌<◌, ◌≤◌, inl, inr, List, [], ◌∷◌, ◌++◌, length, get_or, map, take, Option, Some, None, All, AllPairs, IsPermutation}
-use Rattle.std.proofs.Common.{pos, sym, ap, subst, ◌∙◌, arith}
+use Rattle.std.proofs.Common.{pos, sym, ap, subst, ◌∙◌, arith, add-one}
 use Rattle.std.specs.Prelude.{sum}
 use Rattle.std.specs.List.{range_with_len}
 use Rattle.std.proofs.lemmas.Bool.{cases_lt}
@@ -94,13 +94,10 @@ pub one_more : (i : Instance) (longest speeds : List ℕ) (k time speed t s job 
     → AreTogether i longest speeds k time speed → AreTogether i longest speeds (k + 1) (time + t) (speed + s)
 one_more i longest speeds k time speed t s job c asked all l is t_is s_is h = record {
   time_is = omega (arith, h.time_is, t_is, ap (λ j. (need_at i j 0).time) is, sum_by-take_more (λ j. (need_at i j 0).time) longest k 0 l);
-  speed_is = omega (arith, h.speed_is, s_is, sum_more speeds k, ap (λ n. sum (take n speeds)) next);
+  speed_is = omega (arith, h.speed_is, s_is, sum_more speeds k, ap (λ n. sum (take n speeds)) (sym (add-one k)));
   short = omega (arith, h.short, t_is, time_small i job c);
   slow = omega (arith, h.slow, s_is, speed_small_at speeds k (small_speeds i speeds c asked.speeds all).slow);
 }
-  where
-    next : suc k ≡ k + 1
-    next = omega arith
 
 pub group_of_longest : (i : Instance) (longest : List ℕ) (k : ℕ) → AreLongestFirst i longest → HasRelatedMachines i → k < length longest → IsGroup i (take (k + 1) longest)
 group_of_longest i longest k h asked l = record {

@@ -11,7 +11,7 @@ use Rattle.msp_pieces.specs.declared.Frac.{Frac}
 use Rattle.msp_pieces.specs.Fraction.{IsComparable}
 use Rattle.msp_cert.specs.declared.limits.TheConstants.{MOST_ENTRIES}
 use Rattle.msp_cert.specs.declared.Proof.{Proof}
-use Rattle.msp_cert.specs.declared.Proof.TheVariants.{Group, Machine, Line, Levels, Segments, Block, Prices}
+use Rattle.msp_cert.specs.declared.Proof.TheVariants.{Group, Levels, Segments, Block, Prices}
 use Rattle.msp_cert.specs.declared.Certificate.{Certificate}
 use Rattle.msp_cert.specs.Certificates.{KeepsLimits, HasSmallNumbers, entries}
 use Rattle.msp_grammar.specs.declared.limits.TheConstants.{GREATEST_DENOMINATOR}
@@ -30,8 +30,6 @@ segments_counted names (jobs ∷ lists) =
 few : (names : List (List ℕ)) (machines : ℕ) (p : Proof)
     → length names ≤ MOST_JOBS → machines ≤ MOST_MACHINES → IsStatedProof names machines p → length (kind_lines names p) ≤ MOST_LINES → entries p ≤ MOST_ENTRIES
 few names machines (Group jobs) jobs_few machines_few stated lines = omega (arith, length-map jobs (job_line names), lines)
-few names machines (Machine machine) jobs_few machines_few stated lines = omega arith
-few names machines (Line job) jobs_few machines_few stated lines = omega arith
 few names machines (Levels level tail) jobs_few machines_few stated lines = omega (arith, stated.0, jobs_few)
 few names machines (Segments lists) jobs_few machines_few stated lines = omega (arith, segments_counted names lists, lines)
 few names machines (Block head jobs) jobs_few machines_few stated lines =
@@ -46,15 +44,12 @@ few names machines (Block head jobs) jobs_few machines_few stated lines =
 few names machines (Prices row column) jobs_few machines_few stated lines =
     let all : machines * length names ≤ MOST_MACHINES * MOST_JOBS = mul-le machines (length names) MOST_MACHINES MOST_JOBS machines_few jobs_few in
     omega (arith, stated.0, stated.2, all, jobs_few)
+few names machines _ jobs_few machines_few stated lines = omega arith
 
 small : (names : List (List ℕ)) (machines : ℕ) (p : Proof) → IsStatedProof names machines p → HasSmallNumbers p
-small names machines (Group jobs) stated = tt
-small names machines (Machine machine) stated = tt
-small names machines (Line job) stated = tt
-small names machines (Levels level tail) stated = tt
-small names machines (Segments lists) stated = tt
 small names machines (Block head jobs) stated = stated.1
 small names machines (Prices row column) stated = (stated.1, λ k d l. (stated.3 k d l).0)
+small names machines _ stated = tt
 
 pub keeps_limits : (bytes : List ℕ) (names : List (List ℕ)) (i : Instance) (c : Certificate)
     → InClass i → length names ≡ length i.jobs → IsCertificateText bytes names i.machines c → KeepsLimits c.proof

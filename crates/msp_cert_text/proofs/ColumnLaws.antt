@@ -7,7 +7,7 @@ use Rattle.std.specs.Ordering.{int_eq}
 use Rattle.std.specs.List.{AllByRecursion}
 use Rattle.std.specs.Fmt.{signed_decimal}
 use Rattle.std.proofs.lemmas.Int.{ints}
-use Rattle.std.proofs.lemmas.List.{length-replicate}
+use Rattle.std.proofs.lemmas.List.{length-replicate, replicate_more}
 use Rattle.std.proofs.lemmas.List.Elements.{All-head, All-tail, All-push, All-append, All-replicate}
 use Rattle.std.proofs.Math.Nat.{mul-add-div_right, div-eq_of_lt, mul-add-mod_self_right, mod-eq_of_lt, mod-lt, div-lt_iff_lt-mul, div-add-mod, mul-le-mul_right, mul_comm}
 use Rattle.msp_grammar.specs.declared.lines.fault.FileFault.TheVariants.{Count, Limit, Again}
@@ -17,7 +17,7 @@ use Rattle.msp_cert_text.specs.declared.kinds.TheConstants.{MOST_LINES}
 use Rattle.msp_grammar.specs.InstanceText.{where_wanted}
 use Rattle.msp_cert_text.specs.CertificateText.{column_line, column_lines, IsColumnPrice, lines_text}
 use Rattle.msp_cert_text.specs.Reading.{filled, position_at, column_price_at, price_at, column_added, columns_by, columns_step}
-use Rattle.msp_grammar.specs.lines.Reading.{◌>>=◌, Place, line_at, fields_of, first_of, others_of, machine_at, ordinal_at, LineRead, more_read}
+use Rattle.msp_grammar.specs.lines.Reading.{Place, line_at, fields_of, first_of, others_of, machine_at, ordinal_at, LineRead, more_read}
 use Rattle.msp_grammar.proofs.reading.LineLaws.{bind_ok, provided_ok, reads, ok_is, bind_again, provided_again, IsField, fields_takes, end_text}
 use Rattle.msp_grammar.proofs.reading.Lines.{GetsLines}
 use Rattle.msp_grammar.proofs.reading.FieldLaws.{wide_field, signed_takes, signed_again, signed_field, ordinal_takes, ordinal_again}
@@ -71,13 +71,10 @@ below : (x : ℤ) → int_lt x (pos 0) ≡ true → IsBelow x
 below (pos n) h = let less : n < 0 = ltb-true n 0 h in absurd (omega arith)
 below (negsuc m) h = (m, refl)
 
-one_line : (n at m : ℕ) → column_lines n at (negsuc m ∷ []) ≡ column_line n at (negsuc m) ∷ []
-one_line n at m = refl
-
 pub lines-price : (n k : ℕ) (xs : List ℤ) (x : ℤ) → length xs ≤ k → IsBelow x → column_lines n 0 (filled k xs ++ x ∷ []) ≡ column_lines n 0 xs ++ column_line n k x ∷ []
 lines-price n k xs x h b =
     let place : 0 + length (filled k xs) ≡ k = omega (arith, length-filled k xs h) in
-    let one : column_lines n k (x ∷ []) ≡ column_line n k x ∷ [] = ap (λ y. column_lines n k (y ∷ [])) b.1 ∙ one_line n k b.0 ∙ ap (λ y. column_line n k y ∷ []) (sym b.1) in
+    let one : column_lines n k (x ∷ []) ≡ column_line n k x ∷ [] = ap (λ y. column_lines n k (y ∷ [])) b.1 ∙ ap (λ y. column_line n k y ∷ []) (sym b.1) in
     column_lines-append n 0 (filled k xs) (x ∷ []) ∙ ap (λ lines. lines ++ column_lines n (0 + length (filled k xs)) (x ∷ [])) (lines-filled n k xs)
     ∙ ap (λ j. column_lines n 0 xs ++ column_lines n j (x ∷ [])) place ∙ ap (λ lines. column_lines n 0 xs ++ lines) one
 
@@ -131,7 +128,7 @@ column_price_takes at w x e =
 
 -- one line more is counted
 pub columns_count : (n machines before : ℕ) (xs ys : List ℤ) (p q : Place) → columns_step n machines before xs p ≡ Ok (more_read ys q) → length (column_lines n 0 ys) ≡ length (column_lines n 0 xs) + 1
-unfolding columns_step column_added column_price_at
+unfolding columns_step column_added
 columns_count n machines before xs ys p q e =
     let l = bind_ok (line_at p) _ (more_read ys q) e in
     let fields = others_of (fields_of l.0.0) in
@@ -139,11 +136,9 @@ columns_count n machines before xs ys p q e =
     let three = provided_ok (length fields == 3) (Count p.at) _ ys added in
     let k = bind_ok (position_at n machines p.at fields) _ ys three.1 in
     let x = bind_ok (column_price_at p.at (first_of (others_of (others_of fields)))) _ ys k.2 in
-    let price = bind_ok (price_at p.at (first_of (others_of (others_of fields)))) _ x.0 x.1 in
-    let less = provided_ok (int_lt price.0 (pos 0)) (Limit p.at what.Price) (Ok price.0) x.0 price.2 in
+    let price = column_price_takes p.at (first_of (others_of (others_of fields))) x.0 x.1 in
     let later = provided_ok (nat_le (length xs) k.0) (Again p.at) (Ok (filled k.0 xs ++ x.0 ∷ [])) ys x.2 in
-    let b : IsBelow x.0 = subst IsBelow (ok_is price.0 x.0 less.1) (below price.0 less.0) in
-    let lines = lines-price n k.0 xs x.0 (leb-true (length xs) k.0 later.0) b in
+    let lines = lines-price n k.0 xs x.0 (leb-true (length xs) k.0 later.0) price.2 in
     ap (λ (zs : List ℤ). length (column_lines n 0 zs)) (sym (ok_is (filled k.0 xs ++ x.0 ∷ []) ys later.1)) ∙ ap length lines ∙ length-append (column_lines n 0 xs) (column_line n k.0 x.0 ∷ [])
 
 column_price_again : (at : ℕ) (x : ℤ) → IsColumnPrice x → IsBelow x → column_price_at at (signed_decimal x) ≡ Ok x
@@ -153,11 +148,7 @@ column_price_again at x h b =
     bind_again _ _ _ _ (signed_again at what.Price GREATEST_PRICE x (omega arith) h.0) (provided_again _ _ _ _ less refl)
 
 zero_inside : (gap : ℕ) (more : List ℤ) → replicate (gap + 1) (pos 0) ++ more ≡ replicate gap (pos 0) ++ pos 0 ∷ more
-zero_inside gap more = ap (λ m. replicate m (pos 0) ++ more) (add-one gap) ∙ by gap
-  where
-    by : (g : ℕ) → pos 0 ∷ (replicate g (pos 0) ++ more) ≡ replicate g (pos 0) ++ pos 0 ∷ more
-    by zero = refl
-    by (suc g) = ap (λ ys. pos 0 ∷ ys) (by g)
+zero_inside gap more = ap (λ ys. ys ++ more) (sym (replicate_more gap (pos 0))) ∙ append_assoc (replicate gap (pos 0)) (pos 0 ∷ []) more
 
 filled_then : (k gap : ℕ) (xs : List ℤ) (x : ℤ) (more : List ℤ) → k ≡ length xs + gap → (filled k xs ++ x ∷ []) ++ more ≡ xs ++ (replicate gap (pos 0) ++ x ∷ more)
 filled_then k gap xs x more e =
@@ -277,10 +268,6 @@ module _ (n machines : ℕ) (narrow : n < 10 ^ 64) (small : machines < 10 ^ 64) 
       let second : k % n < n = mod-lt k some in
       (record { no_space = refl; no_line_feed = refl }, (wide_field (k / n + 1) (omega arith), (wide_field (k % n + 1) (omega arith), (signed_field x (omega arith) price.0, tt))))
 
-  columns_is : (before : ℕ) (xs : List ℤ) (p : Place) → columns_step n machines before xs p ≡ (line_at p >>= λ l. columns_by n machines before xs p.at (fields_of l.0) l.1)
-  unfolding columns_step
-  columns_is before xs p = refl
-
   -- Reading gives prices which, filled up, are these, and leaves the rest.
   record GetsColumns (before : ℕ) (xs : List ℤ) (lines : List (List (List ℕ))) (all : List ℤ) (rest : List ℕ) : Type 0 where
     prices : List ℤ
@@ -290,12 +277,13 @@ module _ (n machines : ℕ) (narrow : n < 10 ^ 64) (small : machines < 10 ^ 64) 
   columns_from : (before : ℕ) (more xs : List ℤ) (gap : ℕ) (rest : List ℕ) → length xs + gap + length more ≡ machines * n → All IsColumnPrice more
       → before + length (column_lines n 0 xs) + length (column_lines n (length xs + gap) more) ≤ MOST_LINES
       → GetsColumns before xs (column_lines n (length xs + gap) more) (xs ++ (replicate gap (pos 0) ++ more)) rest
+  unfolding columns_step
   columns_from before [] xs gap rest total prices room = record {
     prices = xs;
     filled_up =
         let left : machines * n - length xs ≡ gap = omega arith in
         ap (λ m. xs ++ replicate m (pos 0)) left ∙ ap (λ ys. xs ++ ys) (sym (append-nil (replicate gap (pos 0))));
-    gets = λ at. end_on (columns_step n machines before) (columns_by n machines before) (columns_is before) xs at rest (λ q. refl);
+    gets = λ at. end_on (columns_step n machines before) (columns_by n machines before) (λ d p. refl) xs at rest (λ q. refl);
   }
   columns_from before (pos zero ∷ more) xs gap rest total prices room =
       let place : suc (length xs + gap) ≡ length xs + (gap + 1) = omega arith in
@@ -324,7 +312,7 @@ module _ (n machines : ℕ) (narrow : n < 10 ^ 64) (small : machines < 10 ^ 64) 
       record {
         prices = g.prices;
         filled_up = g.filled_up ∙ all;
-        gets = λ at. line_on (columns_step n machines before) (columns_by n machines before) (columns_is before)
+        gets = λ at. line_on (columns_step n machines before) (columns_by n machines before) (λ d p. refl)
             xs after g.prices (codes "column") (others_of (column_line n k x)) (column_lines n (suc k) more) at rest (column_fields k x inside price (m, refl))
             (λ q. may_again (before + length (column_lines n 0 xs)) (bytes_eq (codes "column") (codes "column"))
             (column_added n machines) xs after at (column_line n k x) q refl (omega (arith, room)) (column_again at k xs x inside later price (m, refl)))

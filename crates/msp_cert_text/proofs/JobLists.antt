@@ -2,7 +2,7 @@
 use Rattle.std.proofs.Common.{◌≡◌, ℕ, suc, ◌+◌, ◌<◌, ◌≤◌, Bool, true, false, not, ◌&&◌, ◌||◌, ◌==◌, if◌then◌else◌, List, [], ◌∷◌, ◌++◌, length, Ok, None, Some, All, bytes_eq, codes}
 use Rattle.std.proofs.Common.{refl, sym, ap, subst, ◌∙◌, append_assoc, append-nil, length-append, arith}
 use Rattle.std.specs.List.{AllByRecursion}
-use Rattle.std.proofs.lemmas.Bool.{and_parts, eqb-true}
+use Rattle.std.proofs.lemmas.Bool.{and_parts, eqb-true, ne_eqb}
 use Rattle.std.proofs.lemmas.List.{nil_from_length}
 use Rattle.std.proofs.lemmas.List.Elements.{All-nil, All-head, All-tail, All-push, All-pop}
 use Rattle.msp_job_name.specs.JobName.{IsJobName, AreDistinct}
@@ -67,20 +67,16 @@ jobs_takes names before jobs p next fit e =
     subst (λ (w : List ℕ). Adds (job_lines names) (AreJobLines names before) jobs (w ∷ others_of fields) e) (sym is) (job_added_takes names p.at before jobs (others_of fields) e fit room added))
     l.2
 
-jobs_is : (names : List (List ℕ)) (before : ℕ) (jobs : List ℕ) (p : Place) → jobs_step names before jobs p ≡ (line_at p >>= λ l. jobs_by names before jobs p.at (fields_of l.0) l.1)
-unfolding jobs_step
-jobs_is names before jobs p = refl
-
 pub jobs_again : (names : List (List ℕ)) (before : ℕ) (more jobs : List ℕ) (at : ℕ) (rest : List ℕ)
     → AreDistinct names → All IsJobName names → AreJobs names more → before + length jobs + length more ≤ MOST_LINES
     → GetsLines (jobs_step names before) None jobs (record { at = at; rest = (lines_text (job_lines names more) ++ end_text) ++ rest }) (jobs ++ more) rest
-unfolding job_added
+unfolding job_added jobs_step
 jobs_again names before [] jobs at rest apart spelled inside room =
-    let g = end_on (jobs_step names before) (jobs_by names before) (jobs_is names before) jobs at rest (λ q. refl) in
+    let g = end_on (jobs_step names before) (jobs_by names before) (λ d p. refl) jobs at rest (λ q. refl) in
     subst (λ (js : List ℕ). GetsLines (jobs_step names before) None jobs (record { at = at; rest = end_text ++ rest }) js rest) (sym (append-nil jobs)) g
 jobs_again names before (j ∷ more) jobs at rest apart spelled inside room =
     let here = All-head (λ k. k < length names) j more inside in
-    line_on (jobs_step names before) (jobs_by names before) (jobs_is names before)
+    line_on (jobs_step names before) (jobs_by names before) (λ d p. refl)
     jobs (jobs ++ j ∷ []) (jobs ++ j ∷ more) (codes "job") (name_at names j ∷ []) (job_lines names more) at rest (job_fields names apart spelled j here)
     (λ q. may_again (before + length jobs) true (job_added names) jobs (jobs ++ j ∷ []) at (job_line names j) q refl (omega arith) (bind_again _ _ _ _ (job_again names apart spelled at j here) refl))
     (λ next.
@@ -91,11 +87,7 @@ jobs_again names before (j ∷ more) jobs at rest apart spelled inside room =
 -- ---- lists of jobs
 
 nonzero : (n : ℕ) → not (suc n == 0) ≡ true
-nonzero n = by (suc n == 0) refl
-  where
-    by : (b : Bool) → (suc n == 0) ≡ b → not b ≡ true
-    by true e = absurd (omega (arith, eqb-true (suc n) 0 e))
-    by false e = refl
+nonzero n = ap not (ne_eqb (suc n) 0 (λ e. omega (arith, e)))
 
 -- Lists that are some and a last one.
 record EndsWith (lists : List (List ℕ)) : Type 0 where
@@ -177,10 +169,6 @@ segments_takes names lists p next fit e =
     (is_segment_word lists (first_of fields)) (segment_added names (first_of fields)) lists p.at fields p l.0.1 next (fields_takes p l.0 l.1)
     (λ e word room added. segment_added_takes names p.at lists fields e fit word room added) l.2
 
-segments_is : (names lists : List (List ℕ)) (p : Place) → segments_step names lists p ≡ (line_at p >>= λ l. segments_by names lists p.at (fields_of l.0) l.1)
-unfolding segments_step
-segments_is names lists p = refl
-
 -- after some lists jobs may stand
 may_stand : (done : List (List ℕ)) (last : List ℕ) → is_segment_word (done ++ last ∷ []) (codes "job") ≡ true
 may_stand [] last = refl
@@ -197,15 +185,15 @@ module _ (names : List (List ℕ)) (apart : AreDistinct names) (spelled : All Is
       → length (segment_lines names (done ++ last ∷ [])) + length (job_lines names jobs ++ segment_lines names lists) ≤ MOST_LINES
       → GetsLines (segments_step names) None (done ++ last ∷ []) (record { at = at; rest = (lines_text (job_lines names jobs ++ segment_lines names lists) ++ end_text) ++ rest })
       (done ++ (last ++ jobs) ∷ lists) rest
-  unfolding segment_added
+  unfolding segment_added segments_step
   lists_again [] [] done last at rest inside here room =
-      let g = end_on (segments_step names) (segments_by names) (segments_is names) (done ++ last ∷ []) at rest (λ q. may_end names (done ++ last ∷ []) at q) in
+      let g = end_on (segments_step names) (segments_by names) (λ d p. refl) (done ++ last ∷ []) at rest (λ q. may_end names (done ++ last ∷ []) at q) in
       subst (λ (js : List ℕ). GetsLines (segments_step names) None (done ++ last ∷ []) (record { at = at; rest = end_text ++ rest }) (done ++ js ∷ []) rest) (sym (append-nil last)) g
   lists_again (jobs ∷ lists) [] done last at rest inside here room =
       let now = done ++ last ∷ [] in
       let more = job_lines names jobs ++ segment_lines names lists in
       let next = begin_lines names now in
-      line_on (segments_step names) (segments_by names) (segments_is names)
+      line_on (segments_step names) (segments_by names) (λ d p. refl)
       now (now ++ [] ∷ []) (done ++ (last ++ []) ∷ jobs ∷ lists) (codes "segment") [] more at rest (record { no_space = refl; no_line_feed = refl }, tt)
       (λ q. may_again (length (segment_lines names now)) true (segment_added names (codes "segment")) now (now ++ [] ∷ []) at (codes "segment" ∷ []) q refl (omega (arith, room)) refl)
       (λ at.
@@ -219,7 +207,7 @@ module _ (names : List (List ℕ)) (apart : AreDistinct names) (spelled : All Is
       let h = All-head (λ k. k < length names) j jobs here in
       let next = push_lines names done last j in
       let last_is = with_job_last done last j in
-      line_on (segments_step names) (segments_by names) (segments_is names)
+      line_on (segments_step names) (segments_by names) (λ d p. refl)
       now (with_job now j) (done ++ (last ++ j ∷ jobs) ∷ lists) (codes "job") (name_at names j ∷ []) more at rest (job_fields names apart spelled j h)
       (λ q. may_again (length (segment_lines names now)) (is_segment_word now (codes "job")) (segment_added names (codes "job")) now
       (with_job now j) at (job_line names j) q (may_stand done last) (omega (arith, room)) (bind_again _ _ _ _ (job_again names apart spelled at j h) refl))
@@ -234,13 +222,13 @@ module _ (names : List (List ℕ)) (apart : AreDistinct names) (spelled : All Is
 
   pub segments_again : (lists : List (List ℕ)) (at : ℕ) (rest : List ℕ) → All (AreJobs names) lists → length (segment_lines names lists) ≤ MOST_LINES
       → Gets (segments_from names (record { at = at; rest = (lines_text (segment_lines names lists) ++ end_text) ++ rest })) lists rest
-  unfolding segment_added
+  unfolding segment_added segments_step
   segments_again [] at rest inside room =
-      let l = last_on (segments_step names) (segments_by names) (segments_is names) [] at rest (λ q. refl) in
+      let l = last_on (segments_step names) (segments_by names) (λ d p. refl) [] at rest (λ q. refl) in
       (l.0, bind_again _ (goes_on None (lines_from (segments_step names))) _ _ l.1 refl)
   segments_again (jobs ∷ lists) at rest inside room =
       let more = job_lines names jobs ++ segment_lines names lists in
-      let l = step_on (segments_step names) (segments_by names) (segments_is names) [] ([] ∷ []) (codes "segment") [] more at rest (record { no_space = refl; no_line_feed = refl }, tt)
+      let l = step_on (segments_step names) (segments_by names) (λ d p. refl) [] ([] ∷ []) (codes "segment") [] more at rest (record { no_space = refl; no_line_feed = refl }, tt)
       (λ q. may_again 0 true (segment_added names (codes "segment")) [] ([] ∷ []) at (codes "segment" ∷ []) q refl (omega arith) refl) in
       let g = lists_again lists jobs [] [] l.0 rest (All-tail (AreJobs names) jobs lists inside) (All-head (AreJobs names) jobs lists inside) (omega (arith, room)) _ (omega arith) in
       (g.0, bind_again _ (goes_on None (lines_from (segments_step names))) _ _ l.1 g.1)

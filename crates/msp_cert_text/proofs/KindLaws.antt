@@ -124,17 +124,14 @@ module _ {A : Type 0} (step : A → Place → Result (LineRead A) FileFault) (by
       line_gets step None d _ (more_read e (record { at = l.0; rest = (lines_text lines ++ end_text) ++ rest })) x rest l.1 (λ n enough. on l.0 n (omega (arith, enough, l.2)))
 
 -- what one line more adds
-abbrev read_of : {A : Type 0} → LineRead A → A
-read_of (job_read e q) = e
-read_of (more_read e q) = e
-read_of (end_read e q) = e
-
 pub kind_more : {A : Type 0} (before : ℕ) (may : Bool) (add : ℕ → A → List (List ℕ) → Result A FileFault) (d e : A) (at : ℕ) (fields : List (List ℕ)) (q r : Place)
     → kind_step before may add d at fields q ≡ Ok (more_read e r) → add at d (others_of fields) ≡ Ok e
 kind_more before true add d e at fields q r h =
     let l = bind_ok (provided (nat_lt before MOST_LINES) (Limit at what.Lines) (add at d (others_of fields))) _ (more_read e r) h in
     let a = provided_ok (nat_lt before MOST_LINES) (Limit at what.Lines) (add at d (others_of fields)) l.0 l.1 in
-    a.1 ∙ ap (λ x. Ok (read_of x)) (ok_is (more_read l.0 q) (more_read e r) l.2)
+    let same = ok_is (more_read l.0 q) (more_read e r) l.2 in
+    let is : l.0 ≡ e = cc in
+    a.1 ∙ ap Ok is
 kind_more before false add d e at fields q r h =
     let a = provided_ok (bytes_eq (first_of fields) (codes "end")) (Line at) _ (more_read e r) h in
     let b = provided_ok _ (Count at) (Ok (end_read d q)) (more_read e r) a.1 in

@@ -60,21 +60,22 @@ numbered_length word spell (name ∷ names) (x ∷ xs) h = ap suc (numbered_leng
 
 -- ---- single lines
 
--- the value in the one field of a line
-field_value : {A : Type 0} (word : List ℕ) (read : List ℕ → Result A FileFault) (p : Place) (x : A × Place) → (field_line_at word p >>= λ l. read l.0 >>= λ a. Ok (a, l.1)) ≡ Ok x
-    → (w : List ℕ) × (read w ≡ Ok x.0) × Takes p (line_text (word ∷ w ∷ [])) x.1
-field_value word read p x e =
+-- the value in the one field of a line, where a field is read as what it spells
+pub value_takes : {A : Type 0} (word : List ℕ) (read : List ℕ → Result A FileFault) (spell : A → List ℕ) (Good : A → Type 0) (p : Place) (x : A × Place)
+    → ((w : List ℕ) (a : A) → read w ≡ Ok a → (w ≡ spell a) × Good a) → (field_line_at word p >>= λ l. read l.0 >>= λ a. Ok (a, l.1)) ≡ Ok x
+    → Takes p (line_text (word ∷ spell x.0 ∷ [])) x.1 × Good x.0
+value_takes word read spell Good p x takes e =
     let l = bind_ok (field_line_at word p) _ x e in
     let a = bind_ok (read l.0.0) _ x l.2 in
-    subst (λ y. (w : List ℕ) × (read w ≡ Ok y.0) × Takes p (line_text (word ∷ w ∷ [])) y.1) (ok_is (a.0, l.0.1) x a.2) (l.0.0, a.1, field_line_takes word p l.0 l.1)
+    let t = takes l.0.0 a.0 a.1 in
+    subst (λ y. Takes p (line_text (word ∷ spell y.0 ∷ [])) y.1 × Good y.0) (ok_is (a.0, l.0.1) x a.2)
+    (subst (λ (w : List ℕ). Takes p (line_text (word ∷ w ∷ [])) l.0.1) t.0 (field_line_takes word p l.0 l.1), t.1)
 
 machine_takes : (machines : ℕ) (p : Place) (x : ℕ × Place)
     → machines < 10 ^ 64 → machine_line_at machines p ≡ Ok x → Takes p (line_text (codes "machine" ∷ decimal (x.0 + 1) ∷ [])) x.1 × (x.0 < machines)
 unfolding machine_line_at
-machine_takes machines p x small e =
-    let f = field_value (codes "machine") (machine_at p.at machines) p x e in
-    let t = ordinal_takes p.at what.Machines machines f.0 x.0 small f.1 in
-    (subst (λ (w : List ℕ). Takes p (line_text (codes "machine" ∷ w ∷ [])) x.1) t.0 f.2, t.1)
+machine_takes machines p x small = value_takes (codes "machine") (machine_at p.at machines) (λ m. decimal (m + 1)) (λ m. m < machines)
+    p x (λ w m. ordinal_takes p.at what.Machines machines w m small)
 
 machine_again : (machines m at : ℕ) (rest : List ℕ) → machines < 10 ^ 64
     → m < machines → Gets (machine_line_at machines (record { at = at; rest = line_text (codes "machine" ∷ decimal (m + 1) ∷ []) ++ rest })) m rest
@@ -85,10 +86,7 @@ machine_again machines m at rest small h =
 
 job_takes : (names : List (List ℕ)) (p : Place) (x : ℕ × Place) → job_line_of names p ≡ Ok x → Takes p (line_text (codes "job" ∷ name_at names x.0 ∷ [])) x.1 × (x.0 < length names)
 unfolding job_line_of
-job_takes names p x e =
-    let f = field_value (codes "job") (known_at p.at names) p x e in
-    let t = known_takes p.at names f.0 x.0 f.1 in
-    (subst (λ (w : List ℕ). Takes p (line_text (codes "job" ∷ w ∷ [])) x.1) t.0 f.2, t.1)
+job_takes names p x = value_takes (codes "job") (known_at p.at names) (name_at names) (λ j. j < length names) p x (known_takes p.at names)
 
 job_again : (names : List (List ℕ)) (j at : ℕ) (rest : List ℕ) → AreDistinct names → All IsJobName names
     → j < length names → Gets (job_line_of names (record { at = at; rest = line_text (codes "job" ∷ name_at names j ∷ []) ++ rest })) j rest
@@ -99,10 +97,8 @@ job_again names j at rest apart spelled h =
 
 tail_takes : (p : Place) (x : ℕ × Place) → tail_at p ≡ Ok x → Takes p (line_text (codes "tail" ∷ decimal x.0 ∷ [])) x.1 × (x.0 ≤ GREATEST_LEVEL)
 unfolding tail_at
-tail_takes p x e =
-    let f = field_value (codes "tail") (natural_at p.at what.Level 0 GREATEST_LEVEL) p x e in
-    let t = level_read.takes p.at f.0 x.0 f.1 in
-    (subst (λ (w : List ℕ). Takes p (line_text (codes "tail" ∷ w ∷ [])) x.1) t.0 f.2, t.1)
+tail_takes p x =
+    value_takes (codes "tail") (natural_at p.at what.Level 0 GREATEST_LEVEL) decimal (λ t. t ≤ GREATEST_LEVEL) p x (level_read.takes p.at)
 
 tail_again : (t at : ℕ) (rest : List ℕ) → t ≤ GREATEST_LEVEL → Gets (tail_at (record { at = at; rest = line_text (codes "tail" ∷ decimal t ∷ []) ++ rest })) t rest
 unfolding tail_at
@@ -128,11 +124,9 @@ after_lines p q r a b t u =
     subst (λ (text : List ℕ). Takes p text r) (sym (append_assoc (lines_text a) (lines_text b) end_text) ∙ ap (λ text. text ++ end_text) (sym (lines_text-append a b)))
     (Takes-then p q r (lines_text a) (lines_text b ++ end_text) t u)
 
-one_line_text : (w : List (List ℕ)) → lines_text (w ∷ []) ≡ line_text w
-one_line_text w = append-nil (line_text w)
-
 then_end : (p q r : Place) (w : List (List ℕ)) → Takes p (line_text w) q → Takes q end_text r → Takes p (lines_text (w ∷ []) ++ end_text) r
-then_end p q r w t u = subst (λ (text : List ℕ). Takes p (text ++ end_text) r) (sym (one_line_text w)) (Takes-then p q r (line_text w) end_text t u)
+then_end p q r w t u =
+    subst (λ (text : List ℕ). Takes p (text ++ end_text) r) (sym (append-nil (line_text w))) (Takes-then p q r (line_text w) end_text t u)
 
 module _ (names : List (List ℕ)) (machines : ℕ) (named : length names < 10 ^ 64) (small : machines < 10 ^ 64) where
   jobs_say : (before : ℕ) (p : Place) (x : List ℕ × Place) → before ≤ MOST_LINES
@@ -142,35 +136,26 @@ module _ (names : List (List ℕ)) (machines : ℕ) (named : length names < 10 ^
       (AreJobLines names before) (jobs_takes names before) [] p x (record { inside = All-nil (λ j. j < length names); few = omega arith }) e in
       (taken_text (job_lines names) (AreJobLines names before) [] x.0 p x.1 refl t, t.fit)
 
-  group_says : (p : Place) (y : Proof × Place) → group_proof names p ≡ Ok y → SaysProof names machines kind.Group p y.0 y.1
-  unfolding group_proof
-  group_says p y h =
+  pub proof_says : (k : Kind) (p : Place) (y : Proof × Place) → proof_at names machines k p ≡ Ok y → SaysProof names machines k p y.0 y.1
+  unfolding group_proof machine_proof line_proof levels_proof segments_proof block_proof prices_proof
+  proof_says kind.Group p y h =
       let l = bind_ok (lines_from (jobs_step names 0) [] p) _ y h in
       let t = jobs_say 0 p l.0 (omega arith) l.1 in
       subst (λ (z : Proof × Place). SaysProof names machines kind.Group p z.0 z.1) (ok_is (proof.Group l.0.0, l.0.1) y l.2)
       (record { is = refl; text = t.0; few = omega (arith, t.1.few, length-map l.0.0 (λ j. codes "job" ∷ name_at names j ∷ [])); numbers = t.1.inside })
-
-  machine_says : (p : Place) (y : Proof × Place) → machine_proof machines p ≡ Ok y → SaysProof names machines kind.Machine p y.0 y.1
-  unfolding machine_proof
-  machine_says p y h =
+  proof_says kind.Machine p y h =
       let m = bind_ok (machine_line_at machines p) _ y h in
       let e = bind_ok (word_line_at (codes "end") m.0.1) _ y m.2 in
       let t = machine_takes machines p m.0 small m.1 in
       subst (λ (z : Proof × Place). SaysProof names machines kind.Machine p z.0 z.1) (ok_is (proof.Machine m.0.0, e.0) y e.2)
       (record { is = refl; text = then_end p m.0.1 e.0 (codes "machine" ∷ decimal (m.0.0 + 1) ∷ []) t.0 (word_line_takes (codes "end") m.0.1 e.0 e.1); few = omega arith; numbers = t.1 })
-
-  line_says : (p : Place) (y : Proof × Place) → line_proof names p ≡ Ok y → SaysProof names machines kind.Line p y.0 y.1
-  unfolding line_proof
-  line_says p y h =
+  proof_says kind.Line p y h =
       let j = bind_ok (job_line_of names p) _ y h in
       let e = bind_ok (word_line_at (codes "end") j.0.1) _ y j.2 in
       let t = job_takes names p j.0 j.1 in
       subst (λ (z : Proof × Place). SaysProof names machines kind.Line p z.0 z.1) (ok_is (proof.Line j.0.0, e.0) y e.2)
       (record { is = refl; text = then_end p j.0.1 e.0 (codes "job" ∷ name_at names j.0.0 ∷ []) t.0 (word_line_takes (codes "end") j.0.1 e.0 e.1); few = omega arith; numbers = t.1 })
-
-  levels_say : (p : Place) (y : Proof × Place) → levels_proof names p ≡ Ok y → SaysProof names machines kind.Levels p y.0 y.1
-  unfolding levels_proof
-  levels_say p y h =
+  proof_says kind.Levels p y h =
       let t = bind_ok (tail_at p) _ y h in
       let l = bind_ok (numbers_at level_at (codes "level") 1 [] names t.0.1) _ y t.2 in
       let e = bind_ok (word_line_at (codes "end") l.0.1) _ y l.2 in
@@ -185,19 +170,13 @@ module _ (names : List (List ℕ)) (machines : ℕ) (named : length names < 10 ^
         few = omega (arith, numbered_length (codes "level") decimal names l.0.0 says.each, says.room);
         numbers = (says.each, says.good, tail.1);
       })
-
-  segments_say : (p : Place) (y : Proof × Place) → segments_proof names p ≡ Ok y → SaysProof names machines kind.Segments p y.0 y.1
-  unfolding segments_proof
-  segments_say p y h =
+  proof_says kind.Segments p y h =
       let l = bind_ok (segments_from names p) _ y h in
       let t = more_first (segments_step names) (segment_lines names) (AreListLines names)
       (segments_takes names) [] p l.0 (record { inside = All-nil (λ jobs. All (λ j. j < length names) jobs); few = omega arith }) l.1 in
       subst (λ (z : Proof × Place). SaysProof names machines kind.Segments p z.0 z.1) (ok_is (proof.Segments l.0.0, l.0.1) y l.2)
       (record { is = refl; text = taken_text (segment_lines names) (AreListLines names) [] l.0.0 p l.0.1 refl t; few = t.fit.few; numbers = t.fit.inside })
-
-  block_says : (p : Place) (y : Proof × Place) → block_proof names p ≡ Ok y → SaysProof names machines kind.Block p y.0 y.1
-  unfolding block_proof
-  block_says p y h =
+  proof_says kind.Block p y h =
       let n = bind_ok (numbers_at head_at (codes "head") 0 [] names p) _ y h in
       let l = bind_ok (lines_from (jobs_step names (length n.0.0)) [] n.0.1) _ y n.2 in
       let says = numbers_said head_at decimal (λ h. h ≤ GREATEST_HEAD) head_read (codes "head") 0 names p n.0 (omega arith) n.1 in
@@ -215,10 +194,7 @@ module _ (names : List (List ℕ)) (machines : ℕ) (named : length names < 10 ^
         );
         numbers = (says.each, says.good, t.1.inside);
       })
-
-  prices_say : (p : Place) (y : Proof × Place) → prices_proof names machines p ≡ Ok y → SaysProof names machines kind.Prices p y.0 y.1
-  unfolding prices_proof
-  prices_say p y h =
+  proof_says kind.Prices p y h =
       let n = bind_ok (numbers_at price_at (codes "row") 0 [] names p) _ y h in
       let l = bind_ok (lines_from (columns_step (length names) machines (length n.0.0)) [] n.0.1) _ y n.2 in
       let says = numbers_said price_at signed_decimal (LiesWithin GREATEST_PRICE) price_read (codes "row") 0 names p n.0 (omega arith) n.1 in
@@ -238,15 +214,6 @@ module _ (names : List (List ℕ)) (machines : ℕ) (named : length names < 10 ^
         few = omega (arith, t.fit.few, ap length lines, length-append rows (column_lines jobs 0 column), numbered_length (codes "row") signed_decimal names n.0.0 says.each);
         numbers = (says.each, says.good, length-filled (machines * jobs) l.0.0 t.fit.inside, all_filled jobs machines named small (machines * jobs) l.0.0 t.fit.prices);
       })
-
-  pub proof_says : (k : Kind) (p : Place) (y : Proof × Place) → proof_at names machines k p ≡ Ok y → SaysProof names machines k p y.0 y.1
-  proof_says kind.Group p y h = group_says p y h
-  proof_says kind.Machine p y h = machine_says p y h
-  proof_says kind.Line p y h = line_says p y h
-  proof_says kind.Levels p y h = levels_say p y h
-  proof_says kind.Segments p y h = segments_say p y h
-  proof_says kind.Block p y h = block_says p y h
-  proof_says kind.Prices p y h = prices_say p y h
 
 -- ---- the text of a proof is read as it
 

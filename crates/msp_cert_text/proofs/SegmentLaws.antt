@@ -1,5 +1,6 @@
 -- Lists of jobs: a list that begins, and a job that comes to the last one.
-use Rattle.std.proofs.Common.{◌≡◌, ℕ, ◌+◌, List, [], ◌∷◌, ◌++◌, length, None, Result, Ok, Err, refl, sym, ap, ◌∙◌, append_assoc, length-append, codes}
+use Rattle.std.proofs.Common.{◌≡◌, ℕ, ◌+◌, List, [], ◌∷◌, ◌++◌, length, None, Result, Ok, refl, sym, ap, ◌∙◌, append_assoc, length-append, codes}
+use Rattle.std.proofs.lemmas.List.{map-append}
 use Rattle.msp_class.proofs.Lists.{flat_map_push}
 use Rattle.msp_grammar.specs.declared.lines.fault.FileFault.{FileFault}
 use Rattle.msp_grammar.specs.declared.lines.fault.FileFault.TheVariants.{Memory}
@@ -22,8 +23,7 @@ pub begin_lines : (names lists : List (List ℕ)) → segment_lines names (lists
 begin_lines names lists = begun_lines names lists []
 
 pub job_lines-push : (names : List (List ℕ)) (jobs : List ℕ) (j : ℕ) → job_lines names (jobs ++ j ∷ []) ≡ job_lines names jobs ++ job_line names j ∷ []
-job_lines-push names [] j = refl
-job_lines-push names (k ∷ jobs) j = ap (λ lines. job_line names k ∷ lines) (job_lines-push names jobs j)
+job_lines-push names jobs j = map-append (job_line names) jobs (j ∷ [])
 
 pub push_lines : (names done : List (List ℕ)) (last : List ℕ) (j : ℕ) → segment_lines names (with_job (done ++ last ∷ []) j) ≡ segment_lines names (done ++ last ∷ []) ++ job_line names j ∷ []
 push_lines names done last j =

@@ -20,15 +20,15 @@ use Rattle.msp_cert_text.specs.CertificateText.{kind_of, kind_word, kind_lines, 
 use Rattle.msp_cert_text.specs.Reading.{kind_in, kind_at, proof_at, said_of, evidence_at, certified_at, certificate_at, ReadsCertificate}
 use Rattle.msp_cert_text.specs.Answers.{IsCertificateFaultOf, IsCertificateFault}
 use Rattle.msp_grammar.specs.lines.Answers.{Fails, Gives}
-use Rattle.msp_grammar.specs.lines.Reading.{◌>>=◌, Place, word_line_at, field_line_at, all_of}
+use Rattle.msp_grammar.specs.lines.Reading.{◌>>=◌, Place, word_line_at, all_of}
 use Rattle.msp_grammar.specs.lines.Costs.{cost_line_at}
 use Rattle.msp_grammar.specs.lines.Steps.{parts_of}
 use Rattle.msp_grammar.proofs.reading.LineLaws.{bind_ok, provided_ok, reads, ok_is, bind_again, Takes, Gets, Takes-then, IsField, word_line_takes, word_line_again}
-use Rattle.msp_grammar.proofs.reading.LineLaws.{field_line_takes, field_line_again, end_text, spread}
+use Rattle.msp_grammar.proofs.reading.LineLaws.{field_line_again, end_text, spread}
 use Rattle.msp_grammar.proofs.reading.FieldLaws.{ok_some}
 use Rattle.msp_grammar.proofs.reading.CostLaws.{IsCostWithin, with_place, cost_line_takes, cost_line_again}
 use Rattle.msp_cert_text.proofs.CertificatePrinting.{printed}
-use Rattle.msp_cert_text.proofs.KindTexts.{proof_says, proof_again}
+use Rattle.msp_cert_text.proofs.KindTexts.{value_takes, proof_says, proof_again}
 use Rattle.msp_cert_text.proofs.LineFaults.{certificate_faults}
 use Rattle.msp_cert_text.proofs.Readings.{Said, certificate_same}
 
@@ -67,12 +67,8 @@ kind_field _ = record { no_space = refl; no_line_feed = refl }
 
 kind_takes : (p : Place) (x : Kind × Place) → kind_at p ≡ Ok x → Takes p (line_text (codes "kind" ∷ kind_word x.0 ∷ [])) x.1
 unfolding kind_at
-kind_takes p x e =
-    let l = bind_ok (field_line_at (codes "kind") p) _ x e in
-    let k = bind_ok (ok_or (kind_in l.0.0) (Key p.at)) _ x l.2 in
-    let word = kind_is l.0.0 k.0 (ok_some (kind_in l.0.0) (Key p.at) k.0 k.1) in
-    subst (λ (y : Kind × Place). Takes p (line_text (codes "kind" ∷ kind_word y.0 ∷ [])) y.1) (ok_is (k.0, l.0.1) x k.2)
-    (subst (λ (w : List ℕ). Takes p (line_text (codes "kind" ∷ w ∷ [])) l.0.1) word (field_line_takes (codes "kind") p l.0 l.1))
+kind_takes p x e = (value_takes (codes "kind") (λ w. ok_or (kind_in w) (Key p.at)) kind_word (λ k. k ≡ k) p x
+    (λ w k e. (kind_is w k (ok_some (kind_in w) (Key p.at) k e), refl)) e).0
 
 kind_line_again : (k : Kind) (at : ℕ) (rest : List ℕ) → Gets (kind_at (record { at = at; rest = line_text (codes "kind" ∷ kind_word k ∷ []) ++ rest })) k rest
 unfolding kind_at

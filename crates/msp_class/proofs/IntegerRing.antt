@@ -1,9 +1,8 @@
 -- The laws of ℤ as an ordered ring, and how it holds ℕ. Sums, differences and order alone are `omega (arith, ints)`'s.
 use Rattle.std.proofs.Common.{◌≡◌, ℕ, zero, suc, ◌+◌, ◌*◌, ◌-◌, ◌≤◌, ◌<◌, ℤ, pos, negsuc, ◌+ℤ◌, ◌-ℤ◌, ◌*ℤ◌, neg_ℤ, ◌≤ℤ◌, ◌<ℤ◌, nat_abs, ◌⊎◌, inl, inr, arith, refl, sym, ap, subst, ◌∙◌}
-use Rattle.std.proofs.lemmas.Int.{ints}
+use Rattle.std.proofs.lemmas.Int.{ints, clamps}
 use Rattle.std.specs.Int.{int_max}
 use Rattle.msp_class.proofs.Cases.{less_or_not}
-use Rattle.std.proofs.lemmas.Int.{clamps}
 use native.Mathlib.Nat.{mul-le-mul_left, mul-lt-mul_of_pos_left, le_of_mul-le-mul_left, lt_of_mul-lt-mul_left}
 use borrow.Author.Differences.{up, down, product_is, sum_is_lem, neg_is, le_out, lt_out, at_most_in, below_in}
 pub use lib.IntN.{+ℤ_assoc, +ℤ_comm, +ℤ_idl, +ℤ_idr, +ℤ_invl, +ℤ_invr, neg_ℤ-+ℤ, neg_ℤ-neg_ℤ, pos-+ℤ-pos, pos-*ℤ-pos, zero-*ℤ, *ℤ-zero, *ℤ_comm, ℤ_discrete, ℤ_set}
@@ -53,9 +52,6 @@ pub ≤ℤ_of_same : {a b : ℤ} → a ≡ b → a ≤ℤ b
 
 pub ≤ℤ_trans : {a b c : ℤ} → a ≤ℤ b → b ≤ℤ c → a ≤ℤ c
 ≤ℤ_trans {a} {b} {c} h k = omega (arith, ints)
-
-pub <ℤ-≤ℤ : {a b c : ℤ} → a <ℤ b → b ≤ℤ c → a <ℤ c
-<ℤ-≤ℤ {a} {b} {c} h k = omega (arith, ints)
 
 pub ≤ℤ-<ℤ : {a b c : ℤ} → a ≤ℤ b → b <ℤ c → a <ℤ c
 ≤ℤ-<ℤ {a} {b} {c} h k = omega (arith, ints)
@@ -167,6 +163,6 @@ int_max_mono {a} {b} {c} {d} h k = int_max-least (≤ℤ_trans h (≤ℤ-int_max
 -- a natural factor goes into it
 pub *ℤ-int_max : (n : ℕ) (a b : ℤ) → pos n *ℤ int_max a b ≡ int_max (pos n *ℤ a) (pos n *ℤ b)
 *ℤ-int_max n a b = elim (≤ℤ_total a b) [
-  | inl h ↦ ap (λ x. pos n *ℤ x) (int_max-right a b h) ∙ sym (int_max-right (pos n *ℤ a) (pos n *ℤ b) (*ℤ-mono n h))
-  | inr h ↦ ap (λ x. pos n *ℤ x) (int_max-left a b (<ℤ_weak h)) ∙ sym (int_max-left (pos n *ℤ a) (pos n *ℤ b) (*ℤ-mono n (<ℤ_weak h)))
+  | inl h ↦ omega (arith, ints, clamps, ap (λ x. pos n *ℤ x) (int_max-right a b h), *ℤ-mono n h)
+  | inr h ↦ omega (arith, ints, clamps, ap (λ x. pos n *ℤ x) (int_max-left a b (<ℤ_weak h)), *ℤ-mono n (<ℤ_weak h))
 ]

@@ -1,35 +1,27 @@
 -- A condition as a factor, and finite sums of natural numbers over a list (std's `sum_by`).
 use Rattle.std.proofs.Common.{◌≡◌, ℕ, zero, suc, ◌+◌, ◌*◌, ◌≤◌, ◌<◌, Bool, true, false, cond, eqb, ◌≢◌, List, [], ◌∷◌, map, length, get_or, take, All}
-use Rattle.std.proofs.Common.{Contains, filter, sum_by, arith, refl, sym, ap, subst, ◌∙◌}
+use Rattle.std.proofs.Common.{Contains, filter, sum_by, arith, refl, sym, ap, subst, ◌∙◌, inl, inr}
 use Rattle.std.proofs.lemmas.List.Sums.{sum_by-cons, sum_by_push}
 use Rattle.std.proofs.lemmas.List.Elements.{All-head, All-tail, All-contains, All-filter, All-contains_itself, filter_passes}
 use Rattle.std.proofs.lemmas.List.{take_more}
-use Rattle.std.proofs.lemmas.Bool.{eqb-true, eqb-false, eq-eqb, ne_eqb}
+use Rattle.std.proofs.lemmas.Bool.Decides.{nat_tests}
+use Rattle.std.proofs.lemmas.Bool.{cases_lt, cond_both}
 
 -- ---- a condition as a factor: x where b, else 0
 pub cond-zero : (b : Bool) {n : ℕ} → n ≡ 0 → cond b n 0 ≡ 0
-cond-zero true e = e
-cond-zero false e = omega arith
+cond-zero b e = grind arith
 
 pub cond-le : (b : Bool) (n : ℕ) → cond b n 0 ≤ n
-cond-le true n = omega arith
-cond-le false n = omega arith
-
-pub cond-add : (b : Bool) (m n : ℕ) → cond b (m + n) 0 ≡ cond b m 0 + cond b n 0
-cond-add true m n = refl
-cond-add false m n = omega arith
+cond-le b n = grind arith
 
 pub cond-scale : (b : Bool) (k n : ℕ) → cond b (k * n) 0 ≡ k * cond b n 0
-cond-scale true k n = refl
-cond-scale false k n = omega arith
+cond-scale b k n = grind arith
 
 pub cond-count : (b : Bool) (n : ℕ) → cond b n 0 ≡ n * cond b 1 0
-cond-count true n = omega arith
-cond-count false n = omega arith
+cond-count b n = grind arith
 
 pub cond-mono : (b : Bool) {m n : ℕ} → m ≤ n → cond b m 0 ≤ cond b n 0
-cond-mono true h = h
-cond-mono false h = omega arith
+cond-mono b h = grind arith
 
 pub cond-yes : {b : Bool} (n : ℕ) → b ≡ true → cond b n 0 ≡ n
 cond-yes n e = ap (λ c. cond c n 0) e
@@ -38,11 +30,7 @@ pub cond-no : {b : Bool} (n : ℕ) → b ≡ false → cond b n 0 ≡ 0
 cond-no n e = ap (λ c. cond c n 0) e
 
 pub eqb_comm : (m n : ℕ) → eqb m n ≡ eqb n m
-eqb_comm m n = by (eqb n m) refl
-  where
-    by : (b : Bool) → eqb n m ≡ b → eqb m n ≡ b
-    by true e = eq-eqb m n (sym (eqb-true n m e))
-    by false e = ne_eqb m n (λ q. eqb-false n m e (sym q))
+eqb_comm m n = grind (arith, nat_tests)
 
 -- ---- over a list
 module _ {X : Type 0} where
@@ -80,11 +68,11 @@ module _ {X : Type 0} where
 
   pub sum_by-filter : (f : X → ℕ) (p : X → Bool) (xs : List X) → sum_by f (filter p xs) ≡ sum_by (λ x. cond (p x) (f x) 0) xs
   sum_by-filter f p [] = refl
-  sum_by-filter f p (x ∷ xs) = omega (arith, by (p x), sum_by-cons (λ y. cond (p y) (f y) 0) x xs, sum_by-filter f p xs)
-    where
-      by : (b : Bool) → sum_by f (cond b (x ∷ filter p xs) (filter p xs)) ≡ cond b (f x) 0 + sum_by f (filter p xs)
-      by true = sum_by-cons f x (filter p xs)
-      by false = omega arith
+  sum_by-filter f p (x ∷ xs) =
+      let ys = filter p xs in
+      let both = elim (p x) as (λ b. sum_by f (cond b (x ∷ ys) ys) ≡ cond b (f x) 0 + sum_by f ys)
+      [ true ↦ sum_by-cons f x ys | false ↦ omega arith ] in
+      omega (arith, both, sum_by-cons (λ y. cond (p y) (f y) 0) x xs, sum_by-filter f p xs)
 
   -- a term is at most the sum
   pub sum_by-contains : (f : X → ℕ) (xs : List X) (x : X) → Contains xs x → f x ≤ sum_by f xs
@@ -95,11 +83,10 @@ module _ {X : Type 0} where
   -- a sum that is not 0 has a term that is not
   pub sum_by-some : (f : X → ℕ) (xs : List X) → 0 < sum_by f xs → (x : X) × Contains xs x × (0 < f x)
   sum_by-some f [] h = absurd (omega arith)
-  sum_by-some f (y ∷ ys) h = by (f y) refl (sum_by-some f ys)
-    where
-      by : (n : ℕ) → f y ≡ n → (0 < sum_by f ys → (x : X) × Contains ys x × (0 < f x)) → (x : X) × Contains (y ∷ ys) x × (0 < f x)
-      by zero e later = let (x, c, p) = later (omega (arith, sum_by-cons f y ys)) in (x, (suc c.0, omega (arith, c.1), c.2), p)
-      by (suc n) e later = (y, (0, omega arith, refl), omega arith)
+  sum_by-some f (y ∷ ys) h = elim (cases_lt 0 (f y)) [
+    | inl some ↦ (y, (0, omega arith, refl), some)
+    | inr z ↦ let (x, c, p) = sum_by-some f ys (omega (arith, sum_by-cons f y ys)) in (x, (suc c.0, omega (arith, c.1), c.2), p)
+  ]
 
   pub Contains-tail : (x : X) (xs : List X) (y : X) → Contains (x ∷ xs) y → (x ≢ y) → Contains xs y
   Contains-tail x xs y (zero, l, e) n = absurd (n e)
@@ -109,11 +96,9 @@ module _ {X : Type 0} where
   pub Contains-filter : (p : X → Bool) (xs : List X) (x : X) → Contains xs x → p x ≡ true → Contains (filter p xs) x
   Contains-filter p [] x c e = absurd (omega (arith, c.1))
   Contains-filter p (y ∷ ys) x (zero, l, s) e = subst (λ b. Contains (cond b (y ∷ filter p ys) (filter p ys)) x) (sym (ap p s ∙ e)) (0, omega arith, s)
-  Contains-filter p (y ∷ ys) x (suc k, l, s) e = by (p y) (Contains-filter p ys x (k, omega arith, s) e)
-    where
-      by : (b : Bool) → Contains (filter p ys) x → Contains (cond b (y ∷ filter p ys) (filter p ys)) x
-      by true c = (suc c.0, omega (arith, c.1), c.2)
-      by false c = c
+  Contains-filter p (y ∷ ys) x (suc k, l, s) e =
+      let c = Contains-filter p ys x (k, omega arith, s) e in
+      cond_both (p y) (y ∷ filter p ys) (filter p ys) (λ zs. Contains zs x) (λ _. (suc c.0, omega (arith, c.1), c.2)) (λ _. c)
 
   pub Contains-from_filter : (p : X → Bool) (xs : List X) (x : X) → Contains (filter p xs) x → Contains xs x × (p x ≡ true)
   Contains-from_filter p xs x c =
@@ -123,8 +108,3 @@ module _ {X Y : Type 0} where
   pub sum_by-map : (f : Y → ℕ) (g : X → Y) (xs : List X) → sum_by f (map g xs) ≡ sum_by (λ x. f (g x)) xs
   sum_by-map f g [] = refl
   sum_by-map f g (x ∷ xs) = omega (arith, sum_by-cons f (g x) (map g xs), sum_by-cons (λ y. f (g y)) x xs, sum_by-map f g xs)
-
-  pub sum_by-exchange : (h : X → Y → ℕ) (xs : List X) (ys : List Y) → sum_by (λ x. sum_by (λ y. h x y) ys) xs ≡ sum_by (λ y. sum_by (λ x. h x y) xs) ys
-  sum_by-exchange h [] ys = sym (sum_by-none (λ _. 0) ys (λ k d l. refl))
-  sum_by-exchange h (x ∷ xs) ys = sum_by-cons (λ z. sum_by (λ y. h z y) ys) x xs ∙ ap (λ n. sum_by (λ y. h x y) ys + n) (sum_by-exchange h xs ys)
-      ∙ sym (sum_by-agree (λ y. sum_by (λ z. h z y) (x ∷ xs)) (λ y. h x y + sum_by (λ z. h z y) xs) ys (λ y. sum_by-cons (λ z. h z y) x xs) ∙ sum_by-add (λ y. h x y) (λ y. sum_by (λ z. h z y) xs) ys)

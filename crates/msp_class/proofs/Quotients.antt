@@ -1,7 +1,7 @@
 -- Quotients and rests: a number is as many whole blocks of m as its quotient, and its rest.
-use Rattle.std.proofs.Common.{◌≡◌, ℕ, ◌+◌, ◌*◌, ◌/◌, ◌%◌, ◌<◌, ◌≤◌, ◌⊎◌, inl, inr, ap, ◌∙◌, arith}
+use Rattle.std.proofs.Common.{◌≡◌, ℕ, ◌+◌, ◌*◌, ◌/◌, ◌%◌, ◌<◌, ◌≤◌, inl, inr, ap, ◌∙◌, arith}
 use Rattle.std.proofs.Math.Nat.{add_comm, mod-add-div', mod-lt, mul-le-mul_right}
-use Rattle.std.proofs.lemmas.Bool.{cases_lt}
+use Rattle.std.proofs.lemmas.Bool.{cases_order}
 
 -- a quotient and a rest determine the number, and a number these
 pub block_and_rest : (m x : ℕ) → x / m * m + x % m ≡ x
@@ -15,9 +15,8 @@ pub lesser_block : (m p q r s : ℕ) → r < m → p < q → p * m + r < q * m +
 lesser_block m p q r s l k = omega (arith, l, mul-le-mul_right m (let h : p + 1 ≤ q = omega (arith, k) in h))
 
 pub same_block : (m p q r s : ℕ) → r < m → s < m → p * m + r ≡ q * m + s → (p ≡ q) × (r ≡ s)
-same_block m p q r s l k e = by (cases_lt p q) (cases_lt q p)
-  where
-    by : (p < q) ⊎ (q ≤ p) → (q < p) ⊎ (p ≤ q) → (p ≡ q) × (r ≡ s)
-    by (inl h) o = absurd (omega (arith, e, lesser_block m p q r s l h))
-    by (inr h) (inl o) = absurd (omega (arith, e, lesser_block m q p s r k o))
-    by (inr h) (inr o) = let f : p ≡ q = omega (arith, h, o) in (f, omega (arith, e, ap (λ x. x * m) f))
+same_block m p q r s l k e = elim (cases_order p q) [
+  | inl f ↦ (f, omega (arith, e, ap (λ x. x * m) f))
+  | inr (inl h) ↦ absurd (omega (arith, e, lesser_block m p q r s l h))
+  | inr (inr h) ↦ absurd (omega (arith, e, lesser_block m q p s r k h))
+]

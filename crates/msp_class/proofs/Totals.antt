@@ -1,18 +1,13 @@
 -- Totals of natural numbers and of integers over the numbers below n.
-use Rattle.std.proofs.Common.{◌≡◌, ℕ, zero, suc, ◌+◌, ◌*◌, ◌≤◌, ◌<◌, Bool, true, false, cond, eqb, ◌≢◌}
+use Rattle.std.proofs.Common.{◌≡◌, ℕ, zero, suc, ◌+◌, ◌*◌, ◌≤◌, ◌<◌, cond, eqb, ◌-◌, inl, inr}
 use Rattle.std.proofs.Common.{ℤ, pos, ◌+ℤ◌, ◌*ℤ◌, ◌≤ℤ◌, ap₂, arith, refl, sym, ap, ◌∙◌}
 use Rattle.std.proofs.lemmas.Int.{ints}
 use Rattle.msp_class.specs.Sums.{total_below, int_total_below}
 use Rattle.msp_class.proofs.IntegerRing.{≤ℤ_refl, +ℤ_mono, *ℤ-zero, *ℤ-add}
-use Rattle.std.proofs.lemmas.Bool.{eqb-true, eqb-false, ne_eqb}
+use Rattle.std.proofs.lemmas.Bool.{ne_eqb, cases_eq, cases_lt, eq-eqb}
 use Rattle.msp_class.proofs.ListSums.{cond-yes, cond-no}
 
 -- ---- over the numbers below n
--- whatever has these two clauses is this total
-pub total_below_unique : (t : ℕ → ℕ) (f : ℕ → ℕ) → t 0 ≡ 0 → ((n : ℕ) → t (suc n) ≡ t n + f n) → (n : ℕ) → t n ≡ total_below n f
-total_below_unique t f z s zero = z
-total_below_unique t f z s (suc n) = s n ∙ ap (λ m. m + f n) (total_below_unique t f z s n)
-
 pub total_below-mono : (n : ℕ) (f g : ℕ → ℕ) → ((i : ℕ) → i < n → f i ≤ g i) → total_below n f ≤ total_below n g
 total_below-mono zero f g h = omega arith
 total_below-mono (suc n) f g h = omega (arith, h n (omega arith), total_below-mono n f g (λ i l. h i (omega arith)))
@@ -46,54 +41,46 @@ total_below-bound n k f h = omega (arith, total_below-mono n f (λ _. k) h, tota
 -- a term is at most the total
 pub total_below-term : (n : ℕ) (f : ℕ → ℕ) (i : ℕ) → i < n → f i ≤ total_below n f
 total_below-term zero f i l = absurd (omega arith)
-total_below-term (suc n) f i l = by (eqb i n) refl (total_below-term n f i)
-  where
-    by : (b : Bool) → eqb i n ≡ b → (i < n → f i ≤ total_below n f) → f i ≤ total_below n f + f n
-    by true e later = omega (arith, ap f (eqb-true i n e))
-    by false e later = let ne : i ≢ n = eqb-false i n e in omega (arith, later (omega arith))
+total_below-term (suc n) f i l = grind (arith, total_below-term n f i)
 
 -- a total that is not 0 has a term that is not
 pub total_below-some : (n : ℕ) (f : ℕ → ℕ) → 0 < total_below n f → (i : ℕ) × (i < n) × (0 < f i)
 total_below-some zero f h = absurd (omega arith)
-total_below-some (suc n) f h = by (f n) refl (total_below-some n f)
-  where
-    by : (m : ℕ) → f n ≡ m → (0 < total_below n f → (i : ℕ) × (i < n) × (0 < f i)) → (i : ℕ) × (i < suc n) × (0 < f i)
-    by zero e later = let (i, l, p) = later (omega arith) in (i, omega arith, p)
-    by (suc m) e later = (n, omega arith, omega arith)
+total_below-some (suc n) f h = elim (cases_lt 0 (f n)) [
+  | inl some ↦ (n, omega arith, some)
+  | inr none ↦ let (i, l, p) = total_below-some n f (omega arith) in (i, omega arith, p)
+]
 
 -- equal totals of terms, none of which is the greater in the first, are equal term by term
 pub total_below-tight : (n : ℕ) (f g : ℕ → ℕ) → ((i : ℕ) → i < n → f i ≤ g i) → total_below n g ≤ total_below n f → (i : ℕ) → i < n → f i ≡ g i
 total_below-tight zero f g h t i l = absurd (omega arith)
-total_below-tight (suc n) f g h t i l = by (eqb i n) refl (total_below-tight n f g (λ k m. h k (omega arith)) (omega (arith, h n (omega arith))) i)
-  where
-    by : (b : Bool) → eqb i n ≡ b → (i < n → f i ≡ g i) → f i ≡ g i
-    by true e later = let s : i ≡ n = eqb-true i n e in omega (arith, ap f s, ap g s, h n (omega arith), total_below-mono n f g (λ k m. h k (omega arith)))
-    by false e later = let ne : i ≢ n = eqb-false i n e in later (omega arith)
+total_below-tight (suc n) f g h t i l = elim (cases_eq i n) [
+  | inl s ↦ omega (arith, ap f s, ap g s, h n (omega arith), total_below-mono n f g (λ k m. h k (omega arith)))
+  | inr ne ↦ total_below-tight n f g (λ k m. h k (omega arith)) (omega (arith, h n (omega arith))) i (omega arith)
+]
 
 -- the term at i alone
 pub total_below-only : (n : ℕ) (f : ℕ → ℕ) (i : ℕ) → i < n → total_below n (λ k. cond (eqb i k) (f k) 0) ≡ f i
 total_below-only zero f i l = absurd (omega arith)
-total_below-only (suc n) f i l = by (eqb i n) refl (total_below-only n f i)
-  where
-    by : (b : Bool) → eqb i n ≡ b → (i < n → total_below n (λ k. cond (eqb i k) (f k) 0) ≡ f i) → total_below n (λ k. cond (eqb i k) (f k) 0) + cond (eqb i n) (f n) 0 ≡ f i
-    by true e later =
-        let s : i ≡ n = eqb-true i n e in
-        omega (arith, ap f s, cond-yes (f n) e, total_below-none n (λ k. cond (eqb i k) (f k) 0) (λ k m. cond-no (f k) (ne_eqb i k (λ q. omega arith))))
-    by false e later = let ne : i ≢ n = eqb-false i n e in omega (arith, later (omega arith), cond-no (f n) e)
+total_below-only (suc n) f i l = elim (cases_eq i n) [
+  | inl s ↦
+      let none = total_below-none n (λ k. cond (eqb i k) (f k) 0) (λ k m. cond-no (f k) (ne_eqb i k (λ q. omega arith))) in
+      omega (arith, ap f s, cond-yes (f n) (eq-eqb i n s), none)
+  | inr ne ↦ omega (arith, total_below-only n f i (omega arith), cond-no (f n) (ne_eqb i n ne))
+]
 
 pub total_below-split : (m n : ℕ) (f : ℕ → ℕ) → total_below (m + n) f ≡ total_below m f + total_below n (λ i. f (m + i))
 total_below-split m zero f = ap (λ k. total_below k f) (let e : m + 0 ≡ m = omega arith in e) ∙ omega arith
 total_below-split m (suc n) f = ap (λ k. total_below k f) (let e : m + suc n ≡ suc (m + n) = omega arith in e) ∙ omega (arith, total_below-split m n f)
+
+pub total_below-within : (f : ℕ → ℕ) (k n : ℕ) → k ≤ n → total_below k f ≤ total_below n f
+total_below-within f k n l = omega (arith, ap (λ x. total_below x f) (let whole : n ≡ k + (n - k) = omega arith in whole), total_below-split k (n - k) f)
 
 pub total_below-exchange : (m n : ℕ) (h : ℕ → ℕ → ℕ) → total_below m (λ i. total_below n (λ j. h i j)) ≡ total_below n (λ j. total_below m (λ i. h i j))
 total_below-exchange zero n h = sym (total_below-constant n 0 ∙ omega arith)
 total_below-exchange (suc m) n h = ap (λ k. k + total_below n (λ j. h m j)) (total_below-exchange m n h) ∙ sym (total_below-add n (λ j. total_below m (λ i. h i j)) (λ j. h m j))
 
 -- ---- totals of integers below n
-pub int_total_below_unique : (t : ℕ → ℤ) (f : ℕ → ℤ) → t 0 ≡ pos 0 → ((n : ℕ) → t (suc n) ≡ t n +ℤ f n) → (n : ℕ) → t n ≡ int_total_below n f
-int_total_below_unique t f z s zero = z
-int_total_below_unique t f z s (suc n) = s n ∙ ap (λ m. m +ℤ f n) (int_total_below_unique t f z s n)
-
 pub int_total_below-same : (n : ℕ) (f g : ℕ → ℤ) → ((i : ℕ) → i < n → f i ≡ g i) → int_total_below n f ≡ int_total_below n g
 int_total_below-same zero f g h = refl
 int_total_below-same (suc n) f g h = ap₂ (λ x y. x +ℤ y) (int_total_below-same n f g (λ i l. h i (omega arith))) (h n (omega arith))

@@ -20,7 +20,7 @@ use Rattle.msp_closure.specs.Tables.{value_of, AreDistances}
 use Rattle.msp_closure.specs.Walk.{step_of, LeadsToValue, far_count, Raises, Advances}
 use Rattle.msp_closure.specs.declared.links.Link.{Link}
 use Rattle.msp_closure.specs.Links.{link, AreLinks}
-use Rattle.msp_closure.proofs.TableLemmas.{value_of-set_same, value_of-set_other, below_next}
+use Rattle.msp_closure.proofs.TableLemmas.{value_of-set_same, value_of-set_other, below_next, class_cases}
 
 -- during a pass a class has the level exactly where it had it before
 level_before : (usable : ℕ → Bool) (before after : List ℕ) (level : ℕ) (changed : Bool) (x : Class) → level < FAR
@@ -61,12 +61,11 @@ Raises-more usable before after level changed c small len far leads r =
         | inl same ↦ absurd (near (ap (value_of before) (rank_of-injective x c same) ∙ was_far))
         | inr apart ↦ other x apart ∙ r.keeps x near
       ];
-      reaches = λ x was near. elim (cases_eq (rank_of x) (rank_of c)) as
+      reaches = λ x was near. elim (class_cases x c) as
           (λ _. (value_of (set after (rank_of c) (level + 1)) x ≡ level + 1) × ((k : ℕ) × LeadsToValue usable before x level k)) [
-            | inl same ↦
-                let is : x ≡ c = rank_of-injective x c same in
-                let P : Class → Type 0 = λ y. LeadsToValue usable before y level leads.0 in
-                (ap (value_of (set after (rank_of c) (level + 1))) is ∙ next, (leads.0, subst P (sym is) leads.1))
+            | inl is ↦
+                let leads_on = subst (λ (y : Class). LeadsToValue usable before y level leads.0) (sym is) leads.1 in
+                (ap (value_of (set after (rank_of c) (level + 1))) is ∙ next, (leads.0, leads_on))
             | inr apart ↦
                 let old = r.reaches x was (λ e. near (other x apart ∙ e)) in
                 (other x apart ∙ old.0, old.1)
@@ -198,9 +197,8 @@ StartsAt-more wanted t n x e below at s =
             let not_here : k ≢ n = λ same. apart (ap rank_of (ap (λ i. get_or wanted i d) same ∙ get_or_default wanted n d e below ∙ at)) in
             value_of-set_other t x (get_or wanted k d) 0 apart ∙ s.zero k d (below_next k n early not_here)
       ];
-      listed = λ c near. elim (cases_eq (rank_of c) (rank_of x)) as (λ _. (value_of (set t (rank_of x) 0) c ≡ 0) × Contains wanted c) [
-        | inl same ↦
-            let is : c ≡ x = rank_of-injective c x same in
+      listed = λ c near. elim (class_cases c x) as (λ _. (value_of (set t (rank_of x) 0) c ≡ 0) × Contains wanted c) [
+        | inl is ↦
             (again c is, (n, below, get_or_default wanted n c e below ∙ at ∙ sym is))
         | inr apart ↦
             let old = s.listed c (λ far. near (value_of-set_other t x c 0 apart ∙ far)) in

@@ -11,7 +11,7 @@ use Rattle.msp_class.proofs.RankLemmas.{rank_of-below, rank_of-injective}
 use Rattle.msp_table.specs.Chains.{every_row, Reaches}
 use Rattle.msp_closure.specs.Tables.{is_flagged}
 use Rattle.msp_closure.specs.Frontier.{IsMaximal, IsMinimal, ListsInOrder}
-use Rattle.msp_closure.proofs.TableLemmas.{is_flagged-set_same, is_flagged-set_other, below_next}
+use Rattle.msp_closure.proofs.TableLemmas.{is_flagged-set_same, is_flagged-set_other, below_next, class_cases}
 
 -- the flagged classes of rank below a number, in order
 pub record ListedBelow (t : List Bool) (classes : List Class) (n : ℕ) : Type 0 where
@@ -41,8 +41,7 @@ ListedBelow-same t classes n c at unflagged s = record {
   only = λ x has. let old = s.only x has in (old.0, omega (arith, old.1));
   all = λ x has below. elim (cases_eq (rank_of x) n) as (λ _. Contains classes x) [
     | inl same ↦
-        let not_here : true ≡ false = sym has ∙ ap (is_flagged t) (rank_of-injective x c (same ∙ sym at)) ∙ unflagged in
-        absurd (let e = not_here in cc)
+        absurd (let not_here : true ≡ false = sym has ∙ ap (is_flagged t) (rank_of-injective x c (same ∙ sym at)) ∙ unflagged in cc)
     | inr apart ↦ s.all x has (below_next (rank_of x) n below apart)
   ];
   rises = s.rises;
@@ -96,12 +95,11 @@ Struck-next : (c : Class) (before left after : List Bool) (from : ℕ) (b : Clas
     → (Reaches every_row b c → is_flagged left b ≡ true → is_flagged after b ≡ true)
     → Struck c before left from → Struck c before after (rank_of b + 1)
 Struck-next c before left after from b next others only back s = record {
-  kept = λ x flagged. elim (cases_eq (rank_of x) (rank_of b)) as
+  kept = λ x flagged. elim (class_cases x b) as
       (λ _. (is_flagged before x ≡ true) × (rank_of x < rank_of b + 1 → Reaches every_row c x → Reaches every_row x c)) [
-        | inl same ↦
-            let is : b ≡ x = rank_of-injective b x (sym same) in
-            let here = only (ap (is_flagged after) is ∙ flagged) in
-            ((s.kept x (ap (is_flagged left) (sym is) ∙ here.1)).0, λ below reaches. subst (λ (y : Class). Reaches every_row y c) is here.0)
+        | inl is ↦
+            let here = only (ap (is_flagged after) (sym is) ∙ flagged) in
+            ((s.kept x (ap (is_flagged left) is ∙ here.1)).0, λ below reaches. subst (λ (y : Class). Reaches every_row y c) (sym is) here.0)
         | inr apart ↦
             let old = s.kept x (sym (others x apart) ∙ flagged) in (
               old.0,
@@ -113,10 +111,10 @@ Struck-next c before left after from b next others only back s = record {
       ];
   all = λ x was leads_back.
       let left_x : is_flagged left x ≡ true = s.all x was (λ early. leads_back (omega (arith, next.high))) in
-      elim (cases_eq (rank_of x) (rank_of b)) as (λ _. is_flagged after x ≡ true) [
-        | inl same ↦
-            let is : x ≡ b = rank_of-injective x b same in
-            let to_b = subst (λ (y : Class). Reaches every_row y c) is (leads_back (omega arith) (subst (λ (y : Class). Reaches every_row c y) (sym is) next.reached)) in
+      elim (class_cases x b) as (λ _. is_flagged after x ≡ true) [
+        | inl is ↦
+            let to_b = subst (λ (y : Class). Reaches every_row y c) is
+            (leads_back (omega (arith, ap rank_of is)) (subst (λ (y : Class). Reaches every_row c y) (sym is) next.reached)) in
             ap (is_flagged after) is ∙ back to_b (ap (is_flagged left) (sym is) ∙ left_x)
         | inr apart ↦ others x apart ∙ left_x
       ];
@@ -158,10 +156,9 @@ pub record MaximalBelow (t left : List Bool) (n : ℕ) : Type 0 where
 pub MaximalBelow-off : (t left : List Bool) (n : ℕ) (c : Class) → rank_of c ≡ n → length left ≡ CLASSES
     → ¬ IsMaximal (λ b. is_flagged t b ≡ true) c → MaximalBelow t left n → MaximalBelow t (set left (rank_of c) false) (n + 1)
 MaximalBelow-off t left n c at len beaten s = record {
-  kept = λ b flagged. elim (cases_eq (rank_of b) (rank_of c)) as
+  kept = λ b flagged. elim (class_cases b c) as
       (λ _. (is_flagged t b ≡ true) × (rank_of b < n + 1 → IsMaximal (λ x. is_flagged t x ≡ true) b)) [
-        | inl same ↦
-            let is : b ≡ c = rank_of-injective b c same in
+        | inl is ↦
             no_flag (sym (ap (is_flagged (set left (rank_of c) false)) is ∙ is_flagged-set_same left c false len) ∙ flagged)
         | inr apart ↦
             let old = s.kept b (sym (is_flagged-set_other left c b false apart) ∙ flagged) in

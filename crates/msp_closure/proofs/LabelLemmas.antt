@@ -57,9 +57,8 @@ passes-is_later Both = refl
 passes-is_later _ = refl
 
 not_both : (a b : Bool) → not (a && b) ≡ true → a ≡ true → b ≡ false
-not_both true true h e = cc
 not_both true false h e = refl
-not_both false b h e = cc
+not_both _ _ h e = cc
 
 mark_of-first : (e p h s : Bool) (m : Mark) → label_number m < label_number (mark_of e p h s) → applies e p h s m ≡ false
 unfolding is_later

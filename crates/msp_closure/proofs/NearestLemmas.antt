@@ -36,8 +36,7 @@ module _ (usable : ℕ → Bool) (starts wanted : List Class) (t : List ℕ) (ar
       let parts = step_of-parts usable k a c steps in
       let led_c : IsLedTo usable starts c = led_on usable starts a c k led steps in
       let long : length ks ≡ value_of t c = nearest_length c ks led_c near_c n in
-      let at : IsDistance usable wanted c (length ks) =
-      let P : ℕ → Type 0 = IsDistance usable wanted c in subst P (sym long) (are.near c led_c near_c) in
+      let at = subst (IsDistance usable wanted c) (sym long) (are.near c led_c near_c) in
       let others : (j : ℕ) → j < k → ¬ LeadsAtDistance usable wanted a (length ks) j =
       λ j below leads.
       let goes = step_of-from usable j a leads.1.0 leads.0 leads.1.1 in

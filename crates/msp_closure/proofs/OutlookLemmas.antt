@@ -1,16 +1,16 @@
 -- A walk forwards: what it meets is what the starts lead to.
-use Rattle.std.proofs.Common.{◌≡◌, ◌≢◌, ℕ, ◌+◌, ◌-◌, ◌<◌, ◌≤◌, ◌⊎◌, inl, inr, eqb, Bool, true, false, not, List, [], ◌∷◌, ◌++◌, length, get_or, set, All, Some, refl, sym, ap}
-use Rattle.std.proofs.Common.{subst, ◌∙◌, length-append, append_assoc, eqb-true, eq-eqb, arith}
+use Rattle.std.proofs.Common.{◌≡◌, ℕ, ◌+◌, ◌-◌, ◌<◌, ◌≤◌, ◌⊎◌, inl, inr, Bool, true, false, not, List, [], ◌∷◌, ◌++◌, length, get_or, set, All, Some, refl, sym, ap}
+use Rattle.std.proofs.Common.{subst, ◌∙◌, length-append, append_assoc, arith}
 use Rattle.std.specs.Prelude.{Contains, cond}
 use Rattle.std.proofs.lemmas.Bool.{cases_eq}
-use Rattle.std.proofs.lemmas.List.{append-nil, get_or-set_same, get_or-set_other, get_or_append_left, get_or_default}
+use Rattle.std.proofs.lemmas.List.{append-nil, get_or_append_left, get_or_default}
 use Rattle.std.proofs.lemmas.List.Elements.{All-nil, All-cons, All-append, Contains-append_left, Contains-append_right}
 use Rattle.std.proofs.lemmas.List.Sums.{sum_by-set}
 use Rattle.msp_class.proofs.Sums.{cond-yes}
 use Rattle.msp_class.specs.declared.class.Class.{Class}
 use Rattle.msp_class.specs.declared.ranks.TheConstants.{CLASSES}
 use Rattle.msp_class.specs.Rank.{rank_of}
-use Rattle.msp_class.proofs.RankLemmas.{rank_of-injective, rank_of-below}
+use Rattle.msp_class.proofs.RankLemmas.{rank_of-below}
 use Rattle.msp_table.specs.declared.row.TheConstants.{ROWS}
 use Rattle.msp_table.specs.Chains.{Leads, stay, step}
 use Rattle.msp_closure.specs.declared.links.Link.{Link}
@@ -20,7 +20,7 @@ use Rattle.msp_closure.specs.Outlook.{Steps, unset, Grows, IsFollowed, IsWalk, I
 use Rattle.msp_closure.specs.Tables.{is_flagged}
 use Rattle.msp_closure.specs.Walk.{step_of}
 use Rattle.msp_closure.proofs.StepLemmas.{step_of-numbered, step_of-from}
-use Rattle.msp_closure.proofs.TableLemmas.{below_next}
+use Rattle.msp_closure.proofs.TableLemmas.{below_next, class_cases, is_flagged-set_same, is_flagged-set_other}
 use Rattle.msp_closure.proofs.LedLemmas.{starts_are_led, led_on}
 
 -- one class
@@ -28,24 +28,9 @@ pub grows_none : (P : Class → Type 0) (met : List Class) (flags : List Bool) �
 grows_none P met flags = record { behind = []; front = sym (append-nil met); sound = All-nil P; keeps = λ c h. h; fresh = λ c h. inl h; falls = omega arith }
 
 module _ (class : Class) (flags : List Bool) (size : length flags ≡ CLASSES) (new : is_flagged flags class ≡ false) where
-  inside : rank_of class < length flags
-  inside = omega (arith, size, rank_of-below class)
-
-  at_itself : is_flagged (set flags (rank_of class) true) class ≡ true
-  at_itself = get_or-set_same flags (rank_of class) true false inside
-
-  elsewhere : (c : Class) → rank_of c ≢ rank_of class → is_flagged (set flags (rank_of class) true) c ≡ is_flagged flags c
-  elsewhere c n = get_or-set_other flags (rank_of class) (rank_of c) true false n
-
-  same_or_not : (c : Class) → (c ≡ class) ⊎ (rank_of c ≢ rank_of class)
-  same_or_not c = by (eqb (rank_of c) (rank_of class)) refl
-    where
-      by : (b : Bool) → eqb (rank_of c) (rank_of class) ≡ b → (c ≡ class) ⊎ (rank_of c ≢ rank_of class)
-      by true e = inl (rank_of-injective c class (eqb-true (rank_of c) (rank_of class) e))
-      by false e = inr (λ q. absurd (let yes = eq-eqb (rank_of c) (rank_of class) q in cc))
-
   fewer : unset (set flags (rank_of class) true) + 1 ≤ unset flags
   fewer =
+      let inside : rank_of class < length flags = omega (arith, size, rank_of-below class) in
       let change = sum_by-set (λ b. cond (not b) 1 0) flags (rank_of class) true false inside in
       let one = cond-yes 1 (ap not new) in
       omega (arith, change, one)
@@ -56,24 +41,16 @@ module _ (class : Class) (flags : List Bool) (size : length flags ≡ CLASSES) (
     behind = class ∷ [];
     front = f;
     sound = All-cons (λ c. c ≡ class) class [] refl (All-nil (λ c. c ≡ class));
-    keeps = keep;
-    fresh = fresh;
+    keeps = λ c h. elim (class_cases c class) as (λ _. is_flagged (set flags (rank_of class) true) c ≡ true) [
+      | inl q ↦ ap (is_flagged (set flags (rank_of class) true)) q ∙ is_flagged-set_same flags class true size
+      | inr n ↦ is_flagged-set_other flags class c true n ∙ h
+    ];
+    fresh = λ c h. elim (class_cases c class) as (λ _. (is_flagged flags c ≡ true) ⊎ Contains (class ∷ []) c) [
+      | inl q ↦ inr (0, omega arith, sym q)
+      | inr n ↦ inl (sym (is_flagged-set_other flags class c true n) ∙ h)
+    ];
     falls = fewer;
   })
-    where
-      keep : (c : Class) → is_flagged flags c ≡ true → is_flagged (set flags (rank_of class) true) c ≡ true
-      keep c h = by (same_or_not c)
-        where
-          by : (c ≡ class) ⊎ (rank_of c ≢ rank_of class) → is_flagged (set flags (rank_of class) true) c ≡ true
-          by (inl q) = subst (λ x. is_flagged (set flags (rank_of class) true) x ≡ true) (sym q) at_itself
-          by (inr n) = elsewhere c n ∙ h
-
-      fresh : (c : Class) → is_flagged (set flags (rank_of class) true) c ≡ true → (is_flagged flags c ≡ true) ⊎ Contains (class ∷ []) c
-      fresh c h = by (same_or_not c)
-        where
-          by : (c ≡ class) ⊎ (rank_of c ≢ rank_of class) → (is_flagged flags c ≡ true) ⊎ Contains (class ∷ []) c
-          by (inl q) = inr (0, omega arith, sym q)
-          by (inr n) = inl (sym (elsewhere c n) ∙ h)
 
 -- one after another
 pub grows_on : (P : Class → Type 0) (met met_then met_after : List Class) (flags flags_then flags_after : List Bool)
@@ -83,20 +60,15 @@ grows_on P met met_then met_after flags flags_then flags_after g h = record {
   front = h.front ∙ ap (λ xs. xs ++ h.behind) g.front ∙ append_assoc met g.behind h.behind;
   sound = All-append P g.behind h.behind g.sound h.sound;
   keeps = λ c m. h.keeps c (g.keeps c m);
-  fresh = fresh;
+  fresh = λ c m. elim (h.fresh c m) as (λ _. (is_flagged flags c ≡ true) ⊎ Contains (g.behind ++ h.behind) c) [
+    | inl old ↦ elim (g.fresh c old) as (λ _. (is_flagged flags c ≡ true) ⊎ Contains (g.behind ++ h.behind) c) [
+      | inl a ↦ inl a
+      | inr b ↦ inr (Contains-append_left g.behind h.behind c b)
+    ]
+    | inr b ↦ inr (Contains-append_right g.behind h.behind c b)
+  ];
   falls = omega (arith, g.falls, h.falls, length-append g.behind h.behind);
 }
-  where
-    fresh : (c : Class) → is_flagged flags_after c ≡ true → (is_flagged flags c ≡ true) ⊎ Contains (g.behind ++ h.behind) c
-    fresh c m = by (h.fresh c m)
-      where
-        earlier : (is_flagged flags c ≡ true) ⊎ Contains g.behind c → (is_flagged flags c ≡ true) ⊎ Contains (g.behind ++ h.behind) c
-        earlier (inl a) = inl a
-        earlier (inr b) = inr (Contains-append_left g.behind h.behind c b)
-
-        by : (is_flagged flags_then c ≡ true) ⊎ Contains h.behind c → (is_flagged flags c ≡ true) ⊎ Contains (g.behind ++ h.behind) c
-        by (inl a) = earlier (g.fresh c a)
-        by (inr b) = inr (Contains-append_right g.behind h.behind c b)
 
 -- a further row is followed
 pub followed_more : (usable : ℕ → Bool) (a : Class) (n row : ℕ) (flags flags_after : List Bool) → row ≡ n

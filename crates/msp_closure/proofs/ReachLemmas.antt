@@ -11,7 +11,7 @@ use Rattle.msp_closure.specs.Tables.{is_flagged}
 use Rattle.msp_closure.specs.Walk.{step_of}
 use Rattle.msp_closure.specs.Relation.{relates, IsReach, Rises, Joins, Includes, IsSound, Grows, GrowsAt, IsClosedBut, IncludesFlagged}
 use Rattle.msp_closure.proofs.StepLemmas.{step_of-parts, step_of-from}
-use Rattle.msp_closure.proofs.TableLemmas.{is_flagged-set_same, is_flagged-set_other}
+use Rattle.msp_closure.proofs.TableLemmas.{is_flagged-set_same, is_flagged-set_other, class_cases}
 use Rattle.msp_closure.proofs.RelationLemmas.{Rises-none, Rises-more, Rises-same}
 
 pub Grows-none : (usable : ℕ → Bool) (words : List ℕ) → Grows usable words words
@@ -32,16 +32,14 @@ pub GrowsAt-join : (usable : ℕ → Bool) (before after : List ℕ) (a c : Clas
     → GrowsAt usable before after a
 GrowsAt-join usable before after a c k steps j = record {
   grows = record {
-    keeps = λ x b was. elim (cases_eq (rank_of x) (rank_of a)) as (λ _. relates after x b ≡ true) [
-      | inl same ↦
-          let is : x ≡ a = rank_of-injective x a same in
+    keeps = λ x b was. elim (class_cases x a) as (λ _. relates after x b ≡ true) [
+      | inl is ↦
           ap (λ y. relates after y b) is ∙ j.joined b
           ∙ or_left (relates before a b) (relates before c b) (ap (λ y. relates before y b) (sym is) ∙ was)
       | inr apart ↦ j.others x b apart ∙ was
     ];
-    sound = λ s x b now. elim (cases_eq (rank_of x) (rank_of a)) as (λ _. Reaches usable x b) [
-      | inl same ↦
-          let is : x ≡ a = rank_of-injective x a same in
+    sound = λ s x b now. elim (class_cases x a) as (λ _. Reaches usable x b) [
+      | inl is ↦
           let either = or_cases (relates before a b) (relates before c b) (sym (j.joined b) ∙ ap (λ y. relates after y b) (sym is) ∙ now) in
           subst (λ (y : Class). Reaches usable y b) (sym is)
           (elim either as (λ _. Reaches usable a b) [

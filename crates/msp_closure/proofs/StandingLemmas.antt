@@ -64,20 +64,15 @@ module _ (es : List Entry) (marks : List Mark) (are : AreLabels es marks) where
       let inside : rank_of c < length marks = omega (arith, rank_of-below c, are.one_each) in
       Says-label es marks c (mark_at marks c) are (slice_get-get_or marks (rank_of c) Unsettled inside)
 
-  easy_at : (c : Class) → Decides (says_easy (mark_at marks c)) (IsEasy es c)
-  easy_at c = says_easy-right es c (mark_at marks c) (says_at c)
-
-  hard_at : (c : Class) → Decides (says_hard (mark_at marks c)) (IsHard es c)
-  hard_at c = says_hard-right es c (mark_at marks c) (says_at c)
-
   open_at : (c : Class) → Decides (says_open (mark_at marks c)) (IsOpen es c)
-  open_at c = says_open-right es c (mark_at marks c) (easy_at c) (hard_at c)
+  open_at c =
+      says_open-right es c (mark_at marks c) (says_easy-right es c (mark_at marks c) (says_at c)) (says_hard-right es c (mark_at marks c) (says_at c))
 
   pub known_easy : (classes : List Class) → ListsInOrder (IsMaximal (HasMark says_easy marks)) classes → ListsInOrder (IsMaximal (IsEasy es)) classes
-  known_easy classes s = IsMaximal-same (HasMark says_easy marks) (IsEasy es) classes easy_at s
+  known_easy classes s = IsMaximal-same (HasMark says_easy marks) (IsEasy es) classes (λ c. says_easy-right es c (mark_at marks c) (says_at c)) s
 
   pub known_hard : (classes : List Class) → ListsInOrder (IsMinimal (HasMark says_hard marks)) classes → ListsInOrder (IsMinimal (IsHard es)) classes
-  known_hard classes s = IsMinimal-same (HasMark says_hard marks) (IsHard es) classes hard_at s
+  known_hard classes s = IsMinimal-same (HasMark says_hard marks) (IsHard es) classes (λ c. says_hard-right es c (mark_at marks c) (says_at c)) s
 
   pub known_low : (classes : List Class) → ListsInOrder (IsMinimal (HasMark says_open marks)) classes → ListsInOrder (IsMinimal (IsOpen es)) classes
   known_low classes s = IsMinimal-same (HasMark says_open marks) (IsOpen es) classes open_at s

@@ -1,12 +1,19 @@
 -- A table of classes, written at one of them.
 use Rattle.std.proofs.lemmas.Bool.{cases_eq}
 use Rattle.std.proofs.lemmas.List.{length_push, get_or_push, get_or_append_left}
-use Rattle.std.proofs.Common.{get_or, ◌≡◌, ◌≢◌, ℕ, ◌<◌, ◌+◌, Bool, false, List, [], ◌∷◌, ◌++◌, length, set, arith, get_or-set_same, get_or-set_other, ap, sym, ◌∙◌, inl, inr}
+use Rattle.std.proofs.Common.{get_or, ◌≡◌, ◌≢◌, ℕ, ◌<◌, ◌+◌, Bool, false, List, [], ◌∷◌, ◌++◌, length, set, arith, get_or-set_same, get_or-set_other, ap, sym, ◌∙◌, ◌⊎◌, inl, inr}
 use Rattle.msp_class.specs.declared.class.Class.{Class}
 use Rattle.msp_class.specs.declared.ranks.TheConstants.{CLASSES}
 use Rattle.msp_class.specs.Rank.{rank_of}
 use Rattle.msp_class.proofs.RankLemmas.{rank_of-below, rank_of-injective}
 use Rattle.msp_closure.specs.Tables.{value_of, is_flagged}
+
+-- a class is another, or has another rank
+pub class_cases : (x c : Class) → (x ≡ c) ⊎ (rank_of x ≢ rank_of c)
+class_cases x c = elim (cases_eq (rank_of x) (rank_of c)) as (λ _. (x ≡ c) ⊎ (rank_of x ≢ rank_of c)) [
+  | inl same ↦ inl (rank_of-injective x c same)
+  | inr apart ↦ inr apart
+]
 
 -- a class written to has the value
 pub value_of-set_same : (t : List ℕ) (c : Class) (v : ℕ) → length t ≡ CLASSES → value_of (set t (rank_of c) v) c ≡ v

@@ -1,5 +1,5 @@
 -- The first of the starts that leads to a wanted class, and the way from there.
-use Rattle.std.proofs.Common.{◌≡◌, ◌≢◌, ℕ, suc, ◌<◌, ◌≤◌, ◌+◌, Bool, List, [], ◌∷◌, Option, Some, None, Result, Ok, Err, length, get_or, drop, refl, ap, sym, ◌∙◌, subst, inl, inr, arith}
+use Rattle.std.proofs.Common.{◌≡◌, ◌≢◌, ℕ, suc, ◌<◌, ◌≤◌, ◌+◌, Bool, List, [], ◌∷◌, Option, Some, None, Result, Ok, Err, length, get_or, drop, refl, ap, sym, ◌∙◌, subst, inl, inr, arith, subst₂}
 use Rattle.std.specs.Bool.{Decides}
 use Rattle.std.specs.Prelude.{◌↔◌, Contains, IsNone, IfOk, nat_lt}
 use Rattle.std.proofs.lemmas.Bool.{cases_eq, ltb-true, lt-ltb}
@@ -110,10 +110,9 @@ one_is {c} {b} has = elim (Contains-push_cases [] c b has) as (λ _. c ≡ b) [ 
 pub none_from : {E : Type 0} (usable : ℕ → Bool) (wanted listed starts : List Class) (c : Class) (r : Result (Option Chain) E) → wanted ≡ listed
     → starts ≡ c ∷ [] → IfOk r (λ found. IsWay usable wanted starts found) → IfOk r (λ found. IsNone found ↔ (¬ LeadsToOne usable listed c))
 none_from usable wanted listed starts c r is one way =
-    let R : List Class → Type 0 = λ xs. IfOk r (λ found. IsWay usable wanted xs found) in
     none_exactly (LeadsToOne usable listed c) usable listed (c ∷ []) r (λ leads. (c, Contains-push [] c, leads))
     (λ h. let Q : Class → Type 0 = LeadsToOne usable listed in subst Q (sym (one_is h.1)) h.2)
-    (subst (λ (xs : List Class). IfOk r (λ found. IsWay usable xs (c ∷ []) found)) is (subst R one way))
+    (subst₂ (λ (xs ys : List Class). IfOk r (λ found. IsWay usable xs ys found)) is one way)
 
 -- to one wanted class
 pub none_to : {E : Type 0} (usable : ℕ → Bool) (starts listed : List Class) (c : Class) (r : Result (Option Chain) E) → starts ≡ listed
@@ -146,6 +145,5 @@ no_rows_is_way usable a = (
 pub none_any : {E : Type 0} (usable : ℕ → Bool) (wanted starts goals firsts : List Class) (r : Result (Option Chain) E) → wanted ≡ goals → starts ≡ firsts
     → IfOk r (λ found. IsWay usable wanted starts found) → IfOk r (λ found. IsNone found ↔ (¬ HasWay usable goals firsts))
 none_any usable wanted starts goals firsts r is are way =
-    let P : List Class → Type 0 = λ xs. IfOk r (λ found. IsWay usable xs starts found) in
-    let Q : List Class → Type 0 = λ xs. IfOk r (λ found. IsWay usable goals xs found) in
-    none_exactly (HasWay usable goals firsts) usable goals firsts r (λ h. h) (λ h. h) (subst Q are (subst P is way))
+    none_exactly (HasWay usable goals firsts) usable goals firsts r (λ h. h) (λ h. h)
+    (subst₂ (λ (xs ys : List Class). IfOk r (λ found. IsWay usable xs ys found)) is are way)

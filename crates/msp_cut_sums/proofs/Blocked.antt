@@ -1,6 +1,5 @@
 -- Jobs of one time by falling weight, m at a time: the schedule, and what it costs.
-use Rattle.std.proofs.Common.{◌≡◌, ℕ, ◌+◌, ◌*◌, ◌/◌, ◌%◌, ◌<◌, ◌≤◌, inl, List, length, map, pos, nat_abs, refl, sym, ap, subst, arith}
-use Rattle.std.specs.List.{range_with_len}
+use Rattle.std.proofs.Common.{◌≡◌, ℕ, ◌+◌, ◌*◌, ◌/◌, ◌%◌, ◌<◌, inl, List, length, nat_abs, refl, sym, ap, subst, add-one-le, arith}
 use Rattle.std.proofs.Math.Nat.{div-le_self, mul-le-mul_right}
 use Rattle.std.proofs.lemmas.Nat.{mul-le}
 use Rattle.msp_class.specs.declared.sizes.TheConstants.{MOST_JOBS, GREATEST_EQUAL_TIME}
@@ -11,8 +10,8 @@ use Rattle.msp_instance.specs.Instance.{common_time}
 use Rattle.msp_pieces.specs.Feasible.{HasOperation, MayRun}
 use Rattle.msp_pieces.specs.BackToBack.{time_at}
 use Rattle.msp_pieces.proofs.bounds.LastEnds.{law_of_last_ends}
-use Rattle.msp_cut_sums.specs.Sums.{at, in_blocks, weight_at, IsByFalling}
-use Rattle.msp_cut_sums.specs.Schedules.{CutsNone, blocked_piece, IsBlockedSchedule}
+use Rattle.msp_cut_sums.specs.Sums.{at, in_blocks, weight_at, IsByFalling, IsWeightsCost}
+use Rattle.msp_cut_sums.specs.Schedules.{IsBlockedSchedule}
 use Rattle.msp_cut_sums.specs.Pieces.{blocked}
 use Rattle.msp_cut_sums.proofs.Falling.{order_once, order_many, order_inside, order_falls, order_distinct}
 use Rattle.msp_cut_sums.proofs.InBlocks.{weights_bound}
@@ -22,7 +21,7 @@ use Rattle.msp_cut_sums.proofs.Rests.{blocks_rise}
 use Rattle.msp_cut_sums.proofs.Schedules.{placed_uncut}
 use Rattle.msp_pieces.proofs.bounds.Room.{end_at}
 use Rattle.msp_cut_sums.proofs.Room.{room_in_order}
-use Rattle.msp_cut_sums.proofs.Summed.{IsSumOf-weights, IsSumAnswer, answered}
+use Rattle.msp_cut_sums.proofs.Summed.{IsSumOf-weights, IsSolved, answered, over_one}
 
 module _ (i : Instance) (h : IsWeightsInstance i) (order : List ℕ) (sorted : IsByFalling (length i.jobs) (weight_at i) order) where
   abbrev n : ℕ
@@ -55,9 +54,9 @@ module _ (i : Instance) (h : IsWeightsInstance i) (order : List ℕ) (sorted : I
     operation = λ x l. subst (λ k. HasOperation k i (at order x) 0) (sym h.kind) refl;
     may = λ x l. subst (λ k. MayRun k i (at order x) 0 (x % m)) (sym h.kind) (rest_small m x h.machine);
     once = λ x y l b e f. differ x y l b e;
-    long = λ x l. lasts (x / m) span _ (weights_time i h (at order x) (inside x (omega (arith, l, many))));
+    long = λ x l. omega (arith, weights_time i h (at order x) (inside x (omega (arith, l, many))));
     some = λ x l. omega (arith, weights_time i h (at order x) (inside x (omega (arith, l, many))), (weights_span i h).0);
-    on_machine = λ x y l b e. inl (mul-le-mul_right span (more (x / m) (y / m) (blocks_rise m x y l e)));
+    on_machine = λ x y l b e. inl (mul-le-mul_right span (add-one-le (blocks_rise m x y l e)));
     of_job = λ x y l b e. absurd (differ x y l b e);
     routed = λ e. absurd (no_route (weights_operations i h) e);
     released = λ x l. omega (arith, (weights_operations i h).release (at order x) (inside x (omega (arith, l, many))));
@@ -67,34 +66,19 @@ module _ (i : Instance) (h : IsWeightsInstance i) (order : List ℕ) (sorted : I
       differ : (x y : ℕ) → x < y → y < length order → at order x ≡ at order y → ⊥
       differ x y l b e = omega (arith, l, order_distinct n (weight_at i) order sorted x y (omega (arith, l, b, many)) (omega (arith, b, many)) e)
 
-      lasts : (a s t : ℕ) → t ≡ s → (a + 1) * s ≡ a * s + t
-      lasts a s t e = omega (arith, e)
-
-      more : (a b : ℕ) → a < b → a + 1 ≤ b
-      more a b l = omega (arith, l)
-
   abbrev value : ℕ
   value = in_blocks m n (λ k. span * weight_at i (at order k))
 
-  pub blocked_answer : IsSumAnswer i value (record { unit = pos 1; pieces = blocked m span order })
+  pub blocked_answer : IsSolved i (IsWeightsCost i) (IsBlockedSchedule i) (over_one (blocked m span order))
   blocked_answer = answered i (weight_at i) (IsSumOf-weights i h.crit) order (order_once n (weight_at i) order sorted) (blocked m span order) value end
-      (total_below-same n _ _ (λ k l. moved (weight_at i (at order k)) (k / m + 1) span))
+      (total_below-same n _ (λ k. (k / m + 1) * (span * weight_at i (at order k))) (λ k l. omega arith))
       (placed_is_feasible i 1 places (weights_operations i h).operations placed)
       (placed_is_within i 1 places (weights_operations i h).operations placed)
       (placed_is_answer i 1 places (weights_operations i h).operations placed (weights_operations i h).unit)
-      (λ r l. placed_ends i 1 places (weights_operations i h).operations placed (at order r) (end r) (λ x b e. same x r (order_distinct n (weight_at i) order sorted x r (omega (arith, b, many)) l e)))
+      (λ r l. placed_ends i 1 places (weights_operations i h).operations placed (at order r) (end r) (λ x b e.
+      omega (arith, ap end (order_distinct n (weight_at i) order sorted x r (omega (arith, b, many)) l e))))
       (λ t f. weights_bound n m (nat_abs t.unit) (λ r. time_at i (at order r)) (λ r. end_at t (at order r)) h.machine
       (room_in_order i t f (time_at i) (λ test moment. law_of_last_ends.machines i t test moment h.kind f) order (order_once n (weight_at i) order sorted))
       span (λ r l. weights_time i h (at order r) (inside r l)) (λ k. weight_at i (at order k)) (order_falls n (weight_at i) order sorted))
-    where
-      moved : (a b c : ℕ) → a * (b * c) ≡ b * (c * a)
-      moved a b c = omega arith
-
-      same : (x r : ℕ) → x ≡ r → end x ≤ end r
-      same x r e = omega (arith, ap end e)
-
-  pub blocked_schedule : IsBlockedSchedule i (record { unit = pos 1; pieces = blocked m span order })
-  blocked_schedule = record { order = order; falls = sorted; unit = refl; pieces = ap (λ k. map (blocked_piece m span order) (range_with_len 0 k)) many }
-
-  pub blocked_uncut : CutsNone (record { unit = pos 1; pieces = blocked m span order })
-  blocked_uncut = placed_uncut i 1 places placed
+      (record { order = order; falls = sorted; unit = refl; pieces = rw many refl })
+      (placed_uncut i 1 places placed) (λ cost over. (order, sorted, over))

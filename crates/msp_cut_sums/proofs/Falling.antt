@@ -1,7 +1,6 @@
 -- The jobs by falling time or weight, as they are sorted.
-use Rattle.std.proofs.Common.{◌≡◌, ◌≢◌, ℕ, ◌<◌, ◌≤◌, ◌⊎◌, inl, inr, List, length, map, get_or, All, AllPairs, IfOk, IsPermutation, Result, Ok, Err, ap, sym, subst, ◌∙◌, arith}
+use Rattle.std.proofs.Common.{◌≡◌, ◌≢◌, ℕ, ◌<◌, ◌≤◌, ◌⊎◌, List, length, map, get_or, All, AllPairs, IfOk, IsPermutation, Result, Ok, Err, ap, subst, ◌∙◌, arith}
 use Rattle.std.specs.List.{range_with_len}
-use Rattle.std.proofs.lemmas.Bool.{cases_lt}
 use Rattle.std.proofs.lemmas.List.{get_or-map, length-map}
 use Rattle.msp_class.proofs.Sums.{OnceBelow, OnceBelow-from_permutation, OnceBelow-distinct, length-OnceBelow}
 use Rattle.msp_instance.specs.declared.Job.{Job}
@@ -33,8 +32,7 @@ module _ (i : Instance) (f : Job → ℕ) (values kept : List ℕ) (is : kept �
       value j l = ap (λ vs. at vs j) (same ∙ is) ∙ get_or-map f i.jobs j no_job 0 l
 
       by : (x y : ℕ) → at values x ≡ f (job_at i x) → at values y ≡ f (job_at i y) → x ≢ y → KeysFall (at values) x y → Falls (λ j. f (job_at i j)) x y
-      by x y e g n (inl l) = inl (omega (arith, l, e, g))
-      by x y e g n (inr l) = inr (omega (arith, l.0, e, g), omega (arith, l.1, n))
+      by x y e g n h = grind arith
 
   pub read_order : {V E : Type 0} (items : V → List ℕ) (r : Result V E) → IfOk r (λ o. IsPermutation (range_with_len 0 (length values)) (items o))
       → IfOk r (λ o. AllPairs (KeysFall (at values)) (items o)) → IfOk r (λ o. IsByFalling (length i.jobs) (λ j. f (job_at i j)) (items o))
@@ -53,23 +51,7 @@ module _ (n : ℕ) (key : ℕ → ℕ) (order : List ℕ) (h : IsByFalling n key
   order_inside k l = order_once.within k 0 (omega (arith, l, order_many))
 
   pub order_falls : (a b : ℕ) → a ≤ b → b < n → key (at order b) ≤ key (at order a)
-  order_falls a b l k = by (cases_lt a b)
-    where
-      no_greater : (x y : ℕ) → Falls key x y → key y ≤ key x
-      no_greater x y (inl f) = omega (arith, f)
-      no_greater x y (inr f) = omega (arith, f.0)
-
-      by : (a < b) ⊎ (b ≤ a) → key (at order b) ≤ key (at order a)
-      by (inl m) = no_greater (at order a) (at order b) (h.falls a b 0 m (omega (arith, k, order_many)))
-      by (inr m) = omega (arith, ap (λ x. key (at order x)) same)
-        where
-          same : a ≡ b
-          same = omega (arith, l, m)
+  order_falls a b l k = grind (arith, h.falls a b 0, order_many)
 
   pub order_distinct : (a b : ℕ) → a < n → b < n → at order a ≡ at order b → a ≡ b
-  order_distinct a b l k e = by (cases_lt a b) (cases_lt b a)
-    where
-      by : (a < b) ⊎ (b ≤ a) → (b < a) ⊎ (a ≤ b) → a ≡ b
-      by (inl m) o = absurd (OnceBelow-distinct order_once a b 0 m (omega (arith, k, order_many)) e)
-      by (inr m) (inl o) = absurd (OnceBelow-distinct order_once b a 0 o (omega (arith, l, order_many)) (sym e))
-      by (inr m) (inr o) = omega (arith, m, o)
+  order_distinct a b l k e = grind (arith, OnceBelow-distinct order_once a b 0, OnceBelow-distinct order_once b a 0, order_many)

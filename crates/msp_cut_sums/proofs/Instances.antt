@@ -1,10 +1,9 @@
 -- What the instances of the classes have.
-use Rattle.std.proofs.Common.{◌≡◌, ℕ, ◌*◌, ◌<◌, ◌≤◌, Bool, true, false, [], length, get_or, pos, ◌≤ℤ◌, inl, inr, ◌⊎◌, sym, ap, subst, ◌∙◌, arith}
+use Rattle.std.proofs.Common.{◌≡◌, ℕ, ◌*◌, ◌<◌, ◌≤◌, Bool, true, false, [], length, get_or, pos, ◌≤ℤ◌, inl, inr, ◌⊎◌, sym, ap, subst, true≢false, ◌∙◌, arith}
 use Rattle.std.proofs.lemmas.Int.{ints}
 use Rattle.std.proofs.lemmas.List.{get_or_default}
-use Rattle.msp_class.specs.declared.sizes.TheConstants.{MOST_JOBS, MOST_MACHINES, GREATEST, GREATEST_EQUAL_TIME}
-use Rattle.msp_class.specs.declared.environments.EnvKind.TheVariants.{Identical, Unrelated, OpenShop}
-use Rattle.msp_class.specs.declared.class.Crit.TheVariants.{SumWC}
+use Rattle.msp_class.specs.declared.sizes.TheConstants.{GREATEST, GREATEST_EQUAL_TIME}
+use Rattle.msp_class.specs.declared.environments.EnvKind.TheVariants.{Identical}
 use Rattle.msp_class.specs.declared.class.Times.{Times}
 use Rattle.msp_class.specs.declared.class.Times.TheVariants.{Unit as UnitTimes, Equal}
 use Rattle.msp_class.specs.Env.{kind_of, is_shop, is_shop_kind, is_mirror_kind}
@@ -32,10 +31,7 @@ pub record HasFreeOperations (i : Instance) (ops : ℕ) : Type 0 where
   pub unit : pos 1 ≤ℤ answer_unit (kind_of i.class.env)
 
 pub no_route : {i : Instance} {ops : ℕ} → HasFreeOperations i ops → is_mirror_kind (kind_of i.class.env) ≡ false → ⊥
-no_route h e = never (sym h.mirror ∙ e)
-  where
-    never : true ≡ false → ⊥
-    never e = cc
+no_route h e = true≢false (sym h.mirror ∙ e)
 
 -- ---- identical machines
 abbrev pub IsSumInstance : Instance → Type 0
@@ -48,7 +44,7 @@ HasFreeOperations-identical : (i : Instance) → kind_of i.class.env ≡ Identic
 HasFreeOperations-identical i kind arcs release = record {
   operations = record {
     shaped = IsShaped-from_identical i kind;
-    has = λ j o l h. first o (subst (λ k. HasOperation k i j o) kind h);
+    has = λ j o l h. omega (arith, subst (λ k. HasOperation k i j o) kind h);
     rate = λ j m. ap (λ k. rate_on k i j m) kind;
     want = λ j o. ap (λ k. whole_work k i j o) kind;
     arcs = arcs;
@@ -57,9 +53,6 @@ HasFreeOperations-identical i kind arcs release = record {
   release = release;
   unit = subst (λ k. pos 1 ≤ℤ answer_unit k) (sym kind) (omega (arith, ints));
 }
-  where
-    first : (o : ℕ) → o ≡ 0 → o < 1
-    first o e = omega (arith, e)
 
 module _ (i : Instance) (h : IsSumInstance i) where
   pub sum_operations : HasFreeOperations i 1
@@ -81,38 +74,15 @@ module _ (i : Instance) (h : IsWeightsInstance i) where
 -- ---- open shops
 -- an open shop without arcs and release dates, whose operations all take one time
 pub record IsEvenShop (i : Instance) : Type 0 where
-  pub kind : kind_of i.class.env ≡ OpenShop
-  pub crit : i.class.crit ≡ SumWC
-  pub arcs : i.arcs ≡ []
-  pub release : (j : ℕ) → j < length i.jobs → (job_at i j).release ≡ 0
-  pub some : 1 ≤ length i.jobs
-  pub few : length i.jobs ≤ MOST_JOBS
-  pub machine : 1 ≤ i.machines
-  pub machines : i.machines ≤ MOST_MACHINES
-  pub needs : (j : ℕ) → j < length i.jobs → length (job_at i j).needs ≡ i.machines
-  pub own : (j o : ℕ) → j < length i.jobs → o < i.machines → (need_at i j o).machine ≡ o
+  pub cut : Bool
+  pub times : Times
+  pub of : IsOfClass i (record cut_open_weights_class { cut = cut; times = times })
   pub time : (j o : ℕ) → j < length i.jobs → o < i.machines → (need_at i j o).time ≡ common_time i
   pub span : (1 ≤ common_time i) × (common_time i ≤ GREATEST_EQUAL_TIME)
 
-even_shop : (i : Instance) (cut : Bool) (times : Times) → IsOfClass i (record cut_open_weights_class { cut = cut; times = times })
-    → ((j o : ℕ) → j < length i.jobs → o < i.machines → (need_at i j o).time ≡ common_time i) → (1 ≤ common_time i) × (common_time i ≤ GREATEST_EQUAL_TIME) → IsEvenShop i
-even_shop i cut times h time span = record {
-  kind = h.kind;
-  crit = h.crit;
-  arcs = h.arcs;
-  release = λ j l. (h.jobs j no_job l).release;
-  some = h.some;
-  few = h.few;
-  machine = h.machine;
-  machines = h.machines;
-  needs = λ j l. (h.jobs j no_job l).needs.shape.0;
-  own = λ j o l b. let s = (h.jobs j no_job l).needs.shape in s.1 o (omega (arith, s.0, b));
-  time = time;
-  span = span;
-}
-
 pub IsEvenShop-from : (i : Instance) → (i.class ≡ open_weights_class) ⊎ (i.class ≡ cut_open_weights_class) → Inner i → IsEvenShop i
-IsEvenShop-from i (inl e) inner = even_shop i false UnitTimes h (λ j o l b. one j o l b ∙ sym first) (omega (arith, first), omega (arith, first))
+IsEvenShop-from i (inl e) inner =
+    record { cut = false; times = UnitTimes; of = h; time = λ j o l b. one j o l b ∙ sym first; span = (omega (arith, first), omega (arith, first)) }
   where
     h : IsOfClass i open_weights_class
     h = IsOfClass-from i open_weights_class e inner
@@ -122,51 +92,51 @@ IsEvenShop-from i (inl e) inner = even_shop i false UnitTimes h (λ j o l b. one
 
     first : common_time i ≡ 1
     first = one 0 0 (omega (arith, h.some)) (omega (arith, h.machine))
-IsEvenShop-from i (inr e) inner = even_shop i true Equal h (λ j o l b. let w = h.jobs j no_job l in w.times o no_need (omega (arith, w.needs.shape.0, b))) span
+IsEvenShop-from i (inr e) inner = record { cut = true; times = Equal; of = h; time = same; span = span }
   where
     h : IsOfClass i cut_open_weights_class
     h = IsOfClass-from i cut_open_weights_class e inner
+
+    same : (j o : ℕ) → j < length i.jobs → o < i.machines → (need_at i j o).time ≡ common_time i
+    same j o l b = let w = h.jobs j no_job l in w.times o no_need (omega (arith, w.needs.shape.0, b))
 
     span : (1 ≤ common_time i) × (common_time i ≤ GREATEST_EQUAL_TIME)
     span = let n = (h.jobs 0 no_job (omega (arith, h.some))).needs in n.times 0 no_need (omega (arith, n.shape.0, h.machine))
 
 module _ (i : Instance) (h : IsEvenShop i) where
   pub shop_is : is_shop i.class.env ≡ true
-  shop_is = ap is_shop_kind h.kind
+  shop_is = ap is_shop_kind h.of.kind
+
+  pub shop_needs : (j : ℕ) → j < length i.jobs → length (job_at i j).needs ≡ i.machines
+  shop_needs j l = (h.of.jobs j no_job l).needs.shape.0
+
+  pub shop_own : (j o : ℕ) → j < length i.jobs → o < i.machines → (need_at i j o).machine ≡ o
+  shop_own j o l b = (h.of.jobs j no_job l).needs.shape.1 o (omega (arith, shop_needs j l, b))
 
   pub shop_operations : HasFreeOperations i i.machines
   shop_operations = record {
     operations = record {
-      shaped = record { unrelated = λ e. absurd (never (sym h.kind ∙ e)) };
-      has = λ j o l has. inside j o l (subst (λ k. HasOperation k i j o) h.kind has).0;
-      rate = λ j m. ap (λ k. rate_on k i j m) h.kind;
-      want = λ j o. ap (λ k. whole_work k i j o) h.kind;
-      arcs = h.arcs;
+      shaped = record { unrelated = λ e. cc (h.of.kind, e) };
+      has = λ j o l has. omega (arith, (subst (λ k. HasOperation k i j o) h.of.kind has).0, shop_needs j l);
+      rate = λ j m. ap (λ k. rate_on k i j m) h.of.kind;
+      want = λ j o. ap (λ k. whole_work k i j o) h.of.kind;
+      arcs = h.of.arcs;
     };
-    mirror = ap is_mirror_kind h.kind;
-    release = h.release;
-    unit = subst (λ k. pos 1 ≤ℤ answer_unit k) (sym h.kind) (omega (arith, ints));
+    mirror = ap is_mirror_kind h.of.kind;
+    release = λ j l. (h.of.jobs j no_job l).release;
+    unit = subst (λ k. pos 1 ≤ℤ answer_unit k) (sym h.of.kind) (omega (arith, ints));
   }
-    where
-      never : OpenShop ≡ Unrelated → ⊥
-      never e = cc
-
-      inside : (j o : ℕ) → j < length i.jobs → o < length (job_at i j).needs → o < i.machines
-      inside j o l b = omega (arith, b, h.needs j l)
 
   pub shop_machines : AreOnMachines i
   shop_machines k d l a c b =
       let is = get_or_default i.jobs k d no_job l in
       let here : a < length (job_at i k).needs = subst (λ j. a < length j.needs) is b in
       subst (λ n. n.machine < i.machines) (sym (ap (λ j. get_or j.needs a c) is ∙ get_or_default (job_at i k).needs a c no_need here))
-      (below a (h.own k a l (omega (arith, here, h.needs k l))) (omega (arith, here, h.needs k l)))
-    where
-      below : (a : ℕ) {m : ℕ} → m ≡ a → a < i.machines → m < i.machines
-      below a {m} e l = omega (arith, e, l)
+      (omega (arith, shop_own k a l (omega (arith, here, shop_needs k l)), here, shop_needs k l))
 
   pub shop_length : (j : ℕ) → j < length i.jobs → job_length i j ≡ i.machines * common_time i
   shop_length j l =
       sum_by-places (λ n. n.time) (job_at i j).needs no_need
-      ∙ ap (λ n. total_below n (λ o. (need_at i j o).time)) (h.needs j l)
+      ∙ ap (λ n. total_below n (λ o. (need_at i j o).time)) (shop_needs j l)
       ∙ total_below-same i.machines (λ o. (need_at i j o).time) (λ _. common_time i) (λ o b. h.time j o l b)
       ∙ total_below-constant i.machines (common_time i)

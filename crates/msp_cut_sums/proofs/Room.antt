@@ -1,7 +1,6 @@
 -- The law of last ends, over the places of the jobs in an order.
-use Rattle.std.proofs.Common.{◌≡◌, ◌≢◌, ℕ, ◌+◌, ◌*◌, ◌-◌, ◌<◌, ◌≤◌, ◌⊎◌, inl, inr, Bool, cond, List, length, get_or, map, All, AllPairs, nat_abs, sum_by, sym, subst, subst₂, ◌∙◌, arith}
+use Rattle.std.proofs.Common.{◌≡◌, ◌≢◌, ℕ, ◌+◌, ◌*◌, ◌-◌, ◌<◌, ◌≤◌, Bool, cond, List, length, get_or, map, All, AllPairs, nat_abs, sum_by, sym, subst, subst₂, ◌∙◌, arith}
 use Rattle.std.specs.List.{range_with_len}
-use Rattle.std.proofs.lemmas.Bool.{cases_lt}
 use Rattle.std.proofs.lemmas.List.{length-map, get_or-map}
 use Rattle.msp_class.proofs.Sums.{sum_by-map, OnceBelow, OnceBelow-distinct, length-OnceBelow}
 use Rattle.msp_instance.specs.declared.Instance.{Instance}
@@ -43,9 +42,4 @@ module _ (i : Instance) (t : Schedule) (f : Feasible i t) (time : ℕ → ℕ)
           distinct a b d l q (same (get_or ys a d) (get_or ys b d) (omega (arith, within a d p, many)) (omega (arith, within b d q, many)) (sym (place a d p) ∙ e ∙ place b d q))
         where
           same : (x y : ℕ) → x < length order → y < length order → at order x ≡ at order y → x ≡ y
-          same x y l k e = by (cases_lt x y) (cases_lt y x)
-            where
-              by : (x < y) ⊎ (y ≤ x) → (y < x) ⊎ (x ≤ y) → x ≡ y
-              by (inl m) o = absurd (OnceBelow-distinct once x y 0 m k e)
-              by (inr m) (inl o) = absurd (OnceBelow-distinct once y x 0 o l (sym e))
-              by (inr m) (inr o) = omega (arith, m, o)
+          same x y l k e = grind (arith, OnceBelow-distinct once x y 0, OnceBelow-distinct once y x 0)

@@ -1,5 +1,5 @@
 -- The schedules of the rules as the public clauses tell them: which pieces they are, and that no operation is cut.
-use Rattle.std.proofs.Common.{◌≡◌, ◌≢◌, ℕ, ◌+◌, ◌*◌, ◌-◌, ◌/◌, ◌%◌, ◌<◌, ◌≤◌, List, map, get_or, All, AllPairs, refl, sym, ap, ◌∙◌, arith, zero-add}
+use Rattle.std.proofs.Common.{◌≡◌, ◌≢◌, ℕ, ◌+◌, ◌*◌, ◌-◌, ◌/◌, ◌%◌, ◌<◌, ◌≤◌, List, map, get_or, All, AllPairs, sym, ap, ◌∙◌, arith, zero-add}
 use Rattle.std.specs.List.{range_with_len}
 use Rattle.std.proofs.lemmas.List.Elements.{All-map}
 use Rattle.std.proofs.lemmas.List.FromFn.{get_or-range_with_len, length-range_with_len}
@@ -9,7 +9,7 @@ use Rattle.msp_pieces.specs.declared.Piece.{Piece}
 use Rattle.msp_pieces.proofs.changes.Moves.{AllPairs-map}
 use Rattle.msp_route.proofs.Placed.{Places, piece_at, pieces_at, ArePlaced}
 use Rattle.msp_cut_sums.specs.Schedules.{part, round_piece}
-use Rattle.msp_cut_sums.specs.Pieces.{squared_piece}
+use Rattle.msp_cut_sums.specs.Pieces.{slot, squared_piece}
 
 -- the pieces of places, each with an operation of its own
 module _ (i : Instance) (ops : ℕ) (ps : Places) (placed : ArePlaced i ops ps) where
@@ -26,13 +26,10 @@ module _ (i : Instance) (ops : ℕ) (ps : Places) (placed : ArePlaced i ops ps) 
 -- ---- round the machines
 module _ (m : ℕ) (some : 1 ≤ m) where
   comes_round : (k x : ℕ) → x < m → (k + (x + (m - k % m)) % m) % m ≡ x
-  comes_round k x l = at (x + (m - k % m)) refl
-    where
-      at : (y : ℕ) → x + (m - k % m) ≡ y → (k + (x + (m - k % m)) % m) % m ≡ x
-      at y e =
-          ap (λ z. (k + z % m) % m) e
-          ∙ (same_block m ((k + y % m) / m + y / m) (k / m + 1) ((k + y % m) % m) x (rest_small m (k + y % m) some) l
-          (omega (arith, block_and_rest m (k + y % m), block_and_rest m y, block_and_rest m k, rest_small m k some, e))).1
+  comes_round k x l =
+      let y = x + (m - k % m) in
+      (same_block m ((k + y % m) / m + y / m) (k / m + 1) ((k + y % m) % m) x (rest_small m (k + y % m) some) l
+      (omega (arith, block_and_rest m (k + y % m), block_and_rest m y, block_and_rest m k, rest_small m k some))).1
 
   pub round_pieces : (time n N : ℕ) (order : List ℕ) → ((x : ℕ) → x < N → x / m < n)
       → All (λ p. (k : ℕ) × (r : ℕ) × (k < n) × (r < m) × (p ≡ round_piece m time order k r)) (map (squared_piece m time order) (range_with_len 0 N))
@@ -45,11 +42,6 @@ module _ (m : ℕ) (some : 1 ≤ m) where
         (x % m + (m - x / m % m)) % m,
         inside x l,
         rest_small m (x % m + (m - x / m % m)) some,
-        ap (λ c. part (at_place x) c c (begin x * time) ((begin x + 1) * time)) (sym (comes_round (x / m) (x % m) (rest_small m x some))),
+        ap (λ c. part (get_or order (x / m) 0) c c (slot m (x / m) (x % m) * time) ((slot m (x / m) (x % m) + 1) * time))
+            (sym (comes_round (x / m) (x % m) (rest_small m x some))),
       )
-        where
-          at_place : ℕ → ℕ
-          at_place x = get_or order (x / m) 0
-
-          begin : ℕ → ℕ
-          begin x = x / m / m * m + (x % m + (m - x / m % m)) % m

@@ -1,5 +1,5 @@
 -- Open shops whose operations take one time: by falling weight, m jobs go round m machines in m slots. The schedule, and what it costs.
-use Rattle.std.proofs.Common.{◌≡◌, ◌≢◌, ℕ, ◌+◌, ◌*◌, ◌-◌, ◌/◌, ◌%◌, ◌<◌, ◌≤◌, ◌⊎◌, inl, inr, List, length, pos, nat_abs, refl, sym, ap, ap₂, subst, ◌∙◌, arith}
+use Rattle.std.proofs.Common.{◌≡◌, ◌≢◌, ℕ, ◌+◌, ◌*◌, ◌-◌, ◌/◌, ◌%◌, ◌<◌, ◌≤◌, ◌⊎◌, inl, inr, List, length, nat_abs, refl, sym, ap, ap₂, subst, ◌∙◌, add-one-le, arith}
 use Rattle.std.proofs.Math.Nat.{div-le_self, mul-le-mul_right}
 use Rattle.std.proofs.lemmas.Nat.{mul-le}
 use Rattle.std.proofs.lemmas.Bool.{cases_lt}
@@ -12,18 +12,18 @@ use Rattle.msp_pieces.specs.Feasible.{HasOperation, MayRun}
 use Rattle.msp_pieces.specs.Loads.{job_length}
 use Rattle.msp_pieces.proofs.bounds.LastEnds.{law_of_last_ends}
 use Rattle.msp_route.proofs.Turns.{turn_inside}
-use Rattle.msp_cut_sums.specs.Sums.{at, in_blocks, weight_at, IsByFalling}
-use Rattle.msp_cut_sums.specs.Schedules.{CutsNone, IsRoundSchedule}
+use Rattle.msp_cut_sums.specs.Sums.{at, in_blocks, weight_at, IsByFalling, IsOpenCost}
+use Rattle.msp_cut_sums.specs.Schedules.{IsRoundSchedule}
 use Rattle.msp_cut_sums.specs.Pieces.{slot, squared}
 use Rattle.msp_cut_sums.proofs.Falling.{order_once, order_many, order_inside, order_falls, order_distinct}
 use Rattle.msp_cut_sums.proofs.InBlocks.{weights_bound}
-use Rattle.msp_cut_sums.proofs.Instances.{IsEvenShop, no_route, shop_is, shop_operations, shop_machines, shop_length}
+use Rattle.msp_cut_sums.proofs.Instances.{IsEvenShop, no_route, shop_is, shop_needs, shop_own, shop_operations, shop_machines, shop_length}
 use Rattle.msp_route.proofs.Placed.{Places, ArePlaced, placed_is_feasible, placed_is_within, placed_is_answer, placed_ends}
 use Rattle.msp_cut_sums.proofs.Rests.{rests_differ}
 use Rattle.msp_cut_sums.proofs.Schedules.{placed_uncut, round_pieces}
 use Rattle.msp_pieces.proofs.bounds.Room.{end_at}
 use Rattle.msp_cut_sums.proofs.Room.{room_in_order}
-use Rattle.msp_cut_sums.proofs.Summed.{IsSumOf-weights, IsSumAnswer, answered}
+use Rattle.msp_cut_sums.proofs.Summed.{IsSumOf-weights, IsSolved, answered, over_one}
 
 -- ---- slots
 module _ (m : ℕ) (some : 1 ≤ m) where
@@ -34,12 +34,7 @@ module _ (m : ℕ) (some : 1 ≤ m) where
   turned_small k machine = rest_small m (machine + (m - k % m)) some
 
   equal_if : (x y : ℕ) → (x < y → ⊥) → (y < x → ⊥) → x ≡ y
-  equal_if x y p q = by (cases_lt x y) (cases_lt y x)
-    where
-      by : (x < y) ⊎ (y ≤ x) → (y < x) ⊎ (x ≤ y) → x ≡ y
-      by (inl l) o = absurd (p l)
-      by (inr l) (inl o) = absurd (q o)
-      by (inr l) (inr o) = omega (arith, l, o)
+  equal_if x y p q = grind arith
 
   -- on a machine each place has a slot of its own
   pub slot_of_machine : (j k machine : ℕ) → slot m j machine ≡ slot m k machine → j ≡ k
@@ -66,15 +61,10 @@ module _ (m : ℕ) (some : 1 ≤ m) where
 
 -- the operations of different slots are apart
 apart : (a b t : ℕ) → a ≢ b → ((a + 1) * t ≤ b * t) ⊎ ((b + 1) * t ≤ a * t)
-apart a b t n = by (cases_lt a b) (cases_lt b a)
-  where
-    more : (a b : ℕ) → a < b → a + 1 ≤ b
-    more a b l = omega (arith, l)
-
-    by : (a < b) ⊎ (b ≤ a) → (b < a) ⊎ (a ≤ b) → ((a + 1) * t ≤ b * t) ⊎ ((b + 1) * t ≤ a * t)
-    by (inl l) o = inl (mul-le-mul_right t (more a b l))
-    by (inr l) (inl o) = inr (mul-le-mul_right t (more b a o))
-    by (inr l) (inr o) = absurd (n (omega (arith, l, o)))
+apart a b t n = elim (cases_lt a b) [
+  | inl l ↦ inl (mul-le-mul_right t (add-one-le l))
+  | inr l ↦ let h : b + 1 ≤ a = omega (arith, l, n) in inr (mul-le-mul_right t h)
+]
 
 module _ (i : Instance) (h : IsEvenShop i) (order : List ℕ) (sorted : IsByFalling (length i.jobs) (weight_at i) order) where
   abbrev n : ℕ
@@ -100,7 +90,7 @@ module _ (i : Instance) (h : IsEvenShop i) (order : List ℕ) (sorted : IsByFall
   place_inside x l = turn_inside n m x (omega (arith, l, ap (λ k. k * m) many))
 
   on : (x : ℕ) → x % m < m
-  on x = rest_small m x h.machine
+  on x = rest_small m x h.of.machine
 
   inside : (x : ℕ) → x < N → at order (x / m) < n
   inside x l = order_inside n (weight_at i) order sorted (x / m) (place_inside x l)
@@ -126,42 +116,37 @@ module _ (i : Instance) (h : IsEvenShop i) (order : List ℕ) (sorted : IsByFall
   time_is : (x : ℕ) → x < N → (need_at i (job x) (x % m)).time ≡ time
   time_is x l = h.time (job x) (x % m) (inside x l) (on x)
 
-  not_same : (x y : ℕ) → x < y → x ≡ y → ⊥
-  not_same x y l e = omega (arith, l, e)
-
   abbrev places : Places
   places = record { count = N; job = job; op = λ x. x % m; machine = λ x. x % m; from = from; to = to }
 
   placed : ArePlaced i m places
   placed = record {
     count = ap (λ k. k * m) many;
-    few = omega (arith, mul-le (length order) m MOST_JOBS MOST_MACHINES (omega (arith, many, h.few)) h.machines);
+    few = omega (arith, mul-le (length order) m MOST_JOBS MOST_MACHINES (omega (arith, many, h.of.few)) h.of.machines);
     job_inside = inside;
     op_inside = λ x l. on x;
-    operation = λ x l. subst (λ k. HasOperation k i (job x) (x % m)) (sym h.kind) (omega (arith, on x, h.needs (job x) (inside x l)), works (need_at i (job x) (x % m)).time (time_is x l));
-    may = λ x l. subst (λ k. MayRun k i (job x) (x % m) (x % m)) (sym h.kind) (sym (h.own (job x) (x % m) (inside x l) (on x)));
-    once = λ x y l b e f. not_same x y l (same_turn x y (same_place x y (omega (arith, l, b)) b e) f);
-    long = λ x l. lasts (slot_at x) time _ (time_is x l);
+    operation = λ x l. subst (λ k. HasOperation k i (job x) (x % m)) (sym h.of.kind)
+        (omega (arith, on x, shop_needs i h (job x) (inside x l)), λ z. omega (arith, time_is x l, z, h.span.0));
+    may = λ x l. subst (λ k. MayRun k i (job x) (x % m) (x % m)) (sym h.of.kind) (sym (shop_own i h (job x) (x % m) (inside x l) (on x)));
+    once = λ x y l b e f. omega (arith, l, same_turn x y (same_place x y (omega (arith, l, b)) b e) f);
+    long = λ x l. omega (arith, time_is x l);
     some = λ x l. omega (arith, time_is x l, h.span.0);
-    on_machine = λ x y l b e. apart (slot_at x) (slot_at y) time (λ s. not_same x y l (same_turn x y (slot_of_machine m h.machine (x / m) (y / m) (y % m) (ap (slot m (x / m)) (sym e) ∙ s)) e));
+    on_machine = λ x y l b e. apart (slot_at x) (slot_at y) time (λ s.
+        omega (arith, l, same_turn x y (slot_of_machine m h.of.machine (x / m) (y / m) (y % m) (ap (slot m (x / m)) (sym e) ∙ s)) e));
     of_job = λ x y l b e. let p = same_place x y (omega (arith, l, b)) b e in
-        apart (slot_at x) (slot_at y) time (λ s. not_same x y l (same_turn x y p (slot_of_place m h.machine (y / m) (x % m) (y % m) (on x) (on y) (ap (λ k. slot m k (x % m)) (sym p) ∙ s))));
+        apart (slot_at x) (slot_at y) time (λ s.
+        omega (arith, l, same_turn x y p (slot_of_place m h.of.machine (y / m) (x % m) (y % m) (on x) (on y) (rw p at s))));
     routed = λ e. absurd (no_route (shop_operations i h) e);
-    released = λ x l. omega (arith, h.release (job x) (inside x l));
+    released = λ x l. omega (arith, (shop_operations i h).release (job x) (inside x l));
     early = λ x l. early x l;
   }
     where
-      works : (t : ℕ) → t ≡ time → t ≢ 0
-      works t e z = omega (arith, e, z, h.span.0)
-
-      lasts : (a s t : ℕ) → t ≡ s → (a + 1) * s ≡ a * s + t
-      lasts a s t e = omega (arith, e)
-
       early : (x : ℕ) → x < N → to x ≤ MOST_JOBS * GREATEST
       early x l =
           let k = place_inside x l in
-          let rows = mul-le (x / m / m + 1) m MOST_JOBS MOST_MACHINES (omega (arith, div-le_self (x / m) m, k, h.few)) h.machines in
-          omega (arith, mul-le (slot_at x + 1) time (MOST_MACHINES * MOST_JOBS) GREATEST_EQUAL_TIME (omega (arith, slot_early m h.machine (x / m) (x % m), rows)) h.span.1)
+          let rows = mul-le (x / m / m + 1) m MOST_JOBS MOST_MACHINES (omega (arith, div-le_self (x / m) m, k, h.of.few)) h.of.machines in
+          let last : slot_at x + 1 ≤ MOST_MACHINES * MOST_JOBS = omega (arith, slot_early m h.of.machine (x / m) (x % m), rows) in
+          omega (arith, mul-le (slot_at x + 1) time (MOST_MACHINES * MOST_JOBS) GREATEST_EQUAL_TIME last h.span.1)
 
   abbrev value : ℕ
   value = in_blocks m n (λ k. span * weight_at i (at order k))
@@ -169,28 +154,19 @@ module _ (i : Instance) (h : IsEvenShop i) (order : List ℕ) (sorted : IsByFall
   abbrev end : ℕ → ℕ
   end k = (k / m + 1) * span
 
-  pub squared_answer : IsSumAnswer i value (record { unit = pos 1; pieces = squared m time order })
-  squared_answer = answered i (weight_at i) (IsSumOf-weights i h.crit) order (order_once n (weight_at i) order sorted) (squared m time order) value end
-      (total_below-same n _ _ (λ k l. moved (weight_at i (at order k)) (k / m + 1) span))
+  pub squared_answer : IsSolved i (IsOpenCost i) (IsRoundSchedule i) (over_one (squared m time order))
+  squared_answer = answered i (weight_at i) (IsSumOf-weights i h.of.crit) order (order_once n (weight_at i) order sorted)
+      (squared m time order) value end
+      (total_below-same n _ (λ k. (k / m + 1) * (span * weight_at i (at order k))) (λ k l. omega arith))
       (placed_is_feasible i m places (shop_operations i h).operations placed)
       (placed_is_within i m places (shop_operations i h).operations placed)
       (placed_is_answer i m places (shop_operations i h).operations placed (shop_operations i h).unit)
       (λ r l. placed_ends i m places (shop_operations i h).operations placed (at order r) (end r) (λ x b e. ends x r (order_distinct n (weight_at i) order sorted (x / m) r (place_inside x b) l e)))
-      (λ t f. weights_bound n m (nat_abs t.unit) (λ r. job_length i (at order r)) (λ r. end_at t (at order r)) h.machine
+      (λ t f. weights_bound n m (nat_abs t.unit) (λ r. job_length i (at order r)) (λ r. end_at t (at order r)) h.of.machine
       (room_in_order i t f (job_length i) (λ test moment. law_of_last_ends.shops i t test moment (shop_is i h) (shop_machines i h) f) order (order_once n (weight_at i) order sorted))
       span (λ r l. shop_length i h (at order r) (order_inside n (weight_at i) order sorted r l)) (λ k. weight_at i (at order k)) (order_falls n (weight_at i) order sorted))
+      (record { order = order; falls = sorted; unit = refl; pieces = round_pieces m h.of.machine time n N order place_inside })
+      (placed_uncut i m places placed) (λ cost over. (order, sorted, over))
     where
-      moved : (a b c : ℕ) → a * (b * c) ≡ b * (c * a)
-      moved a b c = omega arith
-
       ends : (x r : ℕ) → x / m ≡ r → to x ≤ end r
-      ends x r e = omega (arith, mul-le-mul_right time (slot_early m h.machine (x / m) (x % m)), grouped (x / m + 1) m time, ap end e)
-        where
-          grouped : (a b c : ℕ) → a * b * c ≡ a * (b * c)
-          grouped a b c = omega arith
-
-  pub squared_schedule : IsRoundSchedule i (record { unit = pos 1; pieces = squared m time order })
-  squared_schedule = record { order = order; falls = sorted; unit = refl; pieces = round_pieces m h.machine time n N order place_inside }
-
-  pub squared_uncut : CutsNone (record { unit = pos 1; pieces = squared m time order })
-  squared_uncut = placed_uncut i m places placed
+      ends x r e = omega (arith, mul-le-mul_right time (slot_early m h.of.machine (x / m) (x % m)), ap end e)

@@ -1,6 +1,5 @@
 -- Jobs by falling time, each behind the job m places behind it: the schedule, and what it costs.
-use Rattle.std.proofs.Common.{◌≡◌, ℕ, zero, suc, ◌+◌, ◌*◌, ◌-◌, ◌/◌, ◌%◌, ◌<◌, ◌≤◌, ◌⊎◌, inl, inr, List, length, map, All, pos, nat_abs, refl, sym, ap, subst, ◌∙◌, arith}
-use Rattle.std.specs.List.{range_with_len}
+use Rattle.std.proofs.Common.{◌≡◌, ℕ, zero, suc, ◌+◌, ◌*◌, ◌-◌, ◌/◌, ◌%◌, ◌<◌, ◌≤◌, inl, inr, List, length, map, All, nat_abs, refl, sym, ap, subst, ◌∙◌, add_assoc, add_comm, one-mul, arith}
 use Rattle.std.proofs.Math.ListN.{get_or-eq_default}
 use Rattle.std.proofs.lemmas.Bool.{cases_lt}
 use Rattle.std.proofs.lemmas.List.{length-map, get_or-map}
@@ -12,8 +11,8 @@ use Rattle.msp_instance.specs.declared.Instance.{Instance}
 use Rattle.msp_pieces.specs.Feasible.{HasOperation, MayRun}
 use Rattle.msp_pieces.specs.BackToBack.{time_at}
 use Rattle.msp_pieces.proofs.bounds.LastEnds.{law_of_last_ends}
-use Rattle.msp_cut_sums.specs.Sums.{at, in_blocks, IsByFalling}
-use Rattle.msp_cut_sums.specs.Schedules.{AreEnds, CutsNone, stacked_piece, IsStackedSchedule}
+use Rattle.msp_cut_sums.specs.Sums.{at, in_blocks, IsByFalling, IsCutSumCost}
+use Rattle.msp_cut_sums.specs.Schedules.{AreEnds, IsStackedSchedule}
 use Rattle.msp_cut_sums.specs.Pieces.{stacked}
 use Rattle.msp_cut_sums.proofs.Falling.{order_once, order_many, order_inside, order_falls, order_distinct}
 use Rattle.msp_cut_sums.proofs.InBlocks.{in_blocks-step, times_bound}
@@ -23,7 +22,7 @@ use Rattle.msp_cut_sums.proofs.Rests.{blocks_rise}
 use Rattle.msp_cut_sums.proofs.Schedules.{placed_uncut}
 use Rattle.msp_pieces.proofs.bounds.Room.{end_at}
 use Rattle.msp_cut_sums.proofs.Room.{room_in_order}
-use Rattle.msp_cut_sums.proofs.Summed.{IsSumOf-ones, IsSumAnswer, answered}
+use Rattle.msp_cut_sums.proofs.Summed.{IsSumOf-ones, IsSolved, answered, over_one}
 
 -- ---- such ends add up by blocks
 ends_by_blocks : (fuel n m : ℕ) (t e : ℕ → ℕ) → 1 ≤ m → n ≤ fuel → ((k : ℕ) → k < n → e k ≡ t k + e (k + m)) → ((k : ℕ) → n ≤ k → e k ≡ 0) → total_below n e ≡ in_blocks m n t
@@ -31,32 +30,16 @@ ends_by_blocks zero zero m t e some short each none = refl
 ends_by_blocks zero (suc n) m t e some short each none = absurd (omega (arith, short))
 ends_by_blocks (suc fuel) n m t e some short each none =
     total_below-same n e (λ k. t k + e (k + m)) each ∙ total_below-add n t (λ k. e (k + m))
-    ∙ ap (λ x. total_below n t + x) (later ∙ ends_by_blocks fuel (n - m) m (λ k. t (m + k)) (λ k. e (m + k)) some (omega (arith, short, some)) each_later none_later)
+    ∙ ap (λ x. total_below n t + x) (later ∙ ends_by_blocks fuel (n - m) m (λ k. t (m + k)) (λ k. e (m + k)) some (omega (arith, short, some))
+    (λ k l. each (m + k) (omega (arith, l)) ∙ ap (λ x. t (m + k) + e x) (add_assoc m k m)) (λ k l. none (m + k) (omega (arith, l))))
     ∙ sym (in_blocks-step m n t some)
   where
-    swapped : (a b : ℕ) → a + b ≡ b + a
-    swapped a b = omega arith
-
-    each_later : (k : ℕ) → k < n - m → e (m + k) ≡ t (m + k) + e (m + (k + m))
-    each_later k l = each (m + k) (omega (arith, l)) ∙ ap (λ x. t (m + k) + e x) (moved m k)
-      where
-        moved : (a b : ℕ) → a + b + a ≡ a + (b + a)
-        moved a b = omega arith
-
-    none_later : (k : ℕ) → n - m ≤ k → e (m + k) ≡ 0
-    none_later k l = none (m + k) (omega (arith, l))
-
     later : total_below n (λ k. e (k + m)) ≡ total_below (n - m) (λ k. e (m + k))
     later =
-        ap (λ x. total_below x (λ k. e (k + m))) whole ∙ total_below-split (n - m) (n - (n - m)) (λ k. e (k + m))
-        ∙ ap (λ x. total_below (n - m) (λ k. e (k + m)) + x) (total_below-none (n - (n - m)) (λ k. e (n - m + k + m)) (λ k l. none (n - m + k + m) (omega arith)))
-        ∙ nothing (total_below (n - m) (λ k. e (k + m))) ∙ total_below-same (n - m) _ _ (λ k l. ap e (swapped k m))
-      where
-        whole : n ≡ n - m + (n - (n - m))
-        whole = omega arith
-
-        nothing : (a : ℕ) → a + 0 ≡ a
-        nothing a = omega arith
+        let whole : n ≡ n - m + (n - (n - m)) = omega arith in
+        let rest = total_below-none (n - (n - m)) (λ k. e (n - m + k + m)) (λ k l. none (n - m + k + m) (omega arith)) in
+        let same = total_below-same (n - m) (λ k. e (k + m)) (λ k. e (m + k)) (λ k l. ap e (add_comm k m)) in
+        omega (arith, ap (λ x. total_below x (λ k. e (k + m))) whole, total_below-split (n - m) (n - (n - m)) (λ k. e (k + m)), rest, same)
 
 module _ (i : Instance) (h : IsSumInstance i) (order : List ℕ) (sorted : IsByFalling (length i.jobs) (time_at i) order)
     (ends : List ℕ) (are : AreEnds i.machines (map (time_at i) order) ends) (small : All (λ e. e ≤ MOST_JOBS * GREATEST) ends) where
@@ -80,18 +63,13 @@ module _ (i : Instance) (h : IsSumInstance i) (order : List ℕ) (sorted : IsByF
 
   -- ends fall along a machine
   end_falls : (j x : ℕ) → at ends (x + j * m) ≤ at ends x
-  end_falls zero x = subst (λ y. at ends y ≤ at ends x) (same x m) (omega arith)
-    where
-      same : (x m : ℕ) → x ≡ x + 0 * m
-      same x m = omega arith
-  end_falls (suc j) x = subst (λ y. at ends y ≤ at ends x) (next x j m) (by (cases_lt (x + j * m) n) (end_falls j x))
-    where
-      next : (x j m : ℕ) → x + j * m + m ≡ x + suc j * m
-      next x j m = omega arith
-
-      by : (x + j * m < n) ⊎ (n ≤ x + j * m) → at ends (x + j * m) ≤ at ends x → at ends (x + j * m + m) ≤ at ends x
-      by (inl l) k = omega (arith, k, end_is (x + j * m) l)
-      by (inr l) k = omega (arith, no_end (x + j * m + m) (omega (arith, l)))
+  end_falls zero x = let same : x ≡ x + 0 * m = omega arith in subst (λ y. at ends y ≤ at ends x) same (omega arith)
+  end_falls (suc j) x =
+      let next : x + j * m + m ≡ x + suc j * m = omega arith in
+      subst (λ y. at ends y ≤ at ends x) next (elim (cases_lt (x + j * m) n) [
+        | inl l ↦ omega (arith, end_falls j x, end_is (x + j * m) l)
+        | inr l ↦ omega (arith, no_end (x + j * m + m) (omega (arith, l)))
+      ])
 
   later_ends : (x y : ℕ) → x < y → x % m ≡ y % m → at ends y ≤ at ends (x + m)
   later_ends x y l e = subst (λ z. at ends z ≤ at ends (x + m))
@@ -115,7 +93,7 @@ module _ (i : Instance) (h : IsSumInstance i) (order : List ℕ) (sorted : IsByF
     operation = λ x l. subst (λ k. HasOperation k i (at order x) 0) (sym h.kind) refl;
     may = λ x l. subst (λ k. MayRun k i (at order x) 0 (x % m)) (sym h.kind) (rest_small m x h.machine);
     once = λ x y l b e f. differ x y l b e;
-    long = λ x l. swapped (at ends x) (time_at i (at order x)) (at ends (x + m)) (end_is x (omega (arith, l, many)));
+    long = λ x l. omega (arith, end_is x (omega (arith, l, many)));
     some = λ x l. (sum_times i h (at order x) (order_inside n (time_at i) order sorted x (omega (arith, l, many)))).0;
     on_machine = λ x y l b e. inr (later_ends x y l e);
     of_job = λ x y l b e. absurd (differ x y l b e);
@@ -124,9 +102,6 @@ module _ (i : Instance) (h : IsSumInstance i) (order : List ℕ) (sorted : IsByF
     early = λ x l. omega (arith, small x 0 (omega (arith, l, many, ends_many)));
   }
     where
-      swapped : (a b c : ℕ) → a ≡ b + c → a ≡ c + b
-      swapped a b c e = omega (arith, e)
-
       differ : (x y : ℕ) → x < y → y < length order → at order x ≡ at order y → ⊥
       differ x y l b e = omega (arith, l, order_distinct n (time_at i) order sorted x y (omega (arith, l, b, many)) (omega (arith, b, many)) e)
 
@@ -134,28 +109,19 @@ module _ (i : Instance) (h : IsSumInstance i) (order : List ℕ) (sorted : IsByF
   value = in_blocks m n (λ k. time_at i (at order k))
 
   ones : (f : ℕ → ℕ) → total_below n (λ r. 1 * f r) ≡ total_below n f
-  ones f = total_below-same n _ f (λ r l. one (f r))
-    where
-      one : (a : ℕ) → 1 * a ≡ a
-      one a = omega arith
+  ones f = total_below-same n _ f (λ r l. one-mul (f r))
 
-  pub stacked_answer : IsSumAnswer i value (record { unit = pos 1; pieces = stacked m order ends })
+  pub stacked_answer : IsSolved i (IsCutSumCost i) (IsStackedSchedule i) (over_one (stacked m order ends))
   stacked_answer = answered i (λ _. 1) (IsSumOf-ones i h.crit) order (order_once n (time_at i) order sorted) (stacked m order ends) value (at ends)
       (ones (at ends) ∙ ends_by_blocks n n m (λ k. time_at i (at order k)) (at ends) h.machine (omega arith) end_is no_end)
       (placed_is_feasible i 1 places (sum_operations i h).operations placed)
       (placed_is_within i 1 places (sum_operations i h).operations placed)
       (placed_is_answer i 1 places (sum_operations i h).operations placed (sum_operations i h).unit)
-      (λ r l. placed_ends i 1 places (sum_operations i h).operations placed (at order r) (at ends r) (λ x b e. same x r (order_distinct n (time_at i) order sorted x r (omega (arith, b, many)) l e)))
+      (λ r l. placed_ends i 1 places (sum_operations i h).operations placed (at order r) (at ends r) (λ x b e.
+      omega (arith, ap (at ends) (order_distinct n (time_at i) order sorted x r (omega (arith, b, many)) l e))))
       (λ t f. subst (λ x. nat_abs t.unit * value ≤ x) (sym (ones (λ r. end_at t (at order r))))
       (times_bound n m (nat_abs t.unit) (λ r. time_at i (at order r)) (λ r. end_at t (at order r)) h.machine
       (room_in_order i t f (time_at i) (λ test moment. law_of_last_ends.machines i t test moment h.kind f) order (order_once n (time_at i) order sorted))
       (order_falls n (time_at i) order sorted)))
-    where
-      same : (x r : ℕ) → x ≡ r → at ends x ≤ at ends r
-      same x r e = omega (arith, ap (at ends) e)
-
-  pub stacked_schedule : IsStackedSchedule i (record { unit = pos 1; pieces = stacked m order ends })
-  stacked_schedule = record { order = order; ends = ends; falls = sorted; are = are; unit = refl; pieces = ap (λ k. map (stacked_piece m order ends) (range_with_len 0 k)) many }
-
-  pub stacked_uncut : CutsNone (record { unit = pos 1; pieces = stacked m order ends })
-  stacked_uncut = placed_uncut i 1 places placed
+      (record { order = order; ends = ends; falls = sorted; are = are; unit = refl; pieces = rw many refl })
+      (placed_uncut i 1 places placed) (λ cost over. (order, sorted, over))

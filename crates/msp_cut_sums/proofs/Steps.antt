@@ -1,9 +1,8 @@
 -- What the loop keeps: the ends from the last place on.
-use Rattle.std.proofs.Common.{◌≡◌, ℕ, ◌+◌, ◌*◌, ◌-◌, ◌<◌, ◌≤◌, ◌⊎◌, inl, inr, List, length, All, set, sym, ap, subst, ◌∙◌, arith}
+use Rattle.std.proofs.Common.{◌≡◌, ℕ, ◌+◌, ◌*◌, ◌-◌, ◌<◌, ◌≤◌, inl, inr, List, length, All, set, sym, ap, subst, ◌∙◌, arith}
 use Rattle.std.proofs.lemmas.Bool.{cases_lt}
-use Rattle.std.proofs.lemmas.List.{length-set, get_or-set_same, get_or-set_other}
+use Rattle.std.proofs.lemmas.List.{length-set, get_or_past, get_or-set_same, get_or-set_other}
 use Rattle.std.proofs.lemmas.List.Elements.{All-set}
-use Rattle.std.proofs.Math.ListN.{get_or-eq_default}
 use Rattle.msp_class.specs.declared.sizes.TheConstants.{GREATEST}
 use Rattle.msp_cut_sums.specs.Sums.{at}
 
@@ -22,11 +21,7 @@ module _ (m back : ℕ) (times ends : List ℕ) (some : 1 ≤ m) (inside : back 
 
   -- an end and a time are small
   pub end_small : (k : ℕ) → at ends k ≤ back * GREATEST
-  end_small k = by (cases_lt k (length ends))
-    where
-      by : (k < length ends) ⊎ (length ends ≤ k) → at ends k ≤ back * GREATEST
-      by (inl l) = h.early k 0 l
-      by (inr l) = omega (arith, get_or-eq_default ends 0 l)
+  end_small k = grind (arith, h.early k 0, get_or_past ends k 0)
 
   pub ends_next : (new : List ℕ) → new ≡ set ends place (at times place + at ends (place + m)) → HaveEnds m (back + 1) times new
   ends_next new e = subst (HaveEnds m (back + 1) times) (sym e) (record {
@@ -42,18 +37,13 @@ module _ (m back : ℕ) (times ends : List ℕ) (some : 1 ≤ m) (inside : back 
       here = omega (arith, inside)
 
       other : (k : ℕ) → place < k → at (set ends place value) k ≡ at ends k
-      other k l = get_or-set_other ends place k value 0 (λ e. differ e l)
-        where
-          differ : k ≡ place → place < k → ⊥
-          differ e l = omega (arith, e, l)
+      other k l = get_or-set_other ends place k value 0 (λ e. omega (arith, e, l))
 
       each : (k : ℕ) → length times ≤ k + (back + 1) → k < length times → at (set ends place value) k ≡ at times k + at (set ends place value) (k + m)
-      each k l b = by (cases_lt place k)
-        where
-          by : (place < k) ⊎ (k ≤ place) → at (set ends place value) k ≡ at times k + at (set ends place value) (k + m)
-          by (inl o) = other k o ∙ h.each k (omega (arith, o, inside)) b ∙ ap (λ x. at times k + x) (sym (other (k + m) (omega (arith, o))))
-          by (inr o) = subst (λ x. at (set ends place value) x ≡ at times x + at (set ends place value) (x + m)) same
-              (get_or-set_same ends place value 0 (omega (arith, here, h.many)) ∙ ap (λ x. at times place + x) (sym (other (place + m) (omega (arith, some)))))
-            where
-              same : place ≡ k
-              same = omega (arith, o, l, inside)
+      each k l b = elim (cases_lt place k) [
+        | inl o ↦ other k o ∙ h.each k (omega (arith, o, inside)) b ∙ ap (λ x. at times k + x) (sym (other (k + m) (omega (arith, o))))
+        | inr o ↦
+            let same : k ≡ place = omega (arith, o, l, inside) in
+            let next = sym (other (place + m) (omega (arith, some))) in
+            rw same (get_or-set_same ends place value 0 (omega (arith, here, h.many)) ∙ ap (λ x. at times place + x) next)
+      ]

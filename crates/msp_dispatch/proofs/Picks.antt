@@ -5,7 +5,7 @@ use Rattle.std.specs.Option.{option_map}
 use Rattle.std.specs.Prelude.{slice_get, Contains, IfSome, IfNone, IfOk, IfErr, Option, Some, None, Result, Ok, Err}
 use Rattle.std.proofs.lemmas.Bool.{cases_lt}
 use Rattle.std.proofs.lemmas.Int.{ints}
-use Rattle.std.proofs.lemmas.Option.{slice_get-map, slice_get_within, get_or_from_slice_get}
+use Rattle.std.proofs.lemmas.Option.{slice_get-map, slice_get_within, get_or_from_slice_get, slice_get-get_or}
 use Rattle.msp_class.specs.declared.class.Class.{Class}
 use Rattle.msp_class.specs.declared.ranks.TheConstants.{CLASSES}
 use Rattle.msp_class.proofs.IntegerRing.{*ℤ_assoc, *ℤ_comm, *ℤ_exchange, *ℤ-mono_nonneg, *ℤ-cancel_pos}
@@ -25,7 +25,7 @@ use Rattle.msp_dispatch.specs.declared.pick.Pick.{Pick}
 use Rattle.msp_dispatch.specs.Solved.{solves, solved_list, solved_classes, Fits}
 use Rattle.msp_dispatch.specs.Dispatch.{IsTarget, IsReported, IsAnswered, HasNoTarget, IsUnfit, IsFault}
 use Rattle.msp_dispatch.specs.declared.Cannot.{Cannot}
-use Rattle.msp_dispatch.specs.declared.Cannot.TheVariants.{NoSolver, NotSolved, NoRoute, Unfit, Memory}
+use Rattle.msp_dispatch.specs.declared.Cannot.TheVariants.{NoRoute, Unfit, Memory}
 use Rattle.msp_carry.specs.Carried.{carried}
 use Rattle.msp_route.specs.declared.answer.Answer.{Answer}
 use Rattle.msp_dispatch.specs.Pick.{class_of, StandsAt, IsRoute, IsPick, IsStopped}
@@ -65,12 +65,8 @@ solved_at n e at =
     let right : slice_get (map (λ x. Some x.class) solved_list) n ≡ Some (Some e.class) = slice_get-map (λ x. Some x.class) solved_list n ∙ ap (option_map (λ x. Some x.class)) at in
     some_same (sym left ∙ ap (λ xs. slice_get xs n) all_solved ∙ right)
 
--- the table has the solvers of the list
-solvers_listed : map (λ e. e.solver) solved_list ≡ SOLVERS
-solvers_listed = refl
-
 solver_at : (n : ℕ) → option_map (λ e. e.solver) (slice_get solved_list n) ≡ slice_get SOLVERS n
-solver_at n = sym (slice_get-map (λ e. e.solver) solved_list n) ∙ ap (λ xs. slice_get xs n) solvers_listed
+solver_at n = sym (slice_get-map (λ e. e.solver) solved_list n)
 
 pub entry_listed : (n : ℕ) (name : SolverName) (c : Class) → slice_get SOLVERS n ≡ Some name → class_of name ≡ Some c → Some (solves c name) ≡ slice_get solved_list n
 entry_listed n name c at is = by (slice_get solved_list n) refl (solver_at n ∙ at)
@@ -132,6 +128,11 @@ pub first_led : (from : Class) (n : ℕ) (p : Pick) → StandsAt n p.entry → I
     → ((k : ℕ) → k < n → IfSome (slice_get solved_list k) (λ e. ¬ Reaches carries from e.class)) → IsFirst (Reaches carries from) solved_classes p.entry.class
 first_led from n p at h none = first_in (Reaches carries from) solved_list n p.entry at (IsRoute-reaches from p h) none
 
+not_reached : (from at : Class) (o : Option SolvedClass) → option_map (λ s. s.class) o ≡ Some at
+    → IfSome o (λ e. ¬ Reaches carries from e.class) → ¬ Reaches carries from at
+not_reached from at None e g = absurd (cc)
+not_reached from at (Some x) e g = let same : x.class ≡ at = cc in subst (λ c. ¬ Reaches carries from c) same g
+
 -- a class of the list to which no chain leads
 pub no_route : (from at : Class) (n : ℕ) (found : Option Pick)
     → found ≡ None → IfNone found (IfSome (slice_get solved_list n) (λ e. ¬ Reaches carries from e.class)) → slice_get solved_classes n ≡ Some at
@@ -140,31 +141,17 @@ no_route from at n found is h stands = (
   refl,
   refl,
   (n, slice_get_within solved_classes n at stands, get_or_from_slice_get solved_classes n at at stands),
-  by (slice_get solved_list n) (sym (slice_get-map (λ s. s.class) solved_list n) ∙ stands) (subst (λ o. IfNone o (IfSome (slice_get solved_list n) (λ e. ¬ Reaches carries from e.class))) is h),
+  not_reached from at (slice_get solved_list n) (sym (slice_get-map (λ s. s.class) solved_list n) ∙ stands)
+      (subst (λ o. IfNone o (IfSome (slice_get solved_list n) (λ e. ¬ Reaches carries from e.class))) is h),
 )
-  where
-    by : (o : Option SolvedClass) → option_map (λ s. s.class) o ≡ Some at → IfSome o (λ e. ¬ Reaches carries from e.class) → ¬ Reaches carries from at
-    by None e g = absurd (cc)
-    by (Some x) e g = let same : x.class ≡ at = cc in subst (λ c. ¬ Reaches carries from c) same g
-
--- no chain leads to a class of the list, where none leads to that of an entry
-none_in : (P : Class → Type 0) (xs : List SolvedClass) → ((k : ℕ) → k < length xs → IfSome (slice_get xs k) (λ x. ¬ P x.class)) → (t : Class) → Contains (map (λ x. x.class) xs) t → ¬ P t
-none_in P [] h t (k, inside, e) = absurd (omega (arith, inside))
-none_in P (x ∷ xs) h t (zero, inside, e) = λ p. h 0 (omega arith) (subst P (sym e) p)
-none_in P (x ∷ xs) h t (suc k, inside, e) = none_in P xs (λ n l. h (suc n) (omega (arith, l))) t (k, omega (arith, inside), e)
 
 pub none_led : (from : Class) (n : ℕ) → length solved_list ≤ n → ((k : ℕ) → k < n → IfSome (slice_get solved_list k) (λ e. ¬ Reaches carries from e.class))
     → (t : Class) → Contains solved_classes t → ¬ Reaches carries from t
-none_led from n whole h t inside = none_in (Reaches carries from) solved_list (λ k l. h k (omega (arith, l, whole))) t inside
-
--- a class that stands at no place is not in the list
-absent : (xs : List Class) (c : Class) → ((k : ℕ) → k < length xs → slice_get xs k ≢ Some c) → ¬ Contains xs c
-absent [] c h (k, inside, e) = omega (arith, inside)
-absent (x ∷ xs) c h (zero, inside, e) = h 0 (omega arith) (ap Some e)
-absent (x ∷ xs) c h (suc k, inside, e) = absent xs c (λ n l. h (suc n) (omega (arith, l))) (k, omega (arith, inside), e)
+none_led from n whole h t (k, inside, e) = not_reached from t (slice_get solved_list k)
+    (sym (slice_get-map (λ s. s.class) solved_list k) ∙ slice_get-get_or solved_classes k t inside ∙ ap Some e) (h k (omega (arith, inside, whole)))
 
 pub not_listed : (c : Class) (n : ℕ) → length solved_classes ≤ n → ((k : ℕ) → k < n → slice_get solved_classes k ≢ Some c) → ¬ Contains solved_classes c
-not_listed c n whole h = absent solved_classes c (λ k l. h k (omega (arith, l, whole)))
+not_listed c n whole h (k, inside, e) = h k (omega (arith, inside, whole)) (slice_get-get_or solved_classes k c inside ∙ ap Some e)
 
 -- what a pick says of the answer that is made from it
 pub answered : (i : Instance) (at : Option Class) (p : Pick) (r : Result Answer Cannot) → IsPick i.class at p → IfOk r (λ a. a.chain ≡ p.chain) → IfOk r (λ a. a.target ≡ p.entry.class)
@@ -181,14 +168,12 @@ answered i at p (Ok a) h chain target solver fits solution = record {
 
 -- what a pick says of the fault in which it ends
 stopped_by : (i : Instance) (at : Option Class) (p : Pick) (e : Cannot) → IsPick i.class at p → IsStopped i p e → IsFault i at e
-stopped_by i at p (NoSolver c) h stop = absurd stop
-stopped_by i at p (NotSolved c) h stop = absurd stop
-stopped_by i at p (NoRoute a b) h stop = absurd stop
 stopped_by i at p (Unfit c) h stop =
     let here : IsUnfit i at p.entry.class = record { solver = p.entry.solver; rows = p.chain.rows; target = h.target; listed = h.route.listed; nearest = h.route.nearest; unfit = stop.1 } in
     subst (IsUnfit i at) (sym stop.0) here
 stopped_by i None p Memory h stop = tt
 stopped_by i (Some c) p Memory h stop = tt
+stopped_by i at p _ h stop = absurd stop
 
 pub stopped : (i : Instance) (at : Option Class) (p : Pick) (r : Result Answer Cannot) → IsPick i.class at p → IfErr r (IsStopped i p) → IfErr r (IsFault i at)
 stopped i at p (Err e) h stop = stopped_by i at p e h stop
@@ -208,14 +193,11 @@ IsPick-first from n found p is picked none =
     record { target = first_led from n p h.0 h.1 none; route = h.1 }
 
 -- the pick of the class that is asked for
-some_once : (o : Option Class) (a b : Class) → o ≡ Some a → o ≡ Some b → a ≡ b
-some_once o a b e f = cc
-
 pub IsPick-given : (from at : Class) (n : ℕ) (found : Option Pick) (p : Pick)
     → found ≡ Some p → IfSome found (λ q. StandsAt n q.entry × IsRoute from q) → slice_get solved_classes n ≡ Some at → IsPick from (Some at) p
 IsPick-given from at n found p is picked given =
     let h : StandsAt n p.entry × IsRoute from p = subst (λ o. IfSome o (λ q. StandsAt n q.entry × IsRoute from q)) is picked in
     let there : slice_get solved_classes n ≡ Some p.entry.class = slice_get-map (λ s. s.class) solved_list n ∙ ap (option_map (λ s. s.class)) h.0 in
-    let same : p.entry.class ≡ at = some_once (slice_get solved_classes n) p.entry.class at there given in
+    let same : p.entry.class ≡ at = some_same (sym there ∙ given) in
     let listed : Contains solved_classes at = (n, slice_get_within solved_classes n at given, get_or_from_slice_get solved_classes n at at given) in
     record { target = (same, listed, subst (Reaches carries from) same (IsRoute-reaches from p h.1)); route = h.1 }

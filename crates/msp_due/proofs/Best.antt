@@ -1,8 +1,8 @@
 -- The schedule of the least bound is best.
-use Rattle.std.proofs.Common.{◌≡◌, ℕ, zero, suc, ◌+◌, ◌-◌, ◌*◌, ◌<◌, ◌≤◌, ◌⊎◌, inl, inr, Bool, true, eqb, leb, ℤ, List, length, get_or, map, filter, pos, nat_abs, ◌-ℤ◌}
+use Rattle.std.proofs.Common.{◌≡◌, ℕ, zero, suc, ◌+◌, ◌-◌, ◌*◌, ◌<◌, ◌≤◌, ◌⊎◌, inl, inr, Bool, true, eqb, leb, ℤ, List, length, get_or, map, filter, pos, nat_abs, ◌-ℤ◌, add-sub_of_le, le_of_lt, sub-eq-zero_of_le, add-one-le}
 use Rattle.std.proofs.Common.{◌*ℤ◌, ◌≤ℤ◌, ◌<ℤ◌, All, refl, sym, ap, ap₂, subst, subst₂, ◌∙◌, arith}
 use Rattle.std.specs.Prelude.{◌&&◌, ◌==◌, ◌↔◌, IsTrue}
-use Rattle.std.proofs.lemmas.Bool.{cases_lt, eqb-true, eq-eqb}
+use Rattle.std.proofs.lemmas.Bool.{cases_lt, eqb-true, eq-eqb, le-leb, leb-true, and_from}
 use Rattle.std.proofs.lemmas.Int.{ints}
 use Rattle.std.proofs.lemmas.List.{get_or_default}
 use Rattle.std.proofs.lemmas.List.Elements.{All-contains}
@@ -27,7 +27,6 @@ use Rattle.msp_pieces.proofs.bounds.Certified.{ranked}
 use Rattle.msp_route.specs.Bounds.{IsAnswer}
 use Rattle.msp_route.specs.Halving.{IsLeastBound}
 use Rattle.msp_route.proofs.KeyedJobs.{rises_or_stays}
-use Rattle.msp_slots.specs.Pieces.{piece_at}
 use Rattle.msp_slots.specs.Places.{ArePlaces, EndAfterPlaces}
 use Rattle.msp_slots.proofs.Progress.{stands-in}
 use Rattle.msp_slots.proofs.ListSchedules.{begins_soon}
@@ -36,8 +35,8 @@ use Rattle.msp_slots.proofs.Places.{law_of_places, injected}
 use Rattle.msp_due.specs.Due.{tree_class, pair_class, CanMeet}
 use Rattle.msp_due.specs.Steps.{how_many, cost_in, CanPlace, IsListed, long_piece}
 use Rattle.msp_due.proofs.Facts.{HasOneTime, HasOneTime-from, tree_or_pair}
-use Rattle.msp_due.proofs.Counts.{both_is_true, how_many-some, covered, slots_hold}
-use Rattle.msp_due.proofs.Meeting.{IsRun, le_leb, leb_le, tree_step, pair_step, all_in_time}
+use Rattle.msp_due.proofs.Counts.{how_many-some, covered, slots_hold}
+use Rattle.msp_due.proofs.Meeting.{IsRun, tree_step, pair_step, all_in_time}
 use Rattle.msp_due.proofs.LongPieces.{schedule, feasible, answer, cost_most, cost_least}
 use Rattle.msp_pieces.proofs.feasible.OneMachine.{both_true}
 
@@ -64,11 +63,10 @@ next_is arcs k j few step =
 
 -- as many as fit behind
 room : (m c p count : ℕ) → count ≤ m * (c - p) → 1 ≤ count → count + m * p ≤ m * c
-room m c p count hold some = by (c - p) refl hold
-  where
-    by : (d : ℕ) → c - p ≡ d → count ≤ m * d → count + m * p ≤ m * c
-    by zero e h = absurd (omega (arith, some, h))
-    by (suc d) e h = let whole : c ≡ p + suc d = omega (arith, e) in omega (arith, h, ap (λ x. m * x) whole)
+room m c p count hold some = elim (cases_lt p c) [
+  | inl l ↦ omega (arith, hold, ap (λ x. m * x) (add-sub_of_le (le_of_lt l)))
+  | inr l ↦ absurd (omega (arith, hold, some, ap (λ x. m * x) (sub-eq-zero_of_le l)))
+]
 
 module _ (i : Instance) (t : HasOneTime i) where
   abbrev n : ℕ
@@ -93,12 +91,9 @@ module _ (i : Instance) (t : HasOneTime i) where
     module _ (place : ℕ → ℕ) (p : ArePlaces i place) (met : (j : ℕ) → j < n → cost_in i j (place j + 1) ≤ℤ bound) where
       place_due : (j : ℕ) → j < n → place j + 1 ≤ h.due j
       place_due j l = elim (cases_lt (h.due j) (place j + 1)) [
-        | inl less ↦ absurd (never (cost_in i j (place j + 1)) ((h.dues j l).beyond (place j + 1) less (omega (arith, p.early j l))) (met j l))
+        | inl less ↦ absurd (omega (arith, ints, (h.dues j l).beyond (place j + 1) less (omega (arith, p.early j l)), met j l))
         | inr by_then ↦ by_then
       ]
-        where
-          never : (x : ℤ) → bound <ℤ x → x ≤ℤ bound → ⊥
-          never x a b = omega (arith, ints, a, b)
 
       place_after : (x y : ℕ) → HasPath i.arcs x y → place x < place y
       place_after = path_rises place p.forward
@@ -113,7 +108,7 @@ module _ (i : Instance) (t : HasOneTime i) where
                 let (path, due) = both_true (h.leads x z) (leb (slot z) c) e in
                 let later = place_after x z ((h.shows x z l k).0 path) in
                 let soon = kept_by rank rises top fuel high z k (omega (arith, path_rises rank rises x z ((h.shows x z l k).0 path), f)) in
-                (omega (arith, later), omega (arith, soon, leb_le (slot z) c due, later)))) some),
+                (omega (arith, later), omega (arith, soon, leb-true (slot z) c due, later)))) some),
           )
 
       kept : (j : ℕ) → j < n → place j < slot j
@@ -132,8 +127,8 @@ module _ (i : Instance) (t : HasOneTime i) where
               let (k, inside, at, on, ahead) = all m b in (
                 k,
                 inside,
-                both_is_true (leb (slot k) (slot j)) (eqb (h.schedule.begin k) x)
-                    (le_leb (slot k) (slot j) (stands-in (λ a b. slot a ≤ slot b) h.order k j (rises_or_stays slot h.order h.rising) ahead)) (eq-eqb (h.schedule.begin k) x at),
+                and_from (leb (slot k) (slot j)) (eqb (h.schedule.begin k) x)
+                    (le-leb (slot k) (slot j) (stands-in (λ a b. slot a ≤ slot b) h.order k j (rises_or_stays slot h.order h.rising) ahead)) (eq-eqb (h.schedule.begin k) x at),
                 on,
               )),
           total_below-constant i.machines 1,
@@ -148,7 +143,7 @@ module _ (i : Instance) (t : HasOneTime i) where
         path = λ k j a b step. (h.shows k j a b).1 (one step);
         joined = λ k j l a b c p q. (h.shows k l a c).1 (joined_paths i.arcs k j l ((h.shows k j a b).0 p) ((h.shows j l b c).0 q));
         fits = λ x y a b path. (h.lowered x a).fits (slot y) (omega (arith, due_small y b)) (omega (arith, kept x a))
-            (how_many-some n (λ z. h.leads x z && leb (slot z) (slot y)) y b (both_is_true (h.leads x y) (leb (slot y) (slot y)) path (le_leb (slot y) (slot y) (omega arith))));
+            (how_many-some n (λ z. h.leads x z && leb (slot z) (slot y)) y b (and_from (h.leads x y) (leb (slot y) (slot y)) path (le-leb (slot y) (slot y) (omega arith))));
         few = p.few;
         kept = kept;
       }
@@ -163,16 +158,12 @@ module _ (i : Instance) (t : HasOneTime i) where
     EndInTime p = p.to ≤ℤ pos (slot p.job)
 
     pub jobs_in_time : All EndInTime pieces → (j : ℕ) → j < n → h.schedule.begin j < slot j
-    jobs_in_time all = each_job pieces (OnceBelow-from_permutation h.schedule.all) (λ j. h.schedule.begin j < slot j) (λ k d b. early (get_or pieces k d) (h.schedule.each k d b) (all k d b))
-      where
-        early : (p : Piece) → p ≡ piece_at (h.schedule.begin p.job) (h.schedule.machine p.job) p.job → EndInTime p → h.schedule.begin p.job < slot p.job
-        early p e m = omega (arith, le-pos (subst (λ x. x ≤ℤ pos (slot p.job)) (ap (λ p. p.to) e) m))
+    jobs_in_time all = each_job pieces (OnceBelow-from_permutation h.schedule.all) (λ j. h.schedule.begin j < slot j)
+        (λ k d b. omega (arith, le-pos (subst (λ x. x ≤ℤ pos (slot (get_or pieces k d).job)) (ap (λ p. p.to) (h.schedule.each k d b)) (all k d b))))
 
     pub pieces_in_time : ((j : ℕ) → j < n → h.schedule.begin j < slot j) → All EndInTime pieces
-    pieces_in_time early k d b = in_time (get_or pieces k d) (h.schedule.each k d b) (early (get_or pieces k d).job (job_inside pieces (OnceBelow-from_permutation h.schedule.all) k d b))
-      where
-        in_time : (p : Piece) → p ≡ piece_at (h.schedule.begin p.job) (h.schedule.machine p.job) p.job → h.schedule.begin p.job < slot p.job → EndInTime p
-        in_time p e l = subst (λ x. x ≤ℤ pos (slot p.job)) (sym (ap (λ p. p.to) e)) (pos-le (omega (arith, l)))
+    pieces_in_time early k d b = subst (λ x. x ≤ℤ pos (slot (get_or pieces k d).job)) (sym (ap (λ p. p.to) (h.schedule.each k d b)))
+        (pos-le (add-one-le (early (get_or pieces k d).job (job_inside pieces (OnceBelow-from_permutation h.schedule.all) k d b))))
 
     cost_met : ((j : ℕ) → j < n → h.schedule.begin j < slot j) → (j : ℕ) → j < n → cost_in i j (h.schedule.begin j + 1) ≤ℤ bound
     cost_met early j l = (h.dues j l).met (h.schedule.begin j + 1) (omega arith) (omega (arith, early j l, (h.lowered j l).most))
@@ -216,9 +207,6 @@ module _ (i : Instance) (t : HasOneTime i) where
     some_unit : 0 < unit
     some_unit = omega (arith, le-pos (subst (λ x. pos 1 ≤ℤ x) unit_is f.unit))
 
-    greatest_crit : is_greatest i.class.crit ≡ true
-    greatest_crit = ap is_greatest t.crit
-
     placed : (place : ℕ → ℕ) × ArePlaces i place × EndAfterPlaces i s place
     placed = law_of_places (inner_limits (kind_of i.class.env)) i s (inr t.kind) t.cut t.inner.conditions t.times f
 
@@ -229,7 +217,7 @@ module _ (i : Instance) (t : HasOneTime i) where
     pays j l =
         ≤ℤ_trans (subst (λ x. x ≤ℤ charge_of i s j) (scaled (common_time i * (place j + 1)))
         (job_cost-mono i.class.crit s.unit (job_at i j) (s.unit *ℤ pos (common_time i * (place j + 1))) (end_of s j) (omega (arith, ints, f.unit)) (placed.2 j l)))
-        (cost_of-bound i s greatest_crit j l)
+        (cost_of-bound i s (ap is_greatest t.crit) j l)
       where
         scaled : (x : ℕ) → job_cost i.class.crit s.unit (job_at i j) (s.unit *ℤ pos x) ≡ pos unit *ℤ cost_at i j x
         scaled x = ap (λ u. job_cost i.class.crit u (job_at i j) (u *ℤ pos x)) unit_is
@@ -241,15 +229,9 @@ module _ (i : Instance) (t : HasOneTime i) where
     pub no_less : (bound : ℤ) → IsLeastBound (CanPlace i) bound → (bound *ℤ s.unit) ≤ℤ (cost_of i s *ℤ pos 1)
     no_less bound least = elim (≤ℤ_total (bound *ℤ s.unit) (cost_of i s)) [
       | inl at_least ↦ subst (λ x. (bound *ℤ s.unit) ≤ℤ x) (sym (*ℤ-one (cost_of i s))) at_least
-      | inr less ↦ absurd (never bound (least.least (bound -ℤ pos 1) (place, placed.1, λ j l. under (cost_in i j (place j + 1)) bound (*ℤ-cancel_lt unit (strict (pays j l) less)))))
+      | inr less ↦ absurd (omega (arith, ints, least.least (bound -ℤ pos 1) (place, placed.1, λ j l. omega (arith, ints, *ℤ-cancel_lt unit (strict (pays j l) less)))))
     ]
       where
-        never : (b : ℤ) → b ≤ℤ (b -ℤ pos 1) → ⊥
-        never b h = omega (arith, ints, h)
-
-        under : (x b : ℤ) → x <ℤ b → x ≤ℤ (b -ℤ pos 1)
-        under x b h = omega (arith, ints, h)
-
         strict : {x : ℤ} → x ≤ℤ cost_of i s → cost_of i s <ℤ (bound *ℤ s.unit) → x <ℤ (pos unit *ℤ bound)
         strict p q = ≤ℤ-<ℤ p (subst (λ x. cost_of i s <ℤ x) (ap (λ u. bound *ℤ u) unit_is ∙ *ℤ_comm bound (pos unit)) q)
 

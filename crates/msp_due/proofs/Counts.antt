@@ -1,7 +1,7 @@
 -- How many numbers below n pass a test.
-use Rattle.std.proofs.Common.{◌≡◌, ◌≢◌, ℕ, zero, suc, ◌+◌, ◌*◌, ◌<◌, ◌≤◌, inl, inr, Bool, true, false, cond, eqb, ltb, leb, refl, sym, ap, ◌∙◌, arith}
+use Rattle.std.proofs.Common.{◌≡◌, ℕ, zero, suc, ◌+◌, ◌*◌, ◌<◌, ◌≤◌, inl, inr, Bool, true, false, cond, eqb, ltb, leb, refl, sym, ap, ◌∙◌, arith}
 use Rattle.std.specs.Prelude.{◌&&◌}
-use Rattle.std.proofs.lemmas.Bool.{eqb-true, eq-eqb, ne_eqb}
+use Rattle.std.proofs.lemmas.Bool.{eqb-true, eq-eqb, ne_eqb, and_from, and_right, ltb-true}
 use Rattle.std.proofs.lemmas.Bool.Decides.{nat_tests}
 use Rattle.msp_class.specs.Sums.{total_below}
 use Rattle.msp_class.proofs.Sums.{total_below-mono, total_below-same, total_below-add, total_below-exchange, total_below-only, total_below-none, total_below-term}
@@ -10,10 +10,6 @@ use Rattle.msp_slots.specs.Seating.{one_if, begin_at}
 use Rattle.msp_class.proofs.Cases.{same_or_not}
 use Rattle.msp_pieces.proofs.lists.Positions.{count_at_most_one}
 use Rattle.msp_due.specs.Steps.{how_many}
-
-pub both_is_true : (a b : Bool) → a ≡ true → b ≡ true → (a && b) ≡ true
-both_is_true true b e f = f
-both_is_true false b e f = absurd (cc)
 
 implied : (a b : Bool) → (a ≡ true → b ≡ true) → one_if a ≤ one_if b
 implied false b h = omega arith
@@ -49,17 +45,10 @@ only_one n f a b few k l p q = elim (same_or_not a b) [
   | inr other ↦ absurd (omega (
     arith,
     few,
-    how_many-more n (λ j. f j && eqb a j) f b l (fails other) q (λ j _ h. (both_true (f j) (eqb a j) h).0),
-    how_many-some n (λ j. f j && eqb a j) a k (both_is_true (f a) (eqb a a) p (eq-eqb a a refl)),
+    how_many-more n (λ j. f j && eqb a j) f b l (and_right (f b) (eqb a b) (ne_eqb a b other)) q (λ j _ h. (both_true (f j) (eqb a j) h).0),
+    how_many-some n (λ j. f j && eqb a j) a k (and_from (f a) (eqb a a) p (eq-eqb a a refl)),
   ))
 ]
-  where
-    fails : a ≢ b → (f b && eqb a b) ≡ false
-    fails other = ap (λ t. f b && t) (ne_eqb a b other) ∙ none (f b)
-      where
-        none : (t : Bool) → (t && false) ≡ false
-        none true = refl
-        none false = refl
 
 -- each number below k that passes is the value of one below n that does
 row : (k v : ℕ) (t : Bool) → total_below k (λ y. one_if (t && eqb v y)) ≤ one_if t
@@ -80,7 +69,7 @@ covered n k f g value h =
       where
         by : (t : Bool) → g y ≡ t → one_if t ≤ total_below n (λ p. one_if (f p && eqb (value p) y))
         by false e = omega arith
-        by true e = let (p, b, passes, is) = h y l e in omega (arith, how_many-some n (λ p. f p && eqb (value p) y) p b (both_is_true (f p) (eqb (value p) y) passes (eq-eqb (value p) y is)))
+        by true e = let (p, b, passes, is) = h y l e in omega (arith, how_many-some n (λ p. f p && eqb (value p) y) p b (and_from (f p) (eqb (value p) y) passes (eq-eqb (value p) y is)))
 
 -- ---- numbers that have slots
 -- those between two slots are no more than these slots hold
@@ -97,18 +86,12 @@ slots_hold n m slot few from (suc d) f h =
       total_below-mono n (λ j. one_if (f j)) (λ j. one_if (f j && ltb (slot j) (from + d)) + one_if (eqb (slot j) (from + d))) (λ j l. split (slot j) (f j) (λ e. h j l e)),
       total_below-add n (λ j. one_if (f j && ltb (slot j) (from + d))) (λ j. one_if (eqb (slot j) (from + d))),
       few (from + d),
-      slots_hold n m slot few from d (λ j. f j && ltb (slot j) (from + d)) (λ j l e. let (a, b) = both_true (f j) (ltb (slot j) (from + d)) e in ((h j l a).0, less (slot j) (from + d) b)),
+      slots_hold n m slot few from d (λ j. f j && ltb (slot j) (from + d)) (λ j l e. let (a, b) = both_true (f j) (ltb (slot j) (from + d)) e in ((h j l a).0, ltb-true (slot j) (from + d) b)),
     )
   where
-    less : (a b : ℕ) → ltb a b ≡ true → a < b
-    less a b e = grind (arith, nat_tests)
-
     split : (x : ℕ) (t : Bool) → (t ≡ true → (from ≤ x) × (x < from + suc d)) → one_if t ≤ one_if (t && ltb x (from + d)) + one_if (eqb x (from + d))
     split x false g = omega arith
-    split x true g = let (a, b) = g refl in at_end x (from + d) (omega (arith, b))
-      where
-        at_end : (x e : ℕ) → x < e + 1 → 1 ≤ one_if (ltb x e) + one_if (eqb x e)
-        at_end x e l = grind (arith, nat_tests)
+    split x true g = let (a, b) = g refl in grind (arith, nat_tests)
 
 -- and where each of these slots has m, they are no fewer
 pub slots_full : (n m : ℕ) (slot : ℕ → ℕ) (f : ℕ → Bool) (from d : ℕ) → ((x : ℕ) → from ≤ x → x < from + d → m ≤ how_many n (λ j. f j && eqb (slot j) x))

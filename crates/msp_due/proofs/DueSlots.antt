@@ -1,7 +1,7 @@
 -- Due slots for a bound, found by halving.
-use Rattle.std.proofs.Common.{◌≡◌, ℕ, ◌+◌, ◌*◌, ◌-◌, ◌/◌, ◌<◌, ◌≤◌, inl, inr, Bool, true, false, ℤ, List, [], ◌∷◌, ◌++◌, length, get_or, pos, ◌≤ℤ◌, ◌<ℤ◌, All, refl, sym, ap, subst, ◌∙◌, arith}
+use Rattle.std.proofs.Common.{◌≡◌, ℕ, ◌+◌, ◌*◌, ◌-◌, ◌/◌, ◌<◌, ◌≤◌, inl, inr, Bool, true, false, ℤ, List, [], ◌∷◌, ◌++◌, length, get_or, pos, ◌≤ℤ◌, ◌<ℤ◌, All, refl, sym, ap, subst, ◌∙◌, arith, below_more}
 use Rattle.std.specs.Prelude.{◌↔◌, IsTrue, if◌then◌else◌}
-use Rattle.std.proofs.lemmas.Bool.{cases_lt}
+use Rattle.std.proofs.lemmas.Bool.{false≢true}
 use Rattle.std.proofs.lemmas.Int.{ints}
 use Rattle.std.proofs.lemmas.List.{get_or_append_left, get_or_push, get_or_default}
 use Rattle.std.proofs.Math.Nat.{mul-le-mul_left}
@@ -44,12 +44,9 @@ module _ (i : Instance) (bound : ℤ) (j : ℕ) (b new : Between) (middle : ℕ)
     where
       over : (c : ℕ) → cost_in i j middle ≤ℤ cost_in i j c → bound <ℤ cost_in i j c
       over c k = elim (≤ℤ_total (cost_in i j middle) bound) [
-        | inl least ↦ absurd (never (m.1 least))
+        | inl least ↦ absurd (false≢true (m.1 least))
         | inr less ↦ omega (arith, ints, less, k)
       ]
-        where
-          never : IsTrue false → ⊥
-          never p = absurd (cc)
 
   pub halved_shorter : (is : Bool) → new.met ≡ (if is then middle else b.met) → new.beyond ≡ (if is then b.beyond else middle) → new.beyond - new.met < b.beyond - b.met
   halved_shorter true e f = omega (arith, e, f, low, high)
@@ -67,13 +64,9 @@ AreDueSlots-none i bound slots j l = absurd (omega (arith, l))
 
 pub AreDueSlots-next : (i : Instance) (bound : ℤ) (k : ℕ) (slots new : List ℕ) (slot : ℕ)
     → new ≡ slots ++ slot ∷ [] → length slots ≡ k → IsDueSlot i bound k slot → AreDueSlots i bound k slots → AreDueSlots i bound (k + 1) new
-AreDueSlots-next i bound k slots new slot e len is h j l = elim (cases_lt j k) [
-  | inl less ↦ subst (IsDueSlot i bound j) (sym (ap (λ xs. get_or xs j 0) e ∙ get_or_append_left slots (slot ∷ []) 0 j (omega (arith, less, len)))) (h j less)
-  | inr last ↦
-      let at : k ≡ j = omega (arith, l, last) in
-      subst (λ j. IsDueSlot i bound j (get_or new j 0)) at
-      (subst (IsDueSlot i bound k) (sym (ap (λ xs. get_or xs k 0) e ∙ get_or_push slots slot 0 k len)) is)
-]
+AreDueSlots-next i bound k slots new slot e len is h = below_more (λ j. IsDueSlot i bound j (get_or new j 0)) k
+    (λ j l. subst (IsDueSlot i bound j) (sym (ap (λ xs. get_or xs j 0) e ∙ get_or_append_left slots (slot ∷ []) 0 j (omega (arith, l, len)))) (h j l))
+    (subst (IsDueSlot i bound k) (sym (ap (λ xs. get_or xs k 0) e ∙ get_or_push slots slot 0 k len)) is)
 
 pub due_small : (i : Instance) (bound : ℤ) (slots moved : List ℕ) → moved ≡ slots → length slots ≡ length i.jobs → AreDueSlots i bound (length i.jobs) slots → All (λ s. s ≤ length i.jobs) moved
 due_small i bound slots moved e whole h = subst (All (λ s. s ≤ length i.jobs)) (sym e) (λ k d l. omega (arith, get_or_default slots k d 0 l, (h k (omega (arith, l, whole))).most))

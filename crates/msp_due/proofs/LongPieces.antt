@@ -1,5 +1,5 @@
 -- A schedule in slots where each slot lasts the common time: it is feasible, and when its jobs end.
-use Rattle.std.proofs.Common.{◌≡◌, ◌≢◌, ℕ, ℤ, ◌+◌, ◌*◌, ◌<◌, ◌≤◌, ◌⊎◌, inl, inr, true, List, length, get_or, map, pos, ◌-ℤ◌, ◌*ℤ◌, ◌≤ℤ◌, All}
+use Rattle.std.proofs.Common.{◌≡◌, ◌≢◌, ℕ, ℤ, ◌+◌, ◌*◌, ◌<◌, ◌≤◌, ◌⊎◌, inl, inr, List, length, get_or, map, pos, ◌-ℤ◌, ◌*ℤ◌, ◌≤ℤ◌, All, add-one-le}
 use Rattle.std.proofs.Common.{sym, ap, ap₂, subst, ◌∙◌, arith}
 use Rattle.std.proofs.lemmas.Bool.{cases_lt}
 use Rattle.std.proofs.lemmas.Simd.{map-map}
@@ -31,10 +31,7 @@ use Rattle.msp_due.proofs.Facts.{HasOneTime}
 
 -- one slot is over before another begins
 slot_over : (t x y : ℕ) → x < y → t * (x + 1) ≤ t * y
-slot_over t x y l = mul-le-mul_left t (more x y l)
-  where
-    more : (x y : ℕ) → x < y → x + 1 ≤ y
-    more x y l = omega (arith, l)
+slot_over t x y l = mul-le-mul_left t (add-one-le l)
 
 module _ (i : Instance) (t : HasOneTime i) (order : List ℕ) (pieces : List Piece) (h : IsListSchedule i order pieces) where
   abbrev n : ℕ
@@ -63,19 +60,14 @@ module _ (i : Instance) (t : HasOneTime i) (order : List ℕ) (pieces : List Pie
   each = All-map Mine (long_piece time) pieces (λ k d l. is (get_or pieces k d) (h.each k d l))
     where
       is : (p : Piece) → p ≡ piece_at (h.begin p.job) (h.machine p.job) p.job → long_piece time p ≡ job_piece from to h.machine p.job
-      is p e = ap (long_piece time) e ∙ ap₂ (λ x y. record { job = p.job; op = 0; machine = h.machine p.job; from = x; to = y }) (times (h.begin p.job)) (times (h.begin p.job + 1))
-        where
-          times : (x : ℕ) → pos x *ℤ pos time ≡ pos (time * x)
-          times x = *ℤ_comm (pos x) (pos time)
+      is p e = ap (long_piece time) e ∙ ap₂ (λ x y. record { job = p.job; op = 0; machine = h.machine p.job; from = x; to = y })
+          (*ℤ_comm (pos (h.begin p.job)) (pos time)) (*ℤ_comm (pos (h.begin p.job + 1)) (pos time))
 
   jobs : OnceBelow n (map (λ p. p.job) long)
   jobs = subst (OnceBelow n) (sym (map-map (λ p. p.job) (long_piece time) pieces)) (OnceBelow-from_permutation h.all)
 
   soon : (j : ℕ) → j < n → time * (h.begin j + 1) ≤ MOST_JOBS * GREATEST_EQUAL_TIME
-  soon j l = small time (h.begin j + 1) t.time.1 (omega (arith, begins_soon i order pieces h j l, t.few))
-    where
-      small : (a b : ℕ) → a ≤ GREATEST_EQUAL_TIME → b ≤ MOST_JOBS → a * b ≤ MOST_JOBS * GREATEST_EQUAL_TIME
-      small a b p q = omega (arith, mul-le-mul p q)
+  soon j l = let few : h.begin j + 1 ≤ MOST_JOBS = omega (arith, begins_soon i order pieces h j l, t.few) in omega (arith, mul-le-mul t.time.1 few)
 
   runs : RunsJobs i to long
   runs = runs_jobs i (IsUncut-unrelated i t.kind t.cut t.few) from to h.machine long (record {
@@ -97,13 +89,7 @@ module _ (i : Instance) (t : HasOneTime i) (order : List ℕ) (pieces : List Pie
       whole_time j l = lasts_one time (h.begin j) (need_at i j (h.machine j)).time (t.times j l (h.machine j) no_need (omega (arith, t.wide j l, h.runs.inside j l)))
         where
           lasts_one : (a x need : ℕ) → need ≡ a → (pos (a * (x + 1)) -ℤ pos (a * x)) ≡ pos 1 *ℤ pos need
-          lasts_one a x need e = part (a * (x + 1)) (a * x) need (next a x e)
-            where
-              next : (a x : ℕ) → need ≡ a → a * (x + 1) ≡ a * x + need
-              next a x e = omega (arith, e)
-
-              part : (p q r : ℕ) → p ≡ q + r → (pos p -ℤ pos q) ≡ pos 1 *ℤ pos r
-              part p q r e = omega (arith, ints, e)
+          lasts_one a x need e = let next : a * (x + 1) ≡ a * x + need = omega (arith, e) in omega (arith, ints, next)
 
   pub feasible : Feasible i schedule
   feasible = runs.feasible
@@ -115,11 +101,8 @@ module _ (i : Instance) (t : HasOneTime i) (order : List ℕ) (pieces : List Pie
   pub charge : (j : ℕ) → j < n → charge_of i schedule j ≡ cost_in i j (h.begin j + 1)
   charge j b = ap (λ e. job_cost i.class.crit (pos 1) (job_at i j) e) (runs.ends j b)
 
-  greatest_crit : is_greatest i.class.crit ≡ true
-  greatest_crit = ap is_greatest t.crit
-
   pub cost_most : (bound : ℤ) → ((j : ℕ) → j < n → cost_in i j (h.begin j + 1) ≤ℤ bound) → cost_of i schedule ≤ℤ bound
-  cost_most bound f = cost_of-least i schedule bound greatest_crit t.some (λ k b. subst (λ x. x ≤ℤ bound) (sym (charge k b)) (f k b))
+  cost_most bound f = cost_of-least i schedule bound (ap is_greatest t.crit) t.some (λ k b. subst (λ x. x ≤ℤ bound) (sym (charge k b)) (f k b))
 
   pub cost_least : (j : ℕ) → j < n → cost_in i j (h.begin j + 1) ≤ℤ cost_of i schedule
-  cost_least j b = subst (λ x. x ≤ℤ cost_of i schedule) (charge j b) (cost_of-bound i schedule greatest_crit j b)
+  cost_least j b = subst (λ x. x ≤ℤ cost_of i schedule) (charge j b) (cost_of-bound i schedule (ap is_greatest t.crit) j b)

@@ -1,13 +1,14 @@
 -- Due slots lowered by those of the jobs that follow, from the last job of a forward order to the first.
-use Rattle.std.proofs.Common.{◌≡◌, ◌≢◌, ℕ, zero, suc, ◌+◌, ◌*◌, ◌/◌, ◌%◌, ◌-◌, ◌<◌, ◌≤◌, inl, inr, min, Bool, true, false, eqb, ltb, leb, List, length, get_or, set, replicate}
+use Rattle.std.proofs.Common.{◌≡◌, ◌≢◌, ℕ, zero, suc, ◌+◌, ◌*◌, ◌/◌, ◌%◌, ◌-◌, ◌<◌, ◌≤◌, inl, inr, min, Bool, true, false, eqb, ltb, leb, List, length, get_or, set, replicate, add-one-le, add-one}
 use Rattle.std.proofs.Common.{Fits, w32, All, ap₂, refl, sym, ap, subst, ◌∙◌, arith}
 use Rattle.std.specs.Prelude.{◌&&◌, IsTrue, ◌↔◌, if◌then◌else◌}
-use Rattle.std.proofs.lemmas.Bool.{cases_lt}
+use Rattle.std.proofs.lemmas.Bool.{cases_lt, false_from_ne_true}
 use Rattle.std.proofs.lemmas.Bool.Decides.{nat_tests}
 use Rattle.std.proofs.lemmas.Grind.{div_ceil_times}
 use Rattle.std.proofs.lemmas.List.{get_or-set_same, get_or-set_other, get_or_default, get_or-replicate, get_or_past, length-replicate, length-set}
 use Rattle.std.proofs.lemmas.List.Elements.{All-contains}
 use Rattle.std.proofs.Math.Nat.{mul-le-mul_left}
+use Rattle.std.proofs.Math.Numerals.{suc-eq-add-one}
 use Rattle.msp_class.specs.declared.sizes.TheConstants.{MOST_JOBS}
 use Rattle.msp_class.specs.Sums.{total_below}
 use Rattle.msp_class.proofs.Sums.{total_below-same, total_below-add, total_below-none, total_below-bound, cond-le}
@@ -29,25 +30,16 @@ pub fitted_fits : (slot after m end result : ℕ) → 1 ≤ m → result ≡ min
 fitted_fits slot after m end result some is first = by (after / m + min 1 (after % m)) (div_ceil_times after m some).0 is
   where
     by : (q : ℕ) → after ≤ q * m → result ≡ min slot (end - q) → after + m * result ≤ m * end
-    by q h e = omega (arith, h, mul-le-mul_left m (below q e))
-      where
-        below : (q : ℕ) → result ≡ min slot (end - q) → q + result ≤ end
-        below q e = omega (arith, e, first)
+    by q h e = let below : q + result ≤ end = omega (arith, e, first) in omega (arith, h, mul-le-mul_left m below)
 
 pub fitted_greatest : (slot after m end result : ℕ) → 1 ≤ m → result ≡ min slot (end - (after / m + min 1 (after % m))) → (v : ℕ) → v ≤ slot → after + m * v ≤ m * end → v ≤ result
 fitted_greatest slot after m end result some is v l room = by (after / m + min 1 (after % m)) (div_ceil_times after m some).1 is
   where
     by : (q : ℕ) → q * m < after + m → result ≡ min slot (end - q) → v ≤ result
     by q h e = elim (cases_lt end (q + v)) [
-      | inl past ↦ absurd (never (mul-le-mul_left m (next q past)))
+      | inl past ↦ absurd (omega (arith, mul-le-mul_left m (add-one-le past), h, room))
       | inr fits ↦ omega (arith, e, l, fits)
     ]
-      where
-        next : (q : ℕ) → end < q + v → end + 1 ≤ q + v
-        next q p = omega (arith, p)
-
-        never : m * (end + 1) ≤ m * (q + v) → ⊥
-        never k = omega (arith, k, h, room)
 
 pub fitted_none : (m end slot : ℕ) (after : ℕ) → after ≡ 0 → 1 ≤ after → after + m * slot ≤ m * end
 fitted_none m end slot after e h = absurd (omega (arith, e, h))
@@ -125,20 +117,14 @@ no_count k = elim (cases_lt k (MOST_JOBS + 1)) [ inl l ↦ get_or-replicate (MOS
 pub count-next : (f : ℕ → Bool) (low : ℕ → ℕ) (k slot : ℕ) (old new : ℕ → ℕ) → slot ≡ low k → ((c : ℕ) → old c ≡ how_many k (λ z. f z && eqb (low z) c))
     → ((c : ℕ) → new c ≡ (if f k && eqb slot c then old c + 1 else old c)) → (c : ℕ) → new c ≡ how_many (k + 1) (λ z. f z && eqb (low z) c)
 count-next f low k slot old new at so_far is c = is c ∙ one_test (f k && eqb slot c) (old c) ∙ ap (λ x. x + one_if (f k && eqb slot c)) (so_far c)
-    ∙ ap (λ s. how_many k (λ z. f z && eqb (low z) c) + one_if (f k && eqb s c)) at ∙ ap (λ m. how_many m (λ z. f z && eqb (low z) c)) (next k)
+    ∙ ap (λ s. how_many k (λ z. f z && eqb (low z) c) + one_if (f k && eqb s c)) at ∙ ap (λ m. how_many m (λ z. f z && eqb (low z) c)) (suc-eq-add-one k)
   where
     one_test : (t : Bool) (x : ℕ) → (if t then x + 1 else x) ≡ x + one_if t
     one_test true x = refl
     one_test false x = omega arith
 
-    next : (k : ℕ) → suc k ≡ k + 1
-    next k = omega arith
-
 pub total_below-next : (k : ℕ) (f : ℕ → ℕ) → total_below (k + 1) f ≡ total_below k f + f k
-total_below-next k f = ap (λ m. total_below m f) (next k)
-  where
-    next : (k : ℕ) → k + 1 ≡ suc k
-    next k = omega arith
+total_below-next k f = ap (λ m. total_below m f) (add-one k)
 
 pub sum_small : (k n : ℕ) (f : ℕ → ℕ) (after count : ℕ) → k < n → after ≡ total_below k f → count ≡ f k → total_below n f ≤ MOST_JOBS → after + count ≤ MOST_JOBS
 sum_small k n f after count l is at few = omega (arith, is, at, total_below-next k f, total_below-within f (k + 1) n (omega (arith, l)), few)
@@ -163,11 +149,8 @@ module _ (i : Instance) (order : List ℕ) (s : IsSequence i order) (forward : A
 
   module _ (n : ℕ) (many : n ≡ length i.jobs) (leads : ℕ → ℕ → Bool) (shows : (j k : ℕ) → j < length i.jobs → k < length i.jobs → IsTrue (leads j k) ↔ HasPath i.arcs j k) where
     not_led : (k p : ℕ) → p ≤ k → k < length order → p < length order → leads (get_or order k 0) (get_or order p 0) ≡ false
-    not_led k p h l m = by (leads (get_or order k 0) (get_or order p 0)) refl
-      where
-        by : (t : Bool) → leads (get_or order k 0) (get_or order p 0) ≡ t → leads (get_or order k 0) (get_or order p 0) ≡ false
-        by false e = e
-        by true e = absurd (no_way k p h l m ((shows (get_or order k 0) (get_or order p 0) (at_inside i order s k l) (at_inside i order s p m)).0 e))
+    not_led k p h l m = false_from_ne_true (leads (get_or order k 0) (get_or order p 0))
+        (λ e. no_way k p h l m ((shows (get_or order k 0) (get_or order p 0) (at_inside i order s k l) (at_inside i order s p m)).0 e))
 
     after-same : (x job c : ℕ) (low new : ℕ → ℕ) → leads x job ≡ false → ((z : ℕ) → z ≢ job → new z ≡ low z) → due_after n leads low x c ≡ due_after n leads new x c
     after-same x job c low new fails same = how_many-same n (λ z. leads x z && leb (low z) c) (λ z. leads x z && leb (new z) c) (λ z l. each z)
@@ -222,7 +205,10 @@ module _ (i : Instance) (order : List ℕ) (s : IsSequence i order) (forward : A
       AreLoweredFrom-next = record {
         whole = length-set low job value ∙ h.whole;
         inside = omega (arith, near);
-        most = λ x. elim (same_or_not x job) [ inl is ↦ omega (arith, ap (λ x. get_or new x 0) is, here, value_small, ap (λ x. get_or due x 0) is) | inr other ↦ omega (arith, others x other, h.most x) ];
+        most = λ x. elim (same_or_not x job) [
+          | inl is ↦ omega (arith, ap (λ x. get_or new x 0) is, here, value_small, ap (λ x. get_or due x 0) is)
+          | inr other ↦ omega (arith, others x other, h.most x)
+        ];
         still = λ k l. elsewhere k (omega (arith, l, near)) (λ e. absurd (omega (arith, e, l))) ∙ h.still k (omega (arith, l));
         done = λ k from l. elim (cases_lt p k) [
           | inl past ↦ subst (λ y. IsLowered (length due + 1) m (due_after (length due) leads (λ z. get_or new z 0) (get_or order k 0)) (get_or due (get_or order k 0) 0) y)

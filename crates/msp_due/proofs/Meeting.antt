@@ -1,13 +1,13 @@
 -- A list schedule by lowered due slots keeps them, if any places do.
-use Rattle.std.proofs.Common.{◌≡◌, ℕ, zero, suc, ◌+◌, ◌*◌, ◌-◌, ◌<◌, ◌≤◌, ◌⊎◌, inl, inr, Bool, true, false, eqb, ltb, leb, refl, sym, subst, arith}
+use Rattle.std.proofs.Common.{◌≡◌, ℕ, zero, suc, ◌+◌, ◌*◌, ◌-◌, ◌<◌, ◌≤◌, ◌⊎◌, inl, inr, Bool, true, false, eqb, ltb, leb, sym, subst, arith}
 use Rattle.std.specs.Prelude.{◌&&◌}
-use Rattle.std.proofs.lemmas.Bool.{cases_lt, eqb-true, eq-eqb}
+use Rattle.std.proofs.lemmas.Bool.{cases_lt, eqb-true, eq-eqb, le-leb, leb-true, and_from, and_right, le-ltb}
 use Rattle.std.proofs.lemmas.Bool.Decides.{nat_tests}
 use Rattle.std.proofs.Math.Nat.{mul-le-mul_left}
 use Rattle.msp_pieces.proofs.feasible.OneMachine.{both_true}
 use Rattle.msp_slots.specs.Seating.{begin_at}
 use Rattle.msp_due.specs.Steps.{how_many}
-use Rattle.msp_due.proofs.Counts.{both_is_true, how_many-mono, how_many-more, how_many-some, only_one, covered, slots_hold, slots_full}
+use Rattle.msp_due.proofs.Counts.{how_many-mono, how_many-more, how_many-some, only_one, covered, slots_hold, slots_full}
 
 -- jobs that run by their due slots `low`; `Step` are the arcs, `leads` the paths, `place` any places that keep the due slots
 pub record IsRun (n m : ℕ) (Step : ℕ → ℕ → Type 0) (leads : ℕ → ℕ → Bool) (low begin place : ℕ → ℕ) : Type 0 where
@@ -20,23 +20,9 @@ pub record IsRun (n m : ℕ) (Step : ℕ → ℕ → Type 0) (leads : ℕ → �
   pub few : (x : ℕ) → begin_at n place x ≤ m
   pub kept : (j : ℕ) → j < n → place j < low j
 
-pub le_leb : (a b : ℕ) → a ≤ b → leb a b ≡ true
-le_leb a b h = grind (arith, nat_tests)
-
-pub leb_le : (a b : ℕ) → leb a b ≡ true → a ≤ b
-leb_le a b h = grind (arith, nat_tests)
-
 -- nothing begins at t or later and before t
 past : (u : Bool) (from t e : ℕ) → e ≤ t → (u && (leb from t && ltb t e)) ≡ false
-past u from t e h = by u (leb from t) (ltb t e) (fails t e h)
-  where
-    by : (u a b : Bool) → b ≡ false → (u && (a && b)) ≡ false
-    by true true b h = h
-    by true false b h = refl
-    by false a b h = refl
-
-    fails : (t e : ℕ) → e ≤ t → ltb t e ≡ false
-    fails t e h = grind (arith, nat_tests)
+past u from t e h = and_right u (leb from t && ltb t e) (and_right (leb from t) (ltb t e) (le-ltb t e h))
 
 between_is : (from e x : ℕ) → (leb from x && ltb x e) ≡ true → (from ≤ x) × (x < e)
 between_is from e x h = (grind (arith, nat_tests), grind (arith, nat_tests))
@@ -56,22 +42,19 @@ module _ (n m : ℕ) (Step : ℕ → ℕ → Type 0) (leads : ℕ → ℕ → Bo
   at e s = how_many n (λ j. urgent e j && eqb (begin j) s)
 
   is_at : (e s j : ℕ) → low j ≤ e → begin j ≡ s → (urgent e j && eqb (begin j) s) ≡ true
-  is_at e s j a b = both_is_true (leb (low j) e) (eqb (begin j) s) (le_leb (low j) e a) (eq-eqb (begin j) s b)
+  is_at e s j a b = and_from (leb (low j) e) (eqb (begin j) s) (le-leb (low j) e a) (eq-eqb (begin j) s b)
 
   at_is : (e s j : ℕ) → (urgent e j && eqb (begin j) s) ≡ true → (low j ≤ e) × (begin j ≡ s)
-  at_is e s j a = let (p, q) = both_true (leb (low j) e) (eqb (begin j) s) a in (leb_le (low j) e p, eqb-true (begin j) s q)
+  at_is e s j a = let (p, q) = both_true (leb (low j) e) (eqb (begin j) s) a in (leb-true (low j) e p, eqb-true (begin j) s q)
 
   -- due slots rise along arcs
   earlier_due : (k j : ℕ) → k < n → j < n → Step k j → low k < low j
   earlier_due k j a b step =
-      let some = how_many-some n (λ z. leads k z && leb (low z) (low j)) j b (both_is_true (leads k j) (leb (low j) (low j)) (h.path k j a b step) (le_leb (low j) (low j) (omega arith))) in
+      let some = how_many-some n (λ z. leads k z && leb (low z) (low j)) j b (and_from (leads k j) (leb (low j) (low j)) (h.path k j a b step) (le-leb (low j) (low j) (omega arith))) in
       sooner (low k) (low j) (how_many n (λ z. leads k z && leb (low z) (low j))) some (h.fits k j a b (h.path k j a b step))
     where
       sooner : (x y c : ℕ) → 1 ≤ c → c + m * x ≤ m * y → x < y
-      sooner x y c some l = elim (cases_lt x y) [ inl less ↦ less | inr over ↦ absurd (never (mul-le-mul_left m over)) ]
-        where
-          never : m * y ≤ m * x → ⊥
-          never k = omega (arith, some, l, k)
+      sooner x y c some l = elim (cases_lt x y) [ inl less ↦ less | inr over ↦ absurd (omega (arith, some, l, mul-le-mul_left m over)) ]
 
   -- an urgent job waits for an urgent one, or m urgent jobs run
   waits : (e s j : ℕ) → j < n → low j ≤ e → s < begin j → at e s < m → (k : ℕ) × (k < n) × Step k j × (s ≤ begin k) × (low k < low j)
@@ -82,7 +65,7 @@ module _ (n m : ℕ) (Step : ℕ → ℕ → Type 0) (leads : ℕ → ℕ → Bo
       full,
       free,
       how_many-mono n (λ k. leb (low k) (low j) && eqb (begin k) s) (λ k. urgent e k && eqb (begin k) s)
-          (λ k _ t. let (p, q) = both_true (leb (low k) (low j)) (eqb (begin k) s) t in is_at e s k (omega (arith, leb_le (low k) (low j) p, due)) (eqb-true (begin k) s q)),
+          (λ k _ t. let (p, q) = both_true (leb (low k) (low j)) (eqb (begin k) s) t in is_at e s k (omega (arith, leb-true (low k) (low j) p, due)) (eqb-true (begin k) s q)),
     ))
   ]
 
@@ -148,7 +131,7 @@ module _ (n m : ℕ) (Step : ℕ → ℕ → Type 0) (leads : ℕ → ℕ → Bo
                 (λ z k e.
                 let (p, q) = both_true (urgent (low x) z) (leb (s + 1) (begin z) && ltb (begin z) (s + 1 + d)) e in
                 let (u, v) = between_is (s + 1) (s + 1 + d) (begin z) q in
-                after z k (leb_le (low z) (low x) p) (omega (arith, u)) (omega (arith, v, ends))),
+                after z k (leb-true (low z) (low x) p) (omega (arith, u)) (omega (arith, v, ends))),
           )
         where
           after : (z : ℕ) → z < n → low z ≤ low x → s < begin z → begin z ≤ begin x → (leads y z && leb (low z) (low x)) ≡ true
@@ -156,7 +139,7 @@ module _ (n m : ℕ) (Step : ℕ → ℕ → Type 0) (leads : ℕ → ℕ → Bo
               let (w, inside, soon, at, path) = back (low x) s free (begin x) z k u p (omega (arith, q)) in
               let same = only_one n (λ j. urgent (low x) j && eqb (begin j) s) w y (subst (λ m. how_many n (λ j. urgent (low x) j && eqb (begin j) s) < m) two free)
               inside c (is_at (low x) s w soon at) (is_at (low x) s y due is) in
-              both_is_true (leads y z) (leb (low z) (low x)) (subst (λ k. leads k z ≡ true) same path) (le_leb (low z) (low x) u)
+              and_from (leads y z) (leb (low z) (low x)) (subst (λ k. leads k z ≡ true) same path) (le-leb (low z) (low x) u)
 
   module _ (step : FullStep) where
     -- every slot before a late job has m urgent jobs
@@ -170,8 +153,8 @@ module _ (n m : ℕ) (Step : ℕ → ℕ → Type 0) (leads : ℕ → ℕ → Bo
         let t = begin x in
         let lower = slots_full n m begin (urgent (low x)) 0 t (λ s p q. full x b late in_time t s (omega arith) (omega (arith, q))) in
         let more = how_many-more n (λ j. urgent (low x) j && (leb 0 (begin j) && ltb (begin j) (0 + t))) (urgent (low x)) x b (past (urgent (low x) x) 0 t (0 + t) (omega arith))
-        (le_leb (low x) (low x) (omega arith)) (λ j _ e. (both_true (urgent (low x) j) (leb 0 (begin j) && ltb (begin j) (0 + t)) e).0) in
-        let upper = slots_hold n m place h.few 0 t (urgent (low x)) (λ j k e. (omega arith, omega (arith, h.kept j k, leb_le (low j) (low x) e, late))) in
+        (le-leb (low x) (low x) (omega arith)) (λ j _ e. (both_true (urgent (low x) j) (leb 0 (begin j) && ltb (begin j) (0 + t)) e).0) in
+        let upper = slots_hold n m place h.few 0 t (urgent (low x)) (λ j k e. (omega arith, omega (arith, h.kept j k, leb-true (low j) (low x) e, late))) in
         omega (arith, lower, more, upper)
 
     in_time_below : (t : ℕ) → InTime t

@@ -1,9 +1,9 @@
 -- The bounds between which the least one lies.
-use Rattle.std.proofs.Common.{◌≡◌, ◌≢◌, ℕ, ◌+◌, ◌<◌, ◌≤◌, inl, inr, eqb, ℤ, List, length, get_or, pos, ◌≤ℤ◌, FitsSigned, to_z, of_z, All, AllPairs, sym, ap, ap₂}
+use Rattle.std.proofs.Common.{◌≡◌, ◌≢◌, ℕ, ◌+◌, ◌<◌, ◌≤◌, inl, inr, eqb, ℤ, List, length, get_or, pos, ◌≤ℤ◌, FitsSigned, to_z, of_z, All, AllPairs, sym, ap, ap₂, below_more}
 use Rattle.std.proofs.Common.{subst, subst₂, ◌∙◌, arith}
 use Rattle.std.specs.Int.{int_max, w128}
 use Rattle.std.specs.Prelude.{slice_get, Some}
-use Rattle.std.proofs.lemmas.Bool.{cases_lt, eqb-true}
+use Rattle.std.proofs.lemmas.Bool.{eqb-true}
 use Rattle.std.proofs.lemmas.Int.{ints, to_z-of_z}
 use Rattle.std.proofs.lemmas.List.{get_or_default}
 use Rattle.std.proofs.lemmas.Option.{get_or_from_slice_get, slice_get_within}
@@ -45,10 +45,9 @@ greatest-next i slots k old x a b new f g m is small h size =
     ]
 
     greatest : (j : ℕ) → j < k + 1 → cost_in i j slots ≤ℤ new
-    greatest j l = elim (cases_lt j k) [
-      | inl before ↦ subst (λ z. cost_in i j slots ≤ℤ z) (sym is_max) (≤ℤ_trans (h.greatest j before) (≤ℤ-int_max_left old x))
-      | inr last ↦ let at : k ≡ j = omega (arith, l, last) in subst (λ j. cost_in i j slots ≤ℤ new) at (subst₂ (λ y z. y ≤ℤ z) is (sym is_max) (≤ℤ-int_max_right old x))
-    ]
+    greatest = below_more (λ j. cost_in i j slots ≤ℤ new) k
+        (λ j before. subst (λ z. cost_in i j slots ≤ℤ z) (sym is_max) (≤ℤ_trans (h.greatest j before) (≤ℤ-int_max_left old x)))
+        (subst₂ (λ y z. y ≤ℤ z) is (sym is_max) (≤ℤ-int_max_right old x))
 
 -- ---- jobs in a forward order, one in each slot
 module _ (i : Instance) (t : HasOneTime i) (order : List ℕ) (s : IsSequence i order) (forward : All (GoesForward order) i.arcs) where

@@ -1,5 +1,5 @@
 -- Each text has one value or one first fault.
-use Rattle.std.proofs.Common.{◌≡◌, ◌≢◌, ℕ, ◌-◌, ◌<◌, ◌⊎◌, inl, inr, List, length, slice_get, Option, Some, Result, Ok, Err, All, refl, sym, ap, ◌∙◌, subst, arith}
+use Rattle.std.proofs.Common.{◌≡◌, ◌≢◌, ℕ, ◌-◌, ◌<◌, ◌⊎◌, inl, inr, List, length, slice_get, Option, Some, Result, Ok, Err, All, refl, sym, ◌∙◌, subst, arith}
 use Rattle.std.proofs.lemmas.Bool.{cases_lt}
 use Rattle.msp_name.specs.OneWay.{AreReadOneWay}
 use Rattle.msp_instance.specs.declared.membership.ClassFault.{ClassFault}
@@ -17,7 +17,7 @@ use Rattle.msp_grammar.specs.lines.Reading.{Place}
 use Rattle.msp_file.specs.instance.Reading.{filed_at, Reads, ReadsFront, lines_at, start_of}
 use Rattle.msp_grammar.specs.lines.Answers.{Fails}
 use Rattle.msp_file.specs.schedule.Reading.{ReadsSchedule}
-use Rattle.msp_file.specs.instance.Answers.{faulty_name, IsClassFault, IsCycleFault, IsFaultBy}
+use Rattle.msp_file.specs.instance.Answers.{IsClassFault, IsCycleFault, IsFaultBy}
 use Rattle.msp_file.specs.schedule.Answers.{IsScheduleFaultOf}
 use Rattle.msp_file.specs.Laws.{IsTextOf, IsFirstFaultOf, IsFrontOf, IsFirstFrontFaultOf, IsStatedTextOf, IsFirstScheduleFaultOf, LawOfInstanceTexts, LawOfFrontTexts, LawOfScheduleTexts}
 use Rattle.msp_grammar.proofs.reading.LineLaws.{reads, ok_is}
@@ -26,7 +26,8 @@ use Rattle.msp_file.proofs.schedules.Readings.{schedule_same, schedule_ends}
 use Rattle.msp_file.proofs.instances.TextLaws.{lines_take, whole_takes, whole_again, front_again}
 use Rattle.msp_file.proofs.instances.AnswerLaws.{text_of_read, again_fault, again_front_fault}
 use Rattle.msp_file.proofs.instances.FrontLaws.{front_text, front_fault, front_read}
-use Rattle.msp_file.proofs.instances.LineFaults.{IsLineFault, lines_in, whole}
+use Rattle.msp_file.proofs.instances.LineFaults.{IsLineFault}
+use Rattle.msp_file.proofs.instances.LineCounts.{lines_counted, whole}
 use Rattle.msp_file.proofs.schedules.LineFaults.{schedule_remembers}
 use Rattle.msp_file.proofs.instances.AnswerLemmas.{fault_of_lines}
 use Rattle.msp_file.proofs.instances.FirstFaults.{class_or_fault}
@@ -48,18 +49,6 @@ cases_of R (Cycle j name) m h = inr (inr (j, name, refl, h))
 cases_of R Memory m h = absurd (m refl)
 cases_of R e m h = inl h
 
-same_class : (x y : ClassFault) (n m : Option (List ℕ)) → x ≡ y → n ≡ m → Class x n ≡ Class y m
-same_class x y n m p q = cc
-
-same_cycle : (j k : ℕ) (n m : List ℕ) → j ≡ k → n ≡ m → Cycle j n ≡ Cycle k m
-same_cycle j k n m p q = cc
-
-some_is : (n m : List ℕ) → Some n ≡ Some m → n ≡ m
-some_is n m h = cc
-
-same_name : (f g : Filed) (x y : ClassFault) → f ≡ g → x ≡ y → faulty_name f.names x ≡ faulty_name g.names y
-same_name f g x y p q = rw (p, q) refl
-
 module _ (R : Result Filed FileFault → Type 0) (one : (r s : Result Filed FileFault) → R r → R s → r ≡ s) where
   one_filed : (f g : Filed) → R (Ok f) → R (Ok g) → f ≡ g
   one_filed f g h k = ok_is f g (one (Ok f) (Ok g) h k)
@@ -71,7 +60,7 @@ module _ (R : Result Filed FileFault → Type 0) (one : (r s : Result Filed File
   two_classes x y n m a b =
       let s = one_filed a.filed b.filed a.reads b.reads in
       let same : x ≡ y = IsFirstFault-unique b.filed.instance x y (subst (λ (g : Filed). IsFirstFault g.instance x) s a.first) b.first in
-      same_class x y n m same (a.named ∙ same_name a.filed b.filed x y s same ∙ sym b.named)
+      cc (same, s, a.named, b.named)
 
   class_and_cycle : (x : ClassFault) (j : ℕ) (n : Option (List ℕ)) (m : List ℕ) → IsClassFault R x n → ¬ IsCycleFault R j m
   class_and_cycle x j n m a b =
@@ -91,7 +80,7 @@ module _ (R : Result Filed FileFault → Type 0) (one : (r s : Result Filed File
           | inl less ↦ absurd (path k less b.least.cycle)
           | inr here ↦
               let same : j ≡ k = omega arith in
-              same_cycle j k n m same (some_is n m (sym named ∙ ap (slice_get b.filed.names) same ∙ b.named))
+              cc (same, named, b.named)
         ]
       ]
 
@@ -109,17 +98,6 @@ module _ (R : Result Filed FileFault → Type 0) (one : (r s : Result Filed File
   one_first : (e f : FileFault) → IsFaultBy R e × (e ≢ Memory) → IsFaultBy R f × (f ≢ Memory) → e ≡ f
   one_first e f h k = same_fault e f (cases_of R e h.1 h.0) (cases_of R f k.1 k.0)
 
--- ---- whole texts
-
-pub one_instance : (b : List ℕ) (f g : Filed) → IsTextOf b f → IsTextOf b g → f ≡ g
-one_instance b f g h k = one_filed (Reads b) (reads_same b) f g (whole_again b f.instance f.names h) (whole_again b g.instance g.names k)
-
-pub instance_not_both : (b : List ℕ) (f : Filed) (e : FileFault) → IsTextOf b f → ¬ IsFirstFaultOf b e
-instance_not_both b f e h k = not_fails e f k.1 (again_fault b e k.0 f.instance f.names h)
-
-pub one_instance_fault : (b : List ℕ) (e f : FileFault) → IsFirstFaultOf b e → IsFirstFaultOf b f → e ≡ f
-one_instance_fault b e f h k = one_first (Reads b) (reads_same b) e f h k
-
 -- ---- texts at the front
 
 pub one_front : (b : List ℕ) (f g : Front) → IsFrontOf b f → IsFrontOf b g → f ≡ g
@@ -131,27 +109,15 @@ one_front b f g h k =
     let two = front_read b f.filed q a.1 in_class g.filed.instance g.filed.names g.used g.line k in
     ok_is f g (one ∙ sym two)
 
-pub front_not_both : (b : List ℕ) (f : Front) (e : FileFault) → IsFrontOf b f → ¬ IsFirstFrontFaultOf b e
-front_not_both b f e h k = not_fails e f.filed k.1 (again_front_fault b e k.0 f.filed.instance f.filed.names f.used f.line h)
-
-pub one_front_fault : (b : List ℕ) (e f : FileFault) → IsFirstFrontFaultOf b e → IsFirstFrontFaultOf b f → e ≡ f
-one_front_fault b e f h k = one_first (ReadsFront b) (front_same b) e f h k
-
 -- ---- each has an instance or a first fault
 
 fails_by : {A : Type 0} (r : Result A FileFault) (e : FileFault) → r ≡ Err e → Fails e r
 fails_by r Memory h = tt
 fails_by r e h = h
 
-line_fault_is : (e : FileFault) → IsLineFault e → e ≢ Memory
-line_fault_is e h m = subst IsLineFault m h
-
-after_is : (at : ℕ) → After at ≢ Memory
-after_is at m = cc
-
 text_fault_is : (e : FileFault) → IsLineFault e ⊎ ((at : ℕ) × (e ≡ After at)) → e ≢ Memory
-text_fault_is e (inl h) m = line_fault_is e h m
-text_fault_is e (inr h) m = after_is h.0 (sym h.1 ∙ m)
+text_fault_is e (inl h) m = subst IsLineFault m h
+text_fault_is e (inr h) m = let is : After h.0 ≡ Memory = sym h.1 ∙ m in absurd cc
 
 some_instance : (b : List ℕ) (r : Result Filed FileFault) → Reads b r → ((f : Filed) × IsTextOf b f) ⊎ ((e : FileFault) × IsFirstFaultOf b e)
 some_instance b (Ok f) h = elim (class_or_fault b f (whole_takes b f h) (Reads b) h) [ inl c ↦ inl (f, text_of_read b f h c) | inr e ↦ inr e ]
@@ -164,40 +130,31 @@ some_front b (Ok x) h =
       | inl c ↦ inl (record { filed = x.0; used = length b - length x.1.rest; line = x.1.at }, front_text b x.0 x.1 h c)
       | inr e ↦ inr e
     ]
-some_front b (Err e) h = inr (e, (front_fault b e (fails_by (lines_at (start_of b)) e h), line_fault_is e ((lines_in (start_of b)).fault e h)))
+some_front b (Err e) h =
+    inr (e, (front_fault b e (fails_by (lines_at (start_of b)) e h), λ m. subst IsLineFault m ((lines_counted (start_of b)).faults.fault e h)))
 
 pub law_of_instance_texts : LawOfInstanceTexts
 law_of_instance_texts = record {
   some = λ b. some_instance b (filed_at b) refl;
-  not_both = instance_not_both;
-  one_value = one_instance;
-  one_fault = one_instance_fault;
+  not_both = λ b f e h k. not_fails e f k.1 (again_fault b e k.0 f.instance f.names h);
+  one_value = λ b f g h k. one_filed (Reads b) (reads_same b) f g (whole_again b f.instance f.names h) (whole_again b g.instance g.names k);
+  one_fault = λ b e f h k. one_first (Reads b) (reads_same b) e f h k;
 }
 
 pub law_of_front_texts : LawOfFrontTexts
 law_of_front_texts = record {
   some = λ b. some_front b (lines_at (start_of b)) refl;
-  not_both = front_not_both;
+  not_both = λ b f e h k. not_fails e f.filed k.1 (again_front_fault b e k.0 f.filed.instance f.filed.names f.used f.line h);
   one_value = one_front;
-  one_fault = one_front_fault;
+  one_fault = λ b e f h k. one_first (ReadsFront b) (front_same b) e f h k;
 }
 
 -- ---- schedules
 
 module _ (names : List (List ℕ)) (line : ℕ) (spelled : All IsJobName names) (apart : AreDistinct names) where
-  pub one_schedule : (b : List ℕ) (s t : Stated) → IsStatedTextOf names b s → IsStatedTextOf names b t → s ≡ t
-  one_schedule b s t h k = ok_is s t
-      (schedule_same names line b (reads s) (reads t) (schedule_again names line b s.schedule s.cost spelled apart h) (schedule_again names line b t.schedule t.cost spelled apart k))
-
-  pub schedule_not_both : (b : List ℕ) (s : Stated) (e : FileFault) → IsStatedTextOf names b s → ¬ IsFirstScheduleFaultOf names line b e
-  schedule_not_both b s e h k = not_fails e s k.1 (no_schedule_fault names line b e spelled apart k.0 s.schedule s.cost h)
-
   reads_fault : (b : List ℕ) (e : FileFault) → IsScheduleFaultOf names line b e → e ≢ Memory → ReadsSchedule names line b (Err e)
   reads_fault b Memory h m = absurd (m refl)
   reads_fault b e h m = h
-
-  pub one_schedule_fault : (b : List ℕ) (e f : FileFault) → IsFirstScheduleFaultOf names line b e → IsFirstScheduleFaultOf names line b f → e ≡ f
-  one_schedule_fault b e f h k = err_is e f (schedule_same names line b (Err e) (Err f) (reads_fault b e h.0 h.1) (reads_fault b f k.0 k.1))
 
   some_schedule : (b : List ℕ) (r : Result Stated FileFault) → ReadsSchedule names line b r → ((s : Stated) × IsStatedTextOf names b s) ⊎ ((e : FileFault) × IsFirstScheduleFaultOf names line b e)
   some_schedule b (Ok s) h = inl (s, schedule_taken names line b s h)
@@ -207,9 +164,10 @@ module _ (names : List (List ℕ)) (line : ℕ) (spelled : All IsJobName names) 
   pub schedules_one_way : AreReadOneWay (IsStatedTextOf names) (IsFirstScheduleFaultOf names line)
   schedules_one_way = record {
     some = λ b. let r = schedule_ends names line b in some_schedule b r.0 r.1;
-    not_both = schedule_not_both;
-    one_value = one_schedule;
-    one_fault = one_schedule_fault;
+    not_both = λ b s e h k. not_fails e s k.1 (no_schedule_fault names line b e spelled apart k.0 s.schedule s.cost h);
+    one_value = λ b s t h k. ok_is s t
+        (schedule_same names line b (reads s) (reads t) (schedule_again names line b s.schedule s.cost spelled apart h) (schedule_again names line b t.schedule t.cost spelled apart k));
+    one_fault = λ b e f h k. err_is e f (schedule_same names line b (Err e) (Err f) (reads_fault b e h.0 h.1) (reads_fault b f k.0 k.1));
   }
 
 pub law_of_schedule_texts : LawOfScheduleTexts

@@ -13,7 +13,6 @@ pub mod KeyLaws
 pub mod LineCounts
 pub mod LineFaults
 pub mod LineSteps
-pub mod Flagging
 pub mod NeedLaws
 pub mod Orders
 pub mod Pairs

@@ -1,12 +1,12 @@
 -- The drawn arcs are those of their order, and go from lesser to greater numbers.
-use Rattle.std.proofs.Common.{◌≡◌, ◌≢◌, ℕ, suc, ◌+◌, ◌-◌, ◌/◌, ◌<◌, ◌≤◌, min, ◌⊎◌, inl, inr, eqb, Bool, true, false, cond, ◌==◌, List, [], ◌∷◌, ◌++◌, length, get_or, map, All}
+use Rattle.std.proofs.Common.{◌≡◌, ◌≢◌, ℕ, suc, ◌+◌, ◌-◌, ◌/◌, ◌<◌, ◌≤◌, min, eqb, Bool, true, false, cond, ◌==◌, List, [], ◌∷◌, ◌++◌, length, get_or, map, All}
 use Rattle.std.proofs.Common.{AllPairs, if◌then◌else◌, refl, sym, ap, subst, ◌∙◌, length-append, append-nil, eq-eqb, arith}
 use Rattle.std.specs.Prelude.{count_by}
 use Rattle.std.specs.List.{list_any}
-use Rattle.std.proofs.lemmas.Bool.{cases_lt}
-use Rattle.std.proofs.lemmas.List.{get_or_append_left, get_or_default, length-map}
+use Rattle.std.proofs.lemmas.List.{get_or_default, length-map}
 use Rattle.std.proofs.Math.ListN.{get_or-map}
-use Rattle.std.proofs.lemmas.List.Elements.{All-nil}
+use Rattle.std.proofs.lemmas.List.Elements.{All-nil, All-push}
+use Rattle.std.proofs.lemmas.List.Quantifiers.{all_pairs_push}
 use Rattle.std.proofs.lemmas.List.Folds.{list_any_at}
 use Rattle.msp_class.specs.declared.sizes.TheConstants.{MOST_JOBS}
 use Rattle.msp_class.specs.declared.class.Order.{Order}
@@ -18,19 +18,6 @@ use Rattle.msp_gen.specs.Draws.{Drawn, draw, draw_turns, without_draw}
 use Rattle.msp_gen.specs.Generated.{draw_mostly, draw_before, draw_behind, draw_arc_into, draw_arc_from, draw_arcs, arc_turns, is_same, added}
 use Rattle.msp_gen.proofs.Turns.{turns_keep}
 use Rattle.msp_gen.proofs.Numbers.{draw_below}
-use Rattle.msp_gen.proofs.NeedLists.{all_behind, at_end}
-
-pairs_behind : {A : Type 0} (R : A → A → Type 0) (xs : List A) (x : A) → AllPairs R xs → All (λ a. R a x) xs → AllPairs R (xs ++ x ∷ [])
-pairs_behind R xs x h k i j d l m = by (cases_lt j (length xs))
-  where
-    by : (j < length xs) ⊎ (length xs ≤ j) → R (get_or (xs ++ x ∷ []) i d) (get_or (xs ++ x ∷ []) j d)
-    by (inl n) =
-        subst (λ a. R a (get_or (xs ++ x ∷ []) j d)) (sym (get_or_append_left xs (x ∷ []) d i (omega (arith, l, n))))
-        (subst (λ b. R (get_or xs i d) b) (sym (get_or_append_left xs (x ∷ []) d j n)) (h i j d l n))
-    by (inr n) =
-        let last : j ≡ length xs = omega (arith, n, m, length-append xs (x ∷ [])) in
-        subst (λ a. R a (get_or (xs ++ x ∷ []) j d)) (sym (get_or_append_left xs (x ∷ []) d i (omega (arith, l, last))))
-        (subst (λ b. R (get_or xs i d) b) (sym (ap (λ n. get_or (xs ++ x ∷ []) n d) last ∙ at_end xs x d)) (k i d (omega (arith, l, last))))
 
 -- ---- arcs whose key rises
 pub record IsRising (key : Arc → ℕ) (bound : ℕ) (arcs : List Arc) : Type 0 where
@@ -46,8 +33,8 @@ module _ (key : Arc → ℕ) where
 
   rising_behind : (n m : ℕ) (arcs : List Arc) (a : Arc) → n ≤ key a → key a < m → IsRising key n arcs → IsRising key m (arcs ++ a ∷ [])
   rising_behind n m arcs a l k h = record {
-    below = all_behind (λ b. key b < m) arcs a (λ i d j. let b = h.below i d j in omega (arith, b, l, k)) k;
-    rising = pairs_behind (λ b c. key b < key c) arcs a h.rising (λ i d j. let b = h.below i d j in omega (arith, b, l));
+    below = All-push (λ b. key b < m) arcs a (λ i d j. let b = h.below i d j in omega (arith, b, l, k)) k;
+    rising = all_pairs_push (λ b c. key b < key c) arcs a h.rising (λ i d j. let b = h.below i d j in omega (arith, b, l));
   }
 
   rising_apart : (n : ℕ) (arcs : List Arc) → IsRising key n arcs → AllPairs (λ a b. a ≢ b) arcs
@@ -87,15 +74,12 @@ pub record KeepsArcs (order : Order) (n k : ℕ) (arcs : List Arc) : Type 0 wher
 none : (order : Order) (n : ℕ) → KeepsArcs order n 0 []
 none order n = record { few = omega arith; forward = All-nil (λ a. (a.before < a.after) × (a.after < n)); ordered = by order }
   where
-    no_pairs : AllPairs {X = Arc} (λ a b. a ≢ b) []
-    no_pairs i j d l m = absurd (omega (arith, m))
-
     by : (order : Order) → KeepsOrder order 0 []
     by Free = refl
     by Chains = (rising_none (λ a. a.before), rising_more (λ a. a.after) 0 1 [] (omega arith) (rising_none (λ a. a.after)))
     by Intree = rising_none (λ a. a.before)
     by Outtree = rising_more (λ a. a.after) 0 1 [] (omega arith) (rising_none (λ a. a.after))
-    by Prec = no_pairs
+    by Prec = λ i j d l m. absurd (omega (arith, m))
 
 more : (order : Order) (n k : ℕ) (arcs : List Arc) → KeepsArcs order n k arcs → KeepsArcs order n (suc k) (arcs ++ [])
 more order n k arcs h = subst (KeepsArcs order n (suc k)) (sym (append-nil arcs)) (record { few = omega (arith, h.few); forward = h.forward; ordered = by order h.ordered })
@@ -109,7 +93,7 @@ more order n k arcs h = subst (KeepsArcs order n (suc k)) (sym (append-nil arcs)
 one : (order : Order) (n k : ℕ) (arcs : List Arc) (a : Arc)
     → a.before < a.after → a.after < n → KeepsOrder order (suc k) (arcs ++ a ∷ []) → KeepsArcs order n k arcs → KeepsArcs order n (suc k) (arcs ++ a ∷ [])
 one order n k arcs a l m o h =
-    record { few = omega (arith, h.few, length-append arcs (a ∷ [])); forward = all_behind (λ b. (b.before < b.after) × (b.after < n)) arcs a h.forward (l, m); ordered = o }
+    record { few = omega (arith, h.few, length-append arcs (a ∷ [])); forward = All-push (λ b. (b.before < b.after) × (b.after < n)) arcs a h.forward (l, m); ordered = o }
 
 mostly : {A : Type 0} (P : List A → Type 0) (rule : ℕ → Drawn (List A)) (s : ℕ) → P [] → ((t : ℕ) → P (rule t).value) → P (draw_mostly rule s).value
 mostly P rule s z h = by ((draw 3 s).value == 0)
@@ -151,7 +135,7 @@ turn Prec n k arcs s l h =
     let a : Arc = record { before = (draw_before (k / 2 + 1) s).value; after = k / 2 + 1 } in
     let b = draw_below (min (k / 2 + 1) 5) s (omega arith) in
     new_arc arcs a (λ xs. KeepsArcs Prec n (suc k) (arcs ++ xs)) (more Prec n k arcs h)
-    (λ apart. one Prec n k arcs a (omega (arith, b)) (omega (arith, l)) (pairs_behind (λ b c. b ≢ c) arcs a h.ordered apart) h)
+    (λ apart. one Prec n k arcs a (omega (arith, b)) (omega (arith, l)) (all_pairs_push (λ b c. b ≢ c) arcs a h.ordered apart) h)
 
 pub arcs_fit : (order : Order) (n s : ℕ) → KeepsArcs order n (arc_turns order n) (draw_turns (draw_arcs order n) (arc_turns order n) s).value
 arcs_fit order n s = turns_keep (KeepsArcs order n) (draw_arcs order n) (arc_turns order n) s (none order n) (λ k before t l h. turn order n k before t l h)

@@ -1,5 +1,5 @@
 -- The generated instance belongs to its class.
-use Rattle.std.proofs.Common.{◌≡◌, ℕ, ◌+◌, ◌<◌, ◌≤◌, Option, Some, None, length, get_or, All, refl, ap, ◌∙◌, arith}
+use Rattle.std.proofs.Common.{◌≡◌, ℕ, ◌<◌, ◌≤◌, Option, Some, None, length, get_or, All, refl, ap, ◌∙◌, arith}
 use Rattle.std.specs.Prelude.{Contains, MatchOption, ⊤, slice_get, unwrap_or}
 use Rattle.std.specs.List.{range_with_len}
 use Rattle.std.proofs.lemmas.Option.{slice_get-get_or}
@@ -52,10 +52,7 @@ in_order i h = (range_with_len 0 n, record { whole = length-range_with_len 0 n; 
     n = length i.jobs
 
     at : (j d : ℕ) → j < n → get_or (range_with_len 0 n) j d ≡ j
-    at j d l = get_or-range_with_len 0 n j d l ∙ plain
-      where
-        plain : 0 + j ≡ j
-        plain = omega arith
+    at j d l = get_or-range_with_len 0 n j d l ∙ omega arith
 
     inside : (j : ℕ) → j < n → j < length (range_with_len 0 n)
     inside j l = omega (arith, l, length-range_with_len 0 n)

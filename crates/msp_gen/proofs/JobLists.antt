@@ -2,14 +2,14 @@
 use Rattle.std.proofs.Common.{◌≡◌, ℕ, zero, suc, ◌*◌, ◌≤◌, Bool, true, false, List, [], ◌∷◌, length, get_or, All, refl, sym, ◌∙◌, length-append, arith}
 use Rattle.std.specs.Prelude.{Any}
 use Rattle.std.proofs.lemmas.Int.{ints}
-use Rattle.std.proofs.lemmas.List.Elements.{All-nil}
+use Rattle.std.proofs.lemmas.List.Elements.{All-nil, All-push}
 use Rattle.msp_class.specs.declared.class.Class.{Class}
 use Rattle.msp_class.specs.declared.class.Env.{Env}
 use Rattle.msp_class.specs.declared.class.Env.TheVariants.{J2Short}
 use Rattle.msp_class.specs.declared.class.Times.{Times}
 use Rattle.msp_class.specs.declared.class.Times.TheVariants.{General, Unit as UnitTimes, Equal}
 use Rattle.msp_class.specs.declared.environments.EnvKind.{EnvKind}
-use Rattle.msp_class.specs.declared.environments.EnvKind.TheVariants.{Identical, Uniform, Unrelated, OpenShop, FlowShop, JobShop}
+use Rattle.msp_class.specs.declared.environments.EnvKind.TheVariants.{Identical, Uniform, Unrelated, JobShop}
 use Rattle.msp_class.specs.Crit.{uses_due, uses_weight, uses_curve}
 use Rattle.msp_class.specs.Env.{kind_of, most_operations}
 use Rattle.msp_class.specs.declared.sizes.TheConstants.{GREATEST}
@@ -23,7 +23,7 @@ use Rattle.msp_gen.specs.Draws.{draw, draw_from_one, draw_one, draw_turns, draw_
 use Rattle.msp_gen.specs.Generated.{draw_speeds, draw_some_time, draw_shop_time, draw_needs, draw_step, draw_curve, draw_job, most_drawn}
 use Rattle.msp_gen.proofs.Turns.{turns_keep}
 use Rattle.msp_gen.proofs.Numbers.{draw_below, IsSharedTime, IsTime, some_time, shop_time, first_shop_time, release, due, weight}
-use Rattle.msp_gen.proofs.NeedLists.{all_one, all_behind, HasDrawnTimes, need_per_machine, route}
+use Rattle.msp_gen.proofs.NeedLists.{all_one, HasDrawnTimes, need_per_machine, route}
 
 -- ---- needs
 pub record AreDrawnNeeds (k : EnvKind) (e : Env) (times : Times) (m shared : ℕ) (needs : List Need) : Type 0 where
@@ -45,12 +45,6 @@ needs_fit Uniform c m shared s one two ok =
 needs_fit Unrelated c m shared s one two ok =
     let h = need_per_machine c.times shared 1 (λ _. draw_some_time c.times shared) (λ k t. some_time c.times shared t ok) (λ t. (some_time c.times shared t ok).least_met) m s in
     record { shape = (h.count, h.places); times_met = h.times_met; some = h.some one }
-needs_fit OpenShop c m shared s one two ok =
-    let h = need_per_machine c.times shared (least_shop_time c.times) (draw_shop_time c.times shared) (λ k t. shop_time c.times shared k t ok) (λ t. first_shop_time c.times shared t ok) m s in
-    record { shape = (h.count, h.places); times_met = h.times_met; some = h.some one }
-needs_fit FlowShop c m shared s one two ok =
-    let h = need_per_machine c.times shared (least_shop_time c.times) (draw_shop_time c.times shared) (λ k t. shop_time c.times shared k t ok) (λ t. first_shop_time c.times shared t ok) m s in
-    record { shape = (h.count, h.places); times_met = h.times_met; some = h.some one }
 needs_fit JobShop c m shared s one two ok =
     let most = some_route c.env in
     let count = draw_from_one (most_drawn c.env) s in
@@ -61,6 +55,9 @@ needs_fit JobShop c m shared s one two ok =
       times_met = h.times_met;
       some = h.some (omega arith);
     }
+needs_fit _ c m shared s one two ok =
+    let h = need_per_machine c.times shared (least_shop_time c.times) (draw_shop_time c.times shared) (λ k t. shop_time c.times shared k t ok) (λ t. first_shop_time c.times shared t ok) m s in
+    record { shape = (h.count, h.places); times_met = h.times_met; some = h.some one }
 
 -- ---- cost curves
 abbrev AreSteps : ℕ → List Step → Type 0
@@ -85,7 +82,7 @@ curve_fits true s =
         let above = draw_below 2000 t (omega arith) in
         let add = draw_below 100 (draw 2000 t).seed (omega arith) in (
           omega (arith, length-append before ((draw_step t).value ∷ []), h.0),
-          all_behind (λ x. (x.above ≤ GREATEST) × (x.add ≤ GREATEST)) before (draw_step t).value h.1 (omega (arith, above), omega (arith, add)),
+          All-push (λ x. (x.above ≤ GREATEST) × (x.add ≤ GREATEST)) before (draw_step t).value h.1 (omega (arith, above), omega (arith, add)),
         ))
 
 -- ---- a job
@@ -119,7 +116,7 @@ jobs_fit c m shared n s one two ok =
     turns_keep (AreDrawnJobs c m shared) (λ _ _. draw_one (draw_job c m shared)) n s (refl, All-nil (IsDrawnJob c m shared))
     (λ k before t l h. (
       omega (arith, length-append before ((draw_job c m shared t).value ∷ []), h.0),
-      all_behind (IsDrawnJob c m shared) before (draw_job c m shared t).value h.1 (job_fits c m shared t one two ok),
+      All-push (IsDrawnJob c m shared) before (draw_job c m shared t).value h.1 (job_fits c m shared t one two ok),
     ))
 
 -- ---- what the conditions say of the needs in an instance
@@ -147,7 +144,7 @@ speeds_drawn : (m s : ℕ) → AreDrawnSpeeds m (draw_turns (λ _ _. draw_one (d
 speeds_drawn m s =
     turns_keep AreDrawnSpeeds (λ _ _. draw_one (draw_from_one 4)) m s (refl, All-nil (λ x. (1 ≤ x) × (x ≤ 4)))
     (λ k before t l h. let below = draw_below 4 t (omega arith) in
-    (omega (arith, length-append before ((draw_from_one 4 t).value ∷ []), h.0), all_behind (λ x. (1 ≤ x) × (x ≤ 4)) before (draw_from_one 4 t).value h.1 (omega arith, omega (arith, below))))
+    (omega (arith, length-append before ((draw_from_one 4 t).value ∷ []), h.0), All-push (λ x. (1 ≤ x) × (x ≤ 4)) before (draw_from_one 4 t).value h.1 (omega arith, omega (arith, below))))
 
 pub speeds_fit : (k : EnvKind) (m s : ℕ) → HasSpeeds k m (draw_speeds k m s).value
 speeds_fit Uniform m s = let h = speeds_drawn m s in (h.0, λ k d l. ((h.1 k d l).0, omega (arith, (h.1 k d l).1)))

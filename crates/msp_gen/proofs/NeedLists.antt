@@ -2,11 +2,13 @@
 use Rattle.std.proofs.Common.{◌≡◌, ◌≢◌, ℕ, zero, suc, ◌+◌, ◌-◌, ◌*◌, ◌%◌, ◌⊎◌, inl, inr, ◌<◌, ◌≤◌, List, [], ◌∷◌, ◌++◌, length, get_or, All, refl, sym, ap, subst, ◌∙◌, length-append, arith}
 use Rattle.std.specs.Prelude.{EachIndex, Any, slice_index_or}
 use Rattle.std.specs.List.{AllAdjacentBelow}
-use Rattle.std.proofs.lemmas.List.{get_or_append_left, get_or-append-add, get_or_default}
+use Rattle.std.proofs.lemmas.List.{get_or_append_left, get_or_default}
+use Rattle.std.proofs.Math.Seq.{get_or-append_seam}
 use Rattle.std.proofs.lemmas.Bool.{cases_lt}
 use Rattle.std.proofs.lemmas.Nat.{mod_below, mod-mul-add}
 use Rattle.std.proofs.Math.Nat.{mod-eq_of_lt}
-use Rattle.std.proofs.lemmas.List.Elements.{All-nil, All-cons, All-append}
+use Rattle.std.proofs.lemmas.List.Elements.{All-nil, All-cons, All-push}
+use Rattle.std.proofs.lemmas.List.Quantifiers.{Any-push}
 use Rattle.msp_class.specs.declared.class.Times.{Times}
 use Rattle.msp_instance.specs.declared.Need.{Need}
 use Rattle.msp_instance.specs.Instance.{no_need}
@@ -17,18 +19,6 @@ use Rattle.msp_gen.proofs.Numbers.{draw_below, IsSharedTime, IsTime, some_time}
 
 pub all_one : {A : Type 0} (P : A → Type 0) (x : A) → P x → All P (x ∷ [])
 all_one P x h = All-cons P x [] h (All-nil P)
-
-pub all_behind : {A : Type 0} (P : A → Type 0) (xs : List A) (x : A) → All P xs → P x → All P (xs ++ x ∷ [])
-all_behind P xs x h k = All-append P xs (x ∷ []) h (all_one P x k)
-
-pub at_end : {A : Type 0} (xs : List A) (x d : A) → get_or (xs ++ x ∷ []) (length xs) d ≡ x
-at_end xs x d = ap (λ n. get_or (xs ++ x ∷ []) n d) same ∙ get_or-append-add xs (x ∷ []) 0 d
-  where
-    same : length xs ≡ length xs + 0
-    same = omega arith
-
-pub any_behind : {A : Type 0} (P : A → Type 0) (xs : List A) (x : A) → P x → Any P (xs ++ x ∷ [])
-any_behind P xs x h = (length xs, x, omega (arith, length-append xs (x ∷ [])), at_end xs x x, h)
 
 pub any_before : {A : Type 0} (P : A → Type 0) (xs : List A) (x : A) → Any P xs → Any P (xs ++ x ∷ [])
 any_before P xs x (k, y, l, e, h) = (k, y, omega (arith, l, length-append xs (x ∷ [])), get_or_append_left xs (x ∷ []) y k l ∙ e, h)
@@ -48,7 +38,7 @@ module _ (times : Times) (shared least : ℕ) (rule : ℕ → ℕ → Drawn ℕ)
   keeps k before s h = record {
     count = omega (arith, length-append before (new ∷ []), h.count);
     places = place;
-    times_met = all_behind (λ n. IsTime times shared least n.time) before new h.times_met (ok k s);
+    times_met = All-push (λ n. IsTime times shared least n.time) before new h.times_met (ok k s);
     some = λ _. any k refl;
   }
     where
@@ -61,10 +51,10 @@ module _ (times : Times) (shared least : ℕ) (rule : ℕ → ℕ → Drawn ℕ)
           by : (j < length before) ⊎ (length before ≤ j) → (get_or (before ++ new ∷ []) j no_need).machine ≡ j
           by (inl m) = ap (λ n. n.machine) (get_or_append_left before (new ∷ []) no_need j m) ∙ h.places j m
           by (inr m) = let last : j ≡ length before = omega (arith, l, m, length-append before (new ∷ [])) in
-              ap (λ n. n.machine) (ap (λ x. get_or (before ++ new ∷ []) x no_need) last ∙ at_end before new no_need) ∙ sym h.count ∙ sym last
+              ap (λ n. n.machine) (ap (λ x. get_or (before ++ new ∷ []) x no_need) last ∙ get_or-append_seam before new [] _) ∙ sym h.count ∙ sym last
 
       any : (n : ℕ) → n ≡ k → Any (λ n. 1 ≤ n.time) (before ++ new ∷ [])
-      any zero e = any_behind (λ n. 1 ≤ n.time) before new (subst (λ x. 1 ≤ (rule x s).value) e (first s))
+      any zero e = Any-push (λ n. 1 ≤ n.time) before new (subst (λ x. 1 ≤ (rule x s).value) e (first s))
       any (suc n) e = any_before (λ n. 1 ≤ n.time) before new (h.some (omega (arith, e)))
 
   pub need_per_machine : (m s : ℕ) → Keeps m (draw_turns (λ machine _. draw_one (draw_need machine (rule machine))) m s).value
@@ -108,10 +98,10 @@ module _ (m : ℕ) (two : 2 ≤ m) where
     keeps_route : (k : ℕ) (before : List Need) (s : ℕ) → KeepsRoute k before → KeepsRoute (suc k) (before ++ (draw_operation times shared m before s).value ∷ [])
     keeps_route k before s h = record {
       count = omega (arith, length-append before (new ∷ []), h.count);
-      machines = all_behind (λ n. n.machine < m) before new h.machines (machine_inside before s);
+      machines = All-push (λ n. n.machine < m) before new h.machines (machine_inside before s);
       moves = move;
-      times_met = all_behind (λ n. IsTime times shared 1 n.time) before new h.times_met time;
-      some = λ _. any_behind (λ n. 1 ≤ n.time) before new time.least_met;
+      times_met = All-push (λ n. IsTime times shared 1 n.time) before new h.times_met time;
+      some = λ _. Any-push (λ n. 1 ≤ n.time) before new time.least_met;
     }
       where
         new : Need
@@ -129,7 +119,7 @@ module _ (m : ℕ) (two : 2 ≤ m) where
             by (inr k') =
                 let last : j + 1 ≡ length before = omega (arith, l, k', length-append before (new ∷ [])) in
                 λ e. machine_differs before s j d h.machines last (ap (λ n. n.machine) (sym (get_or_append_left before (new ∷ []) d j (omega (arith, last))))
-                ∙ e ∙ ap (λ n. n.machine) (ap (λ x. get_or (before ++ new ∷ []) x d) last ∙ at_end before new d))
+                ∙ e ∙ ap (λ n. n.machine) (ap (λ x. get_or (before ++ new ∷ []) x d) last ∙ get_or-append_seam before new [] d))
 
     pub route : (count s : ℕ) → KeepsRoute count (draw_turns (λ _ before. draw_one (draw_operation times shared m before)) count s).value
     route count s =

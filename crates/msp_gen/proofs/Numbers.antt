@@ -43,9 +43,8 @@ pub shop_time : (times : Times) (shared machine s : ℕ) → IsSharedTime times 
 shop_time General shared zero s h = let l = draw_below 100 s (omega arith) in record { least_met = omega arith; few = omega (arith, l); fits = tt }
 shop_time General shared (suc k) s h = let l = draw_below 101 s (omega arith) in record { least_met = omega arith; few = omega (arith, l); fits = tt }
 shop_time Equal shared zero s h = record { least_met = h.some; few = h.few; fits = h.fits }
-shop_time Equal shared (suc k) s h = record { least_met = h.some; few = h.few; fits = h.fits }
 shop_time UnitTimes shared zero s h = record { least_met = omega arith; few = h.few; fits = h.fits }
-shop_time UnitTimes shared _ s h = record { least_met = omega arith; few = h.few; fits = h.fits }
+shop_time _ shared k s h = record { least_met = omega (arith, h.some); few = h.few; fits = h.fits }
 
 pub first_shop_time : (times : Times) (shared s : ℕ) → IsSharedTime times shared → 1 ≤ (draw_shop_time times shared 0 s).value
 first_shop_time General shared s h = omega arith

@@ -36,14 +36,9 @@ more_put o p q x b e f = f ∙ ap (λ z. z ++ b) e ∙ append_assoc o x b
 pub five_put : (o p q r s t a b c d e : List ℕ) → p ≡ o ++ a → q ≡ p ++ b → r ≡ q ++ c → s ≡ r ++ d → t ≡ s ++ e → t ≡ o ++ (a ++ b ++ c ++ d ++ e)
 five_put o p q r s t a b c d e f g h i j = more_put o s t (a ++ b ++ c ++ d) e (more_put o r s (a ++ b ++ c) d (more_put o q r (a ++ b) c (more_put o p q a b f g) h) i) j
 
--- four parts put together, two of them numbers
-parts_put : (o p a b c d : List ℕ) → p ≡ o ++ (a ++ (b ++ (c ++ (d ++ [])))) → p ≡ o ++ (a ++ b ++ c ++ d)
-parts_put o p a b c d e =
-    e ∙ ap (λ z. o ++ z) (ap (λ z. a ++ (b ++ (c ++ z))) (append-nil d) ∙ sym (append_assoc (a ++ b) c d ∙ append_assoc a b (c ++ d)))
-
 pub span_put : (o p : List ℕ) (x from y to : ℤ) (s l : List ℕ) → x ≡ from → y ≡ to
     → p ≡ o ++ (signed_decimal x ++ (s ++ (signed_decimal y ++ (l ++ [])))) → p ≡ o ++ (signed_decimal from ++ s ++ signed_decimal to ++ l)
-span_put o p x from y to s l h k e = rw (sym h, sym k) (parts_put o p (signed_decimal x) s (signed_decimal y) l e)
+span_put o p x from y to s l h k e = rw (sym h, sym k) (e ∙ simp (append_assoc, append-nil))
 
 -- a line is its first field and the others, each behind a space
 pub line-spaced : (w : List ℕ) (ws : List (List ℕ)) → join_with_byte 32 (w ∷ ws) ≡ w ++ spaced ws

@@ -29,11 +29,9 @@ module _ {X : Type 0} (p : X → Bool) where
 -- a test of what another test keeps
 pub list_any-filter : {X : Type 0} (p q : X → Bool) (xs : List X) → list_any q (filter p xs) ≡ list_any (λ x. p x && q x) xs
 list_any-filter p q [] = refl
-list_any-filter {X} p q (x ∷ xs) = by (list_any-filter p q xs) (p x)
-  where
-    by : list_any q (filter p xs) ≡ list_any (λ y. p y && q y) xs → (b : Bool) → list_any q (cond b (x ∷ filter p xs) (filter p xs)) ≡ ((b && q x) || list_any (λ y. p y && q y) xs)
-    by e true = ap (λ r. q x || r) e
-    by e false = e
+list_any-filter p q (x ∷ xs) =
+    elim (p x) as (λ b. list_any q (cond b (x ∷ filter p xs) (filter p xs)) ≡ ((b && q x) || list_any (λ y. p y && q y) xs))
+    [ true ↦ ap (λ r. q x || r) (list_any-filter p q xs) | false ↦ list_any-filter p q xs ]
 
 -- of a list sorted by a key, what stands between the lesser keys and the greater ones has the key
 pub filter_between : {X : Type 0} (key : X → ℕ) (j : ℕ) (xs : List X) (a b : ℕ)
@@ -109,15 +107,12 @@ filter_range_more p n =
     ap (λ m. filter p (range_with_len 0 m)) (add-one n) ∙ ap (filter p) (range_with_len_last 0 n ∙ ap (λ m. range_with_len 0 n ++ m ∷ []) (omega arith))
     ∙ filter-append p (range_with_len 0 n) (n ∷ [])
 
-pub entering-small : (arcs : List Arc) (i k : ℕ) → entering (take i arcs) k ≤ i
-entering-small arcs i k = omega (arith, count_by-le-length (λ a. a.after == k) (take i arcs), length-take i arcs)
-
 -- the step of the loop that counts, by what it reads at the job after
 pub CountsEntering-read : (arcs : List Arc) (i : ℕ) (d : Arc) (n r : ℕ) (counts : List ℕ) → i < length arcs → All (λ a. a.after < n) arcs
     → CountsEntering (take i arcs) n counts → r ≡ get_or counts (get_or arcs i d).after r
     → (r ≤ i) × CountsEntering (take (i + 1) arcs) n (set counts (get_or arcs i d).after (r + 1))
 CountsEntering-read arcs i d n r counts t ends h is = (
-  omega (arith, value, h.each j (ends i d t), entering-small arcs i j),
+  omega (arith, value, h.each j (ends i d t), count_by-le-length (λ a. a.after == j) (take i arcs), length-take i arcs),
   subst (λ m. CountsEntering (take (i + 1) arcs) n (set counts j (m + 1))) (sym value) (CountsEntering-more arcs i d n j counts t refl (ends i d t) h),
 )
   where

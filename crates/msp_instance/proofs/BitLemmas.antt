@@ -1,7 +1,6 @@
 -- Lemmas on the bits of jobs: read, written, and apart in the words of two jobs.
-use Rattle.std.proofs.Common.{◌≡◌, ◌≢◌, ◌⊎◌, ℕ, ◌<◌, ◌≤◌, ◌+◌, ◌-◌, ◌*◌, ◌/◌, ◌%◌, ◌^◌, true, false, eqb, max, bit_or, bit_and, List, length, get_or}
-use Rattle.std.proofs.Common.{set, replicate, Some, None, unwrap_or, w64, ap, ap₂, sym, ◌∙◌, inl, inr, arith, get_or-set_same}
-use Rattle.std.proofs.Common.{get_or-set_other}
+use Rattle.std.proofs.Common.{◌≡◌, ◌≢◌, ◌⊎◌, ℕ, ◌<◌, ◌≤◌, ◌+◌, ◌*◌, ◌/◌, ◌%◌, ◌^◌, true, false, eqb, max, bit_or, bit_and, List, length, get_or}
+use Rattle.std.proofs.Common.{set, replicate, Some, None, unwrap_or, w64, ap, ap₂, sym, ◌∙◌, inl, inr, arith, get_or-set_same, get_or-set_other}
 use Rattle.std.specs.Int.{bit_at}
 use Rattle.std.proofs.Math.Nat.{mul-le-mul_right}
 use Rattle.std.proofs.lemmas.Nat.{mod_below, same_from_place, div-add-mod'}
@@ -12,14 +11,12 @@ use Rattle.std.proofs.lemmas.Option.{get_or_from_slice_get, unwrap_or-slice_get}
 use Rattle.std.specs.Prelude.{slice_get}
 use Rattle.msp_instance.specs.Bits.{has_bit}
 use Rattle.msp_instance.specs.PathBits.{SetsBit}
+use Rattle.std.proofs.lemmas.Bool.Decides.{nat_tests}
 
 -- ---- one bit
 -- a bit of two words joined is set where one of theirs is
 or_set : (p q : ℕ) → p < 2 → eqb (max p q) 1 ≡ true → (eqb p 1 ≡ true) ⊎ (eqb q 1 ≡ true)
-or_set p q low e = elim (cases_eq p 1) as (λ _. (eqb p 1 ≡ true) ⊎ (eqb q 1 ≡ true)) [
-  | inl p1 ↦ inl (eq-eqb p 1 p1)
-  | inr other ↦ inr (eq-eqb q 1 (omega (arith, eqb-true (max p q) 1 e)))
-]
+or_set p q low e = grind (arith, nat_tests)
 
 module _ (x y i : ℕ) where
   pub or_bit : eqb (bit_at (bit_or x y) i) 1 ≡ true → (eqb (bit_at x i) 1 ≡ true) ⊎ (eqb (bit_at y i) 1 ≡ true)
@@ -32,17 +29,11 @@ module _ (x y i : ℕ) where
   or_bit_right e = eq-eqb _ 1 (omega (arith, bit_at_or x y i, eqb-true (bit_at y i) 1 e, bit_at-lt x i))
 
 -- ---- the words of two jobs do not meet
-rows_apart : (width j i : ℕ) → j < i → j * width + width ≤ i * width
-rows_apart width j i h = omega (arith, mul-le-mul_right width (let l : j + 1 ≤ i = omega arith in l))
-
 pub row_inside : (width n j : ℕ) → j < n → j * width + width ≤ n * width
-row_inside width n j h = rows_apart width j n h
+row_inside width n j h = omega (arith, mul-le-mul_right width (let l : j + 1 ≤ n = omega arith in l))
 
 pub rows_disjoint : (width j i : ℕ) → j ≢ i → (j * width + width ≤ i * width) ⊎ (i * width + width ≤ j * width)
-rows_disjoint width j i differs = elim (cases_lt j i) as (λ _. (j * width + width ≤ i * width) ⊎ (i * width + width ≤ j * width)) [
-  | inl low ↦ inl (rows_apart width j i low)
-  | inr high ↦ inr (rows_apart width i j (let l : i < j = omega arith in l))
-]
+rows_disjoint width j i differs = grind (arith, row_inside)
 
 -- ---- a bit read
 pub read_bit : (ws : List ℕ) (width j k at word : ℕ) → at ≡ j * width + k / 64 → word ≡ get_or ws at 0 → eqb (bit_and (word / 2 ^ (k % 64)) 1) 1 ≡ has_bit ws width j k

@@ -1,25 +1,24 @@
 -- Lemmas on orders of all jobs, and on cycles: there is the one or the other.
-use Rattle.std.proofs.Common.{◌≡◌, ◌≢◌, ℕ, zero, suc, ◌+◌, ◌<◌, ◌≤◌, true, false, cond, ◌==◌, List, [], ◌∷◌, length, get_or, take, count_by, All, AllPairs, Contains, Some, ◌⊎◌}
+use Rattle.std.proofs.Common.{◌≡◌, ◌≢◌, ℕ, zero, suc, ◌+◌, ◌<◌, ◌≤◌, true, false, ◌==◌, List, [], ◌∷◌, length, get_or, take, count_by, All, AllPairs, Contains, Some, ◌⊎◌}
 use Rattle.std.proofs.Common.{inl, inr, sym, ap, ◌∙◌, subst, arith}
 use Rattle.std.specs.Prelude.{slice_get}
 use Rattle.std.specs.List.{list_any}
 use Rattle.std.specs.List.Sorted.{IsPermutation}
-use Rattle.std.proofs.lemmas.Bool.{cases_Bool, cases_lt, eqb-true, eqb-false, eq-eqb, ne_eqb, false≢true}
+use Rattle.std.proofs.lemmas.Bool.{cases_Bool, cases_lt, eqb-true, eqb-false, false≢true}
 use Rattle.std.proofs.lemmas.List.{get_or_default, get_or-take, length-take}
-use Rattle.std.proofs.lemmas.List.Sums.{sum_by_more, sum_by-cons, sum_by-take-le}
 use Rattle.std.proofs.lemmas.List.Elements.{All-nil, All-cons, All-contains, Contains-get_or}
 use Rattle.std.proofs.lemmas.List.Sorted.{Contains-permutation, All-permutation, IsPermutation-sym}
 use Rattle.std.proofs.lemmas.List.Kept.{AllPairs-cons}
 use Rattle.std.proofs.lemmas.Option.{slice_get-get_or, slice_get_within, get_or_from_slice_get}
 use Rattle.msp_class.specs.Sums.{total_below}
-use Rattle.msp_class.proofs.Sums.{cond-yes, cond-no, total_below-add, total_below-same, sum_by-mono, sum_by-constant, sum_by-total_below, total_below-constant, total_below-only}
-use Rattle.msp_class.proofs.Sums.{total_below-none, total_below-mono, total_below-tight, count_by-distinct, OnceBelow, OnceBelow-from_distinct, OnceBelow-contains}
+use Rattle.msp_class.proofs.Sums.{total_below-constant, counts_below, missing, total_below-within, OnceBelow-distinct}
+use Rattle.msp_class.proofs.Sums.{total_below-mono, total_below-tight, count_by-distinct, OnceBelow, OnceBelow-from_distinct, OnceBelow-contains}
 use Rattle.msp_instance.specs.declared.Arc.{Arc}
 use Rattle.msp_instance.specs.declared.Instance.{Instance}
 use Rattle.msp_instance.specs.Conditions.{IsSequence, GoesForward, IsAcyclic}
 use Rattle.msp_instance.specs.Paths.{HasStep, HasPath, one, more, IsLeastOnCycle}
 use Rattle.msp_instance.specs.Listing.{IsLongestOrder}
-use Rattle.msp_instance.proofs.ListingLemmas.{list_any-from_Contains, Contains-from_list_any, count-from_contains, length-once}
+use Rattle.msp_instance.proofs.ListingLemmas.{list_any-from_Contains, Contains-from_list_any, count-from_contains, length-once, one_place}
 use Rattle.msp_instance.proofs.SearchLemmas.{HasPath-permutation}
 
 -- ---- an order of all jobs from the longest one
@@ -50,40 +49,15 @@ GoesForward-from_longest i arcs order p ends h whole k d t = (
         (subst (HasStep arcs a.before) (sym (get_or_default order after.0 0 a.after after.1 ∙ after.2)) (Contains-permutation i.arcs arcs a p (Contains-get_or i.arcs k d t)))
 
 -- ---- a path never leads back where every arc goes forward
-equal_below-inside : (n x : ℕ) → x < n → total_below n (λ j. cond {A = ℕ} (x == j) 1 0) ≡ 1
-equal_below-inside n x t = total_below-only n (λ _. 1) x t
-
-equal_below-past : (n x : ℕ) → n ≤ x → total_below n (λ j. cond {A = ℕ} (x == j) 1 0) ≡ 0
-equal_below-past n x t = total_below-none n (λ j. cond (x == j) 1 0) (λ j u. cond-no 1 (ne_eqb x j (λ e. absurd (omega arith))))
-
-at_most_one : (n x : ℕ) → total_below n (λ j. cond {A = ℕ} (x == j) 1 0) ≤ 1
-at_most_one n x = elim (cases_lt x n) [ inl t ↦ omega (arith, equal_below-inside n x t) | inr t ↦ omega (arith, equal_below-past n x t) ]
-
--- the numbers below n stand in a list at most as often as it is long
-counts_below : (n : ℕ) (xs : List ℕ) → total_below n (λ j. count_by (λ x. x == j) xs) ≤ length xs
-counts_below n xs =
-    omega (
-      arith,
-      sum_by-total_below (λ x j. cond (x == j) 1 0) n xs,
-      sum_by-mono (λ x. total_below n (λ j. cond (x == j) 1 0)) (λ _. 1) xs (λ k d t. at_most_one n (get_or xs k d)),
-      sum_by-constant 1 xs,
-    )
-
--- where they stand in it as often as it is long, it has no others
+-- where the numbers below n stand in a list as often as it is long, it has no others
 inside_from_counts : (n : ℕ) (xs : List ℕ) → length xs ≤ total_below n (λ j. count_by (λ x. x == j) xs) → All (λ x. x < n) xs
-inside_from_counts n [] h = λ k d t. absurd (omega arith)
-inside_from_counts n (x ∷ xs) h =
-    All-cons (λ y. y < n) x xs
-    (elim (cases_lt x n) [ inl t ↦ t | inr t ↦ absurd (omega (arith, counts, counts_below n xs, equal_below-past n x t)) ])
-    (inside_from_counts n xs (omega (arith, counts, at_most_one n x)))
-  where
-    counts : length xs + 1 ≤ total_below n (λ j. cond (x == j) 1 0) + total_below n (λ j. count_by (λ y. y == j) xs)
-    counts = omega (
-      arith,
-      h,
-      total_below-add n (λ j. cond (x == j) 1 0) (λ j. count_by (λ y. y == j) xs),
-      total_below-same n (λ j. count_by (λ y. y == j) (x ∷ xs)) (λ j. cond (x == j) 1 0 + count_by (λ y. y == j) xs) (λ j t. sum_by-cons (λ y. cond (y == j) 1 0) x xs),
-    )
+inside_from_counts n xs h k d t =
+    let x = get_or xs k d in
+    let more = total_below-within (λ j. count_by (λ y. y == j) xs) n x in
+    elim (cases_lt x n) [
+      | inl low ↦ low
+      | inr past ↦ absurd (omega (arith, h, more past, counts_below (suc x) xs, count-from_contains xs x (Contains-get_or xs k d t)))
+    ]
 
 pub count_once : (i : Instance) (order : List ℕ) → IsSequence i order → (j : ℕ) → j < length i.jobs → count_by (λ x. x == j) order ≡ 1
 count_once i order h j t =
@@ -100,22 +74,10 @@ OnceBelow-from_sequence i order h =
       once = count_once i order h;
     }
 
--- a job that stands at two places is counted twice
-counted_twice : (xs : List ℕ) (j p q : ℕ) → slice_get xs p ≡ Some j → slice_get xs q ≡ Some j → p < q → 2 ≤ count_by (λ x. x == j) xs
-counted_twice xs j p q hp hq less =
-    let short : q < length xs = slice_get_within xs q j hq in
-    let here : get_or xs q 0 ≡ j = get_or_from_slice_get xs q j 0 hq in
-    let c : Contains (take q xs) j = (p, omega (arith, length-take q xs), get_or-take q xs p j less ∙ get_or_from_slice_get xs p j j hp) in
-    omega (arith, count-from_contains (take q xs) j c, sum_by_more (λ x. cond (x == j) 1 0) xs q 0 short, cond-yes 1 (eq-eqb _ j here), sum_by-take-le (λ x. cond (x == j) 1 0) xs (q + 1))
-
 pub same_place : (i : Instance) (order : List ℕ) → IsSequence i order → (j p q : ℕ) → j < length i.jobs → slice_get order p ≡ Some j → slice_get order q ≡ Some j → p ≡ q
-same_place i order h j p q t hp hq = elim (cases_lt p q) [
-  | inl less ↦ absurd (omega (arith, counted_twice order j p q hp hq less, count_once i order h j t))
-  | inr past ↦ elim (cases_lt q p) [
-    | inl less ↦ absurd (omega (arith, counted_twice order j q p hq hp less, count_once i order h j t))
-    | inr k ↦ omega arith
-  ]
-]
+same_place i order h j p q t hp hq =
+    one_place order p q (OnceBelow-distinct (OnceBelow-from_sequence i order h)) (slice_get_within order p j hp) (slice_get_within order q j hq)
+    (get_or_from_slice_get order p j 0 hp ∙ sym (get_or_from_slice_get order q j 0 hq))
 
 pub path_forward : (i : Instance) (order : List ℕ) → IsSequence i order → All (GoesForward order) i.arcs → All (λ a. (a.before < length i.jobs) × (a.after < length i.jobs)) i.arcs
     → {j k : ℕ} → HasPath i.arcs j k → (p q : ℕ) → slice_get order p ≡ Some j → slice_get order q ≡ Some k → p < q
@@ -135,23 +97,6 @@ not_acyclic i j ends t path a =
     absurd (omega (arith, path_forward i a.0 a.1 a.2 ends path c.0 c.0 at at))
 
 -- ---- a job that is left out of the longest order leads back to a cycle
--- of the numbers below m, one is missing, or none is
-missing_or_all : (xs : List ℕ) (m : ℕ) → ((k : ℕ) × (k < m) × (¬ Contains xs k)) ⊎ ((k : ℕ) → k < m → Contains xs k)
-missing_or_all xs zero = inr (λ k t. absurd (omega arith))
-missing_or_all xs (suc m) = elim (missing_or_all xs m) [
-  | inl found ↦ inl (found.0, omega (arith, found.1), found.2)
-  | inr all ↦ elim (cases_Bool (list_any (λ x. x == m) xs)) [
-    | inl there ↦ inr (λ k t. elim (cases_lt k m) [ inl below ↦ all k below | inr past ↦ subst (Contains xs) (omega arith) (Contains-from_list_any xs m there) ])
-    | inr gone ↦ inl (m, omega arith, λ c. false≢true (sym gone ∙ list_any-from_Contains xs m c))
-  ]
-]
-
-pub missing_job : (n : ℕ) (xs : List ℕ) → length xs < n → (k : ℕ) × (k < n) × (¬ Contains xs k)
-missing_job n xs short = elim (missing_or_all xs n) [
-  | inl found ↦ found
-  | inr all ↦ absurd (omega (arith, short, counts_below n xs, total_below-constant n 1, total_below-mono n (λ _. 1) (λ k. count_by (λ x. x == k) xs) (λ k t. count-from_contains xs k (all k t))))
-]
-
 -- jobs that were walked back through, none twice, from each of which a path leads on from the last
 record IsWalk (arcs : List Arc) (n : ℕ) (last : ℕ) (walked : List ℕ) : Type 0 where
   inside : All (λ j. j < n) (last ∷ walked)
@@ -182,7 +127,7 @@ walk_back arcs n order ends h (suc fuel) last walked enough out w =
 pub cycle_from_short : (arcs : List Arc) (n : ℕ) (order : List ℕ)
     → All (λ a. (a.before < n) × (a.after < n)) arcs → IsLongestOrder arcs n order → length order < n → (j : ℕ) × (j < n) × HasPath arcs j j
 cycle_from_short arcs n order ends h short =
-    let first = missing_job n order short in
+    let first = missing n order short in
     walk_back arcs n order ends h n first.0 [] (omega arith) first.2 (record {
       inside = All-cons (λ j. j < n) first.0 [] first.1 (All-nil (λ j. j < n));
       apart = λ p q d a b. absurd (omega arith);

@@ -1,7 +1,6 @@
 -- Lemmas on the first fault of an instance.
 use Rattle.std.proofs.Common.{◌≡◌, ◌≢◌, ℕ, ◌<◌, ◌⊎◌, inl, inr, [], ◌∷◌, length, get_or, take, All, AllPairs, refl, sym, ◌∙◌, subst, arith}
 use Rattle.std.proofs.lemmas.List.{get_or_default, get_or-take, length-take}
-use Rattle.std.proofs.lemmas.Bool.{cases_lt}
 use Rattle.msp_class.specs.Env.{kind_of}
 use Rattle.msp_instance.specs.declared.Arc.{Arc}
 use Rattle.msp_instance.specs.declared.Instance.{Instance}
@@ -11,15 +10,7 @@ use Rattle.msp_instance.specs.declared.membership.ClassFault.TheVariants.{Curve 
 use Rattle.msp_instance.specs.Instance.{no_job}
 use Rattle.msp_instance.specs.Conditions.{text_limits, HasMachines, HasSpeeds, HasSmallMultiple, MeetsConditions}
 use Rattle.msp_instance.specs.Faults.{arc_at, HasJobs, HasArc, Condition, IsOf, Turn, turn_of, IsSooner, IsFirstFault}
-
-not_later : (s t : Turn) → t.part < s.part → ¬ IsSooner s t
-not_later s t h (inl less) = absurd (omega arith)
-not_later s t h (inr same) = absurd (omega (arith, same.0))
-
-not_itself : (s : Turn) → ¬ IsSooner s s
-not_itself s (inl less) = absurd (omega arith)
-not_itself s (inr (p, inl less)) = absurd (omega arith)
-not_itself s (inr (p, inr (q, less))) = absurd (omega arith)
+use Rattle.std.proofs.lemmas.Bool.{cases_order}
 
 pub IsFirstFault-multiple : (i : Instance) → HasJobs i → HasMachines i → HasSpeeds (kind_of i.class.env) i.machines i.speeds → ¬ HasSmallMultiple i.speeds → IsFirstFault i Multiple
 IsFirstFault-multiple i jobs machines speeds broken = record { within = tt; broken = broken; first = first }
@@ -28,8 +19,7 @@ IsFirstFault-multiple i jobs machines speeds broken = record { within = tt; brok
     first Jobs w s = jobs
     first Machines w s = machines
     first Speeds w s = speeds
-    first Multiple w s = absurd (not_itself (turn_of Multiple) s)
-    first f w s = absurd (not_later (turn_of f) (turn_of Multiple) (omega arith) s)
+    first f w s = absurd (grind arith)
 
 -- what holds of all arcs holds of the one of a number
 pub HasArc-from_all : (i : Instance) (at : ℕ) → All (λ a. (a.before < length i.jobs) × (a.after < length i.jobs)) i.arcs → AllPairs (λ a b. a ≢ b) i.arcs → at < length i.arcs → HasArc i at
@@ -59,24 +49,18 @@ Condition-from_meets i (Degree j) h w = h.degree j w
 
 sooner_or_same : (s t : Turn) → (IsSooner s t ⊎ IsSooner t s) ⊎ ((s.part ≡ t.part) × (s.number ≡ t.number) × (s.step ≡ t.step))
 sooner_or_same s t = elim (cases_order s.part t.part) [
-  | inl (inl h) ↦ inl (inl (inl h))
-  | inl (inr h) ↦ inl (inr (inl h))
-  | inr p ↦ elim (cases_order s.number t.number) [
-    | inl (inl h) ↦ inl (inl (inr (p, inl h)))
-    | inl (inr h) ↦ inl (inr (inr (sym p, inl h)))
-    | inr q ↦ elim (cases_order s.step t.step) [
-      | inl (inl h) ↦ inl (inl (inr (p, inr (q, h))))
-      | inl (inr h) ↦ inl (inr (inr (sym p, inr (sym q, h))))
-      | inr r ↦ inr (p, q, r)
+  | inr (inl h) ↦ inl (inl (inl h))
+  | inr (inr h) ↦ inl (inr (inl h))
+  | inl p ↦ elim (cases_order s.number t.number) [
+    | inr (inl h) ↦ inl (inl (inr (p, inl h)))
+    | inr (inr h) ↦ inl (inr (inr (sym p, inl h)))
+    | inl q ↦ elim (cases_order s.step t.step) [
+      | inr (inl h) ↦ inl (inl (inr (p, inr (q, h))))
+      | inr (inr h) ↦ inl (inr (inr (sym p, inr (sym q, h))))
+      | inl r ↦ inr (p, q, r)
     ]
   ]
 ]
-  where
-    cases_order : (m n : ℕ) → ((m < n) ⊎ (n < m)) ⊎ (m ≡ n)
-    cases_order m n = elim (cases_lt m n) [
-      | inl h ↦ inl (inl h)
-      | inr h ↦ elim (cases_lt n m) [ inl k ↦ inl (inr k) | inr k ↦ inr (omega arith) ]
-    ]
 
 -- the fault whose turn it is
 abbrev fault_at : ℕ → ℕ → ℕ → ClassFault

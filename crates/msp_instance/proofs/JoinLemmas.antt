@@ -1,11 +1,10 @@
 -- Lemmas on the words of jobs joined, and on arcs followed one after the other.
-use Rattle.std.proofs.Common.{◌≡◌, ◌≢◌, ◌⊎◌, ℕ, ◌<◌, ◌≤◌, ◌+◌, ◌-◌, ◌*◌, ◌/◌, ◌%◌, true, eqb, bit_or, List, [], ◌∷◌, ◌++◌, length, get_or, take}
-use Rattle.std.proofs.Common.{set, All, Contains, refl, ap, ap₂, sym, ◌∙◌, subst, inl, inr, arith, get_or-set_same}
-use Rattle.std.proofs.Common.{get_or-set_other}
+use Rattle.std.proofs.Common.{◌≡◌, ◌≢◌, ◌⊎◌, ℕ, ◌<◌, ◌≤◌, ◌+◌, ◌*◌, ◌/◌, ◌%◌, true, eqb, bit_or, List, [], ◌∷◌, ◌++◌, length, get_or, take}
+use Rattle.std.proofs.Common.{All, Contains, ap, ap₂, sym, ◌∙◌, subst, inl, inr, arith}
 use Rattle.std.specs.Int.{bit_at}
-use Rattle.std.proofs.lemmas.Bool.{cases_eq, cases_lt}
-use Rattle.std.proofs.lemmas.List.{get_or_default, take_more}
-use Rattle.std.proofs.lemmas.List.Elements.{All-nil, All-push, All-take, All-contains, Contains-push}
+use Rattle.std.proofs.lemmas.Bool.{cases_eq}
+use Rattle.std.proofs.lemmas.List.{take_more}
+use Rattle.std.proofs.lemmas.List.Elements.{All-push, All-take, All-contains, Contains-push}
 use Rattle.msp_instance.specs.declared.Arc.{Arc}
 use Rattle.msp_instance.specs.Bits.{has_bit}
 use Rattle.msp_instance.specs.Paths.{HasStep, HasPath, one, more}
@@ -20,10 +19,7 @@ pub record JoinedTo (to from k : ℕ) (before words : List ℕ) : Type 0 where
 
 -- ---- an arc followed
 pub places_apart : (width : ℕ) (a : Arc) (to from : ℕ) → to ≡ a.before * width + 0 / 64 → from ≡ a.after * width + 0 / 64 → a.before ≢ a.after → (to + width ≤ from) ⊎ (from + width ≤ to)
-places_apart width a to from to_is from_is differs = elim (rows_disjoint width a.before a.after differs) as (λ _. (to + width ≤ from) ⊎ (from + width ≤ to)) [
-  | inl l ↦ inl (omega (arith, to_is, from_is))
-  | inr g ↦ inr (omega (arith, to_is, from_is))
-]
+places_apart width a to from to_is from_is differs = grind (arith, rows_disjoint width a.before a.after differs)
 
 module _ (width : ℕ) (a : Arc) (to from : ℕ) (before middle after : List ℕ) (to_is : to ≡ a.before * width + 0 / 64)
     (from_is : from ≡ a.after * width + 0 / 64) (h : JoinsWords width to from before middle) (m : SetsBit width a.before a.after middle after) where
@@ -32,10 +28,7 @@ module _ (width : ℕ) (a : Arc) (to from : ℕ) (before middle after : List ℕ
       ap (λ n. get_or middle n 0) (omega (arith, to_is)) ∙ j ∙ ap₂ (λ p q. bit_or (get_or before p 0) (get_or before q 0)) (omega (arith, to_is)) (omega (arith, from_is))
 
   other_word : (j k : ℕ) → k / 64 < width → j ≢ a.before → get_or middle (j * width + k / 64) 0 ≡ get_or before (j * width + k / 64) 0
-  other_word j k low differs = h.others (j * width + k / 64) (elim (rows_disjoint width j a.before differs) as (λ _. (j * width + k / 64 < to) ⊎ (to + width ≤ j * width + k / 64)) [
-    | inl l ↦ inl (omega (arith, to_is))
-    | inr g ↦ inr (omega (arith, to_is))
-  ])
+  other_word j k low differs = h.others (j * width + k / 64) (grind (arith, rows_disjoint width j a.before differs))
 
   kept_middle : (j k : ℕ) → k / 64 < width → has_bit before width j k ≡ true → has_bit middle width j k ≡ true
   unfolding has_bit

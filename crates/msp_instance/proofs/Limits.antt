@@ -1,5 +1,5 @@
 -- The conditions of a class hold within wider limits, so an instance of a text is an inner one.
-use Rattle.std.proofs.Common.{ℕ, ◌*◌, ◌<◌, ◌≤◌, Bool, true, false, List, length, ℤ, pos, ◌-ℤ◌, ◌≤ℤ◌, arith, lit≤}
+use Rattle.std.proofs.Common.{ℕ, ◌*◌, ◌<◌, ◌≤◌, Bool, true, false, length, ℤ, pos, ◌-ℤ◌, ◌≤ℤ◌, arith, lit≤}
 use Rattle.std.proofs.lemmas.Int.{ints}
 use Rattle.msp_class.specs.declared.environments.EnvKind.{EnvKind}
 use Rattle.msp_class.specs.declared.environments.EnvKind.TheVariants.{Identical}
@@ -8,12 +8,11 @@ use Rattle.msp_class.specs.Crit.{uses_due}
 use Rattle.msp_class.specs.declared.class.Times.{Times}
 use Rattle.msp_class.specs.declared.class.Times.TheVariants.{Equal}
 use Rattle.msp_class.specs.declared.sizes.TheConstants.{GREATEST}
-use Rattle.msp_instance.specs.declared.Need.{Need}
 use Rattle.msp_instance.specs.declared.Curve.{Curve}
 use Rattle.msp_instance.specs.declared.Job.{Job}
 use Rattle.msp_instance.specs.declared.Instance.{Instance}
 use Rattle.msp_instance.specs.Instance.{no_job, job_at}
-use Rattle.msp_instance.specs.Conditions.{Limits, text_limits, inner_limits, inner_factor, LiesWithin, greatest_time, HasTimes, HasNeeds, HasRelease, HasDue, IsCurve, HasCurve}
+use Rattle.msp_instance.specs.Conditions.{Limits, text_limits, inner_limits, inner_factor, LiesWithin, greatest_time, HasRelease, HasDue, IsCurve, HasCurve}
 use Rattle.msp_instance.specs.Conditions.{IsJobOf, MeetsConditions, InClass, Inner}
 
 -- each limit of the first is within that of the second
@@ -22,19 +21,9 @@ pub record AreWithin (l m : Limits) : Type 0 where
   pub releases : l.greatest_release ≤ m.greatest_release
   pub dates : l.greatest_date ≤ m.greatest_date
 
-HasTimes-wider : (least a b : ℕ) (needs : List Need) → a ≤ b → HasTimes least a needs → HasTimes least b needs
-HasTimes-wider least a b needs w h = λ k d t. ((h k d t).0, omega (arith, (h k d t).1))
-
 greatest_time-wider : (l m : Limits) (t : Times) → AreWithin l m → greatest_time l t ≤ greatest_time m t
 greatest_time-wider l m Equal w = omega arith
 greatest_time-wider l m _ w = w.times
-
-HasNeeds-wider : (l m : Limits) (i : Instance) (needs : List Need) → AreWithin l m → HasNeeds l i needs → HasNeeds m i needs
-HasNeeds-wider l m i needs w h = record {
-  shape = h.shape;
-  times = HasTimes-wider _ _ _ needs (greatest_time-wider l m i.class.times w) h.times;
-  some = h.some;
-}
 
 HasRelease-wider : (l m : Limits) (b : Bool) (r : ℕ) → AreWithin l m → HasRelease l b r → HasRelease m b r
 HasRelease-wider l m true r w h = omega (arith, w.releases)
@@ -61,7 +50,11 @@ HasCurve-wider l m false c w h = h
 
 pub IsJobOf-wider : (l m : Limits) (i : Instance) (j : Job) → AreWithin l m → IsJobOf l i j → IsJobOf m i j
 IsJobOf-wider l m i j w h = record {
-  needs = HasNeeds-wider l m i j.needs w h.needs;
+  needs = record {
+    shape = h.needs.shape;
+    times = λ k d t. ((h.needs.times k d t).0, omega (arith, (h.needs.times k d t).1, greatest_time-wider l m i.class.times w));
+    some = h.needs.some;
+  };
   times = h.times;
   release = HasRelease-wider l m _ j.release w h.release;
   due = HasDue-wider l m _ j.due w h.due;
@@ -89,7 +82,7 @@ pub text_limits-inner : (k : EnvKind) → AreWithin text_limits (inner_limits k)
 text_limits-inner Identical = record { times = lit≤ tt; releases = lit≤ tt; dates = lit≤ tt }
 text_limits-inner _ = record { times = lit≤ tt; releases = lit≤ tt; dates = lit≤ tt }
 
-due-within : (l : Limits) (b : Bool) (d : ℤ) → HasDue l b d → LiesWithin l.greatest_date d
+pub due-within : (l : Limits) (b : Bool) (d : ℤ) → HasDue l b d → LiesWithin l.greatest_date d
 due-within l true d h = h
 due-within l false d h = (omega (arith, ints, h), omega (arith, ints, h))
 

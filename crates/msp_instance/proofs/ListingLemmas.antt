@@ -2,14 +2,16 @@
 use Rattle.std.proofs.Common.{◌≡◌, ◌≢◌, ℕ, ◌+◌, ◌*◌, ◌<◌, ◌≤◌, Bool, true, false, cond, ◌==◌, eqb, ltb, List, [], ◌∷◌, ◌++◌, length, get_or, take, filter, count_by, All, AllPairs}
 use Rattle.std.proofs.Common.{Contains, inl, inr, refl, sym, ap, ◌∙◌, subst, arith}
 use Rattle.std.specs.List.{list_any, range_with_len}
-use Rattle.std.proofs.lemmas.Bool.{cases_Bool, eqb-true, eqb-false, eq-eqb, ne_eqb, ltb-true, ltb-false}
+use Rattle.std.proofs.lemmas.Bool.{cases_Bool, eqb-true, eqb-false, eq-eqb, ne_eqb, ltb-true, ltb-false, cases_order}
 use Rattle.std.proofs.lemmas.List.{get_or_default, get_or-take, length-take}
 use Rattle.std.proofs.lemmas.List.Folds.{Any-from_list_any, list_any-from_Any}
 use Rattle.std.proofs.lemmas.List.Sums.{sum_by_push}
 use Rattle.std.proofs.lemmas.List.Elements.{All-push, All-contains, All-filter}
-use Rattle.msp_class.proofs.Sums.{cond-yes, cond-no, eqb_comm, sum_by-constant, sum_by-filter, sum_by-agree, sum_by-none, sum_by-some, sum_by-contains, sum_by_counts}
-use Rattle.msp_class.proofs.Sums.{total_below-range, total_below-mono, total_below-only, total_below-constant, OnceBelow, OnceBelow-range, distinct_from_counts}
+use Rattle.msp_class.proofs.Sums.{cond-yes, cond-no, eqb_comm, sum_by-constant, sum_by-filter, sum_by-agree, sum_by-none, sum_by_counts}
+use Rattle.msp_class.proofs.Sums.{total_below-range, total_below-mono, total_below-only, total_below-constant, OnceBelow-range, distinct_from_counts}
 use Rattle.msp_instance.specs.Listing.{IsListing}
+pub use Rattle.msp_class.proofs.Sums.{count-from_contains, Contains-from_count}
+use Rattle.msp_class.proofs.Sums.{cond-zero, cond-le}
 
 -- ---- membership as a test
 pub list_any-from_Contains : (xs : List ℕ) (j : ℕ) → Contains xs j → list_any (λ x. x == j) xs ≡ true
@@ -42,28 +44,13 @@ module _ {X : Type 0} where
 count_push : (xs : List ℕ) (j k : ℕ) → count_by (λ x. x == k) (xs ++ j ∷ []) ≡ count_by (λ x. x == k) xs + cond (j == k) 1 0
 count_push xs j k = sum_by_push (λ x. cond (x == k) 1 0) xs j
 
-pub count-from_contains : (xs : List ℕ) (k : ℕ) → Contains xs k → 1 ≤ count_by (λ x. x == k) xs
-count-from_contains xs k c = omega (arith, sum_by-contains (λ x. cond (x == k) 1 0) xs k c, cond-yes 1 (eq-eqb k k refl))
-
-pub Contains-from_count : (xs : List ℕ) (k : ℕ) → 1 ≤ count_by (λ x. x == k) xs → Contains xs k
-Contains-from_count xs k h = let s = sum_by-some (λ x. cond (x == k) 1 0) xs (omega arith) in subst (Contains xs) (is s.0 (s.0 == k) refl s.2) s.1
-  where
-    is : (x : ℕ) (b : Bool) → eqb x k ≡ b → 0 < cond b 1 0 → x ≡ k
-    is x true e p = eqb-true x k e
-    is x false e p = absurd (omega arith)
-
 -- ---- listings
 pub IsListing-filter : (n : ℕ) (test : ℕ → Bool) → IsListing n test (filter test (range_with_len 0 n))
-IsListing-filter n test = record { inside = All-filter test (λ x. x < n) (range_with_len 0 n) range.within; each = each }
+IsListing-filter n test = record { inside = All-filter test (λ x. x < n) (range_with_len 0 n) (OnceBelow-range n).within; each = each }
   where
-    range : OnceBelow n (range_with_len 0 n)
-    range = OnceBelow-range n
-
     turned : (a b : Bool) → cond {A = ℕ} a (cond b 1 0) 0 ≡ cond b (cond a 1 0) 0
-    turned true true = refl
-    turned true false = refl
-    turned false true = refl
-    turned false false = refl
+    turned true b = refl
+    turned false b = sym (cond-zero b refl)
 
     each : (k : ℕ) → k < n → count_by (λ x. x == k) (filter test (range_with_len 0 n)) ≡ cond (test k) 1 0
     each k t =
@@ -91,13 +78,9 @@ IsListing-push n test other xs j inside before now same h = record { inside = Al
           omega (arith, count_push xs j k, cond-no 1 miss, h.each k t, ap {B = ℕ} (λ b. cond b 1 0) e)
     ]
 
-at_most : (b : Bool) → cond b 1 0 ≤ 1
-at_most true = omega arith
-at_most false = omega arith
-
 pub IsListing-once : (n : ℕ) (test : ℕ → Bool) (xs : List ℕ) → IsListing n test xs → (k : ℕ) → count_by (λ x. x == k) xs ≤ 1
 IsListing-once n test xs h k = elim (cases_Bool (ltb k n)) [
-  | inl below ↦ omega (arith, h.each k (ltb-true k n below), at_most (test k))
+  | inl below ↦ omega (arith, h.each k (ltb-true k n below), cond-le (test k) 1)
   | inr past ↦ omega (arith, sum_by-none (λ x. cond (x == k) 1 0) xs (λ i d t. cond-no 1 (ne_eqb (get_or xs i d) k (λ q. omega (arith, q, h.inside i d t, ltb-false k n past)))))
 ]
 
@@ -127,7 +110,15 @@ IsListing-passes n test xs h k c = (inside, elim (cases_Bool (test k)) [ inl e �
     inside : k < n
     inside = All-contains (λ x. x < n) xs k h.inside c
 
--- a number of a list without repeats does not stand before its own place
+-- a number of a list without repeats has one place
+pub one_place : (xs : List ℕ) (p q : ℕ) → AllPairs (λ j k. j ≢ k) xs → p < length xs → q < length xs → get_or xs p 0 ≡ get_or xs q 0 → p ≡ q
+one_place xs p q apart in_p in_q same = elim (cases_order p q) [
+  | inl e ↦ e
+  | inr (inl less) ↦ absurd (apart p q 0 less in_q same)
+  | inr (inr greater) ↦ absurd (apart q p 0 greater in_p (sym same))
+]
+
+-- and does not stand before it
 pub not_before_itself : (xs : List ℕ) (i : ℕ) → AllPairs (λ x y. x ≢ y) xs → i < length xs → ¬ Contains (take i xs) (get_or xs i 0)
 not_before_itself xs i h t c =
     let at : c.0 < i = omega (arith, c.1, length-take i xs) in

@@ -1,11 +1,11 @@
 -- Lemmas on greatest common divisors and least common multiples.
-use Rattle.std.proofs.Common.{◌≡◌, ℕ, zero, suc, ◌+◌, ◌*◌, ◌/◌, ◌%◌, ◌<◌, ◌≤◌, ◌^◌, Bool, leb, List, [], ◌∷◌, ◌++◌, length, get_or, take, All, Contains, IsTrue, true, false, ◌↔◌}
-use Rattle.std.proofs.Common.{refl, sym, ap, ◌∙◌, subst, subst₂, arith}
+use Rattle.std.proofs.Common.{◌≡◌, ℕ, ◌+◌, ◌*◌, ◌/◌, ◌%◌, ◌<◌, ◌≤◌, ◌^◌, List, [], ◌∷◌, ◌++◌, length, get_or, take, All, Contains, IsTrue, true, false, ◌↔◌}
+use Rattle.std.proofs.Common.{refl, sym, ap, ◌∙◌, subst, subst₂, arith, inl, inr}
 use Rattle.std.specs.Int.{◌∣◌, IsGcd}
 use Rattle.std.proofs.lemmas.Nat.Gcd.{IsGcd-from_mod, dvd_trans, le_of_dvd}
 use Rattle.std.proofs.Math.Nat.{dvd-add_iff_right, dvd-mul_right_of_dvd, div-mul_cancel, mul-dvd-mul_left, mul-dvd-mul_right, dvd_of_mul-dvd-mul_right, pos_of_dvd_of_pos}
 use Rattle.std.proofs.Math.Nat.{dvd-mul_right, dvd-mul_left, div-add-mod, one-dvd}
-use Rattle.std.proofs.lemmas.Bool.{false≢true, leb-true, leb-false}
+use Rattle.std.proofs.lemmas.Bool.{false≢true, cases_lt}
 use Rattle.std.proofs.lemmas.Nat.{mul-le}
 use Rattle.std.proofs.lemmas.List.Elements.{All-more, All-take, All-weaker, All-contains, All-nil, All-cons, All-head, All-tail, Contains-push}
 use Rattle.std.proofs.lemmas.List.{take_more}
@@ -38,11 +38,8 @@ IsLeastMultiple-from_divisor a b g some_a some_b h scaled = (record { left = lef
     cut_a : a / g * g ≡ a
     cut_a = div-mul_cancel g h.0
 
-    cut_b : b / g * g ≡ b
-    cut_b = div-mul_cancel g h.1
-
     turned : a / g * b ≡ a * (b / g)
-    turned = ap (λ n. a / g * n) (sym cut_b) ∙ omega arith ∙ ap (λ n. n * (b / g)) cut_a
+    turned = ap (λ n. a / g * n) (sym (div-mul_cancel g h.1)) ∙ omega arith ∙ ap (λ n. n * (b / g)) cut_a
 
     left : a ∣ a / g * b
     left = subst (λ n. a ∣ n) (sym turned) (dvd-mul_right a (b / g))
@@ -51,11 +48,7 @@ IsLeastMultiple-from_divisor a b g some_a some_b h scaled = (record { left = lef
     whole = ap (λ n. n * b) (sym cut_a) ∙ omega arith
 
     some : 1 ≤ a / g * b
-    some = positive (a / g * b) g (subst (λ n. 1 ≤ n) whole (mul-le 1 1 a b some_a some_b))
-      where
-        positive : (n k : ℕ) → 1 ≤ n * k → 1 ≤ n
-        positive zero k h = absurd (omega arith)
-        positive (suc n) k h = omega arith
+    some = pos_of_dvd_of_pos (subst (λ n. a / g * b ∣ n) (sym whole) (dvd-mul_right (a / g * b) g)) (mul-le 1 1 a b some_a some_b)
 
     least : (m : ℕ) → a ∣ m → b ∣ m → a / g * b ∣ m
     least m p q = dvd_of_mul-dvd-mul_right (a / g * b)
@@ -93,9 +86,6 @@ IsLeastOfAll-more xs k multiple next t so_far some h = record {
 divided : (m : ℕ) (xs : List ℕ) → HasSmallMultiple xs → (n : ℕ) × (1 ≤ n) × (n ≤ 2 ^ 30) × All (λ s. s ∣ n) xs
 divided m xs h = (h.0, h.1, h.2, λ k d t. let p = h.3 k d t in subst (λ n. get_or xs k d ∣ n) (sym p.1) (dvd-mul_left (get_or xs k d) p.0))
 
-pub HasSmallMultiple-from_least : (xs : List ℕ) (multiple : ℕ) → IsLeastOfAll xs multiple → multiple ≤ 2 ^ 30 → HasSmallMultiple xs
-HasSmallMultiple-from_least xs multiple h small = (multiple, h.some, small, λ k d t. (multiple / get_or xs k d, sym (div-mul_cancel (get_or xs k d) (h.common k d t))))
-
 -- where the least common multiple of some first numbers is too great, so is that of all
 pub no_small_multiple : (xs : List ℕ) (k multiple : ℕ) → IsLeastOfAll (take k xs) multiple → 2 ^ 30 < multiple → ¬ HasSmallMultiple xs
 no_small_multiple xs k multiple h great w =
@@ -103,15 +93,13 @@ no_small_multiple xs k multiple h great w =
     absurd (omega (arith, n.1, n.2, le_of_dvd (omega (arith, n.1)) (h.least n.0 (All-take (λ s. s ∣ n.0) k xs n.3))))
 
 pub small_multiple_found : (xs : List ℕ) (multiple : ℕ) → IsLeastOfAll xs multiple → multiple ≤ 2 ^ 30 → IsTrue true ↔ HasSmallMultiple xs
-small_multiple_found xs multiple h small = (λ _. HasSmallMultiple-from_least xs multiple h small, λ _. refl)
+small_multiple_found xs multiple h small =
+    (λ _. (multiple, h.some, small, λ k d t. (multiple / get_or xs k d, sym (div-mul_cancel (get_or xs k d) (h.common k d t)))), λ _. refl)
 
 pub small_multiple_missing : (xs : List ℕ) (k multiple : ℕ) → IsLeastOfAll (take k xs) multiple → 2 ^ 30 < multiple → IsTrue false ↔ HasSmallMultiple xs
 small_multiple_missing xs k multiple h great = (λ e. absurd (false≢true e), λ w. absurd (no_small_multiple xs k multiple h great w))
 
 -- where some common multiple is small, so is the least one of some first numbers
 pub multiple_small : (xs : List ℕ) (k multiple : ℕ) → HasSmallMultiple xs → IsLeastOfAll (take k xs) multiple → multiple ≤ 2 ^ 30
-multiple_small xs k multiple small h = by (leb multiple (2 ^ 30)) refl
-  where
-    by : (b : Bool) → leb multiple (2 ^ 30) ≡ b → multiple ≤ 2 ^ 30
-    by true e = leb-true _ _ e
-    by false e = absurd (no_small_multiple xs k multiple h (leb-false _ _ e) small)
+multiple_small xs k multiple small h =
+    elim (cases_lt (2 ^ 30) multiple) [ inl great ↦ absurd (no_small_multiple xs k multiple h great small) | inr low ↦ low ]

@@ -1,58 +1,41 @@
 -- Lemmas on jobs put into order one after the other, each once no arc into it waits for a job that is left.
 use Rattle.std.proofs.Common.{◌≡◌, ◌≢◌, ℕ, ◌+◌, ◌-◌, ◌<◌, ◌≤◌, Bool, true, false, cond, not, ◌==◌, ◌&&◌, ◌||◌, List, [], ◌∷◌, ◌++◌, length, get_or, take, set, filter, All}
-use Rattle.std.proofs.Common.{Contains, ◌⊎◌, inl, inr, refl, sym, ap, ◌∙◌, subst, arith}
+use Rattle.std.proofs.Common.{Contains, inl, inr, refl, sym, ap, ◌∙◌, subst, arith}
 use Rattle.std.specs.List.{list_any, range_with_len}
-use Rattle.std.proofs.lemmas.Bool.{cases_Bool, cases_lt, eqb-true, eqb-false, eq-eqb, ne_eqb, and_parts, false≢true}
+use Rattle.std.proofs.lemmas.Bool.{cases_Bool, cases_lt, eqb-true, eqb-false, eq-eqb, ne_eqb, and_parts, both_ways, not-true}
 use Rattle.std.proofs.lemmas.List.{take_all, take_more, take-take, take-append-le, get_or_default, get_or-take, get_or-set_other, length-take, length-set}
 use Rattle.std.proofs.lemmas.List.Folds.{list_any-append}
 use Rattle.std.proofs.lemmas.List.Sums.{sum_by-take-le}
 use Rattle.std.proofs.lemmas.List.Elements.{All-filter, Contains-get_or}
 use Rattle.std.proofs.lemmas.Grind.{get_or-set_at}
-use Rattle.msp_class.proofs.Sums.{cond-yes, cond-no, sum_by-agree, sum_by-add, sum_by-filter, sum_by-some, sum_by-contains}
+use Rattle.msp_class.proofs.Sums.{cond-yes, cond-no, sum_by-agree, sum_by-add, sum_by-filter, sum_by-some, sum_by-contains, eqb_comm}
 use Rattle.msp_instance.specs.declared.Arc.{Arc}
 use Rattle.msp_instance.specs.Conditions.{entering}
 use Rattle.msp_instance.specs.Paths.{HasStep}
 use Rattle.msp_instance.specs.Listing.{IsListing, waiting, IsLongestOrder}
 use Rattle.msp_instance.proofs.ArcLemmas.{entering_more}
 use Rattle.msp_instance.proofs.ListingLemmas.{list_any-from_Contains, Contains-from_list_any, Contains-take, IsListing-filter, IsListing-same, IsListing-push, IsListing-distinct}
-use Rattle.msp_instance.proofs.ListingLemmas.{IsListing-length, IsListing-contains, IsListing-passes, not_before_itself}
+use Rattle.msp_instance.proofs.ListingLemmas.{IsListing-length, IsListing-contains, IsListing-passes, not_before_itself, length-kept}
 
 -- ---- arcs from outside a list
 abbrev awaits : List ℕ → ℕ → Arc → ℕ
 awaits xs k a = cond (a.after == k && not (list_any (λ x. x == a.before) xs)) 1 0
 
-own_term : (p : Bool) → cond {A = ℕ} (p && not false) 1 0 ≡ cond (p && not true) 1 0 + cond p 1 0
-own_term true = refl
-own_term false = refl
+joins : (a l b : Bool) → (b ≡ true → l ≡ false) → cond {A = ℕ} (a && not l) 1 0 ≡ cond (a && not (l || (b || false))) 1 0 + cond b (cond a 1 0) 0
+joins a l true f = let e = f refl in grind (arith, e)
+joins a l false f = grind arith
 
 plain_term : (p : Bool) → cond {A = ℕ} (p && not false) 1 0 ≡ cond p 1 0
-plain_term true = refl
-plain_term false = refl
+plain_term p = grind arith
 
 pub waiting-none : (arcs : List Arc) (k : ℕ) → waiting arcs [] k ≡ entering arcs k
 waiting-none arcs k = sum_by-agree (awaits [] k) (λ a. cond (a.after == k) 1 0) arcs (λ a. plain_term (a.after == k))
 
 awaits-push : (xs : List ℕ) (j k : ℕ) (a : Arc) → list_any (λ x. x == j) xs ≡ false → awaits xs k a ≡ awaits (xs ++ j ∷ []) k a + cond (a.before == j) (cond (a.after == k) 1 0) 0
-awaits-push xs j k a none = elim (cases_Bool (a.before == j)) [
-  | inl own ↦
-      let same : a.before ≡ j = eqb-true a.before j own in
-      let before : list_any (λ x. x == a.before) xs ≡ false = ap (λ m. list_any (λ x. x == m) xs) same ∙ none in
-      let after : list_any (λ x. x == a.before) (xs ++ j ∷ []) ≡ true =
-      list_any-append (λ x. x == a.before) xs (j ∷ []) ∙ ap (λ b. b || (j == a.before || false)) before ∙ ap (λ b. b || false) (eq-eqb j a.before (sym same)) in
-      ap (λ b. cond {A = ℕ} (a.after == k && not b) 1 0) before ∙ own_term (a.after == k)
-      ∙ sym (ap (λ b. cond {A = ℕ} (a.after == k && not b) 1 0 + cond (a.before == j) (cond (a.after == k) 1 0) 0) after
-      ∙ ap (λ b. cond {A = ℕ} (a.after == k && not true) 1 0 + cond b (cond (a.after == k) 1 0) 0) own)
-  | inr other ↦
-      let differs : a.before ≢ j = eqb-false a.before j other in
-      let after : list_any (λ x. x == a.before) (xs ++ j ∷ []) ≡ list_any (λ x. x == a.before) xs = list_any-append (λ x. x == a.before) xs (j ∷ [])
-      ∙ ap (λ b. list_any (λ x. x == a.before) xs || (b || false)) (ne_eqb j a.before (λ e. differs (sym e))) ∙ or_false (list_any (λ x. x == a.before) xs) in
-      sym (ap (λ b. cond {A = ℕ} (a.after == k && not b) 1 0 + cond (a.before == j) (cond (a.after == k) 1 0) 0) after
-      ∙ ap (λ b. awaits xs k a + cond b (cond (a.after == k) 1 0) 0) other ∙ omega arith)
-]
-  where
-    or_false : (b : Bool) → (b || false) ≡ b
-    or_false true = refl
-    or_false false = refl
+awaits-push xs j k a none =
+    joins (a.after == k) (list_any (λ x. x == a.before) xs) (a.before == j) (λ e. ap (λ m. list_any (λ x. x == m) xs) (eqb-true a.before j e) ∙ none)
+    ∙ ap (λ b. cond {A = ℕ} (a.after == k && not b) 1 0 + cond (a.before == j) (cond (a.after == k) 1 0) 0)
+    (ap (λ b. list_any (λ x. x == a.before) xs || (b || false)) (eqb_comm a.before j) ∙ sym (list_any-append (λ x. x == a.before) xs (j ∷ [])))
 
 -- the arcs of a job that joins the list wait no longer
 pub waiting-push : (arcs : List Arc) (xs : List ℕ) (j k : ℕ) → ¬ Contains xs j → waiting arcs xs k ≡ waiting arcs (xs ++ j ∷ []) k + entering (filter (λ a. a.before == j) arcs) k
@@ -74,20 +57,13 @@ Contains-from_waiting arcs xs j k quiet step = elim (cases_Bool (list_any (λ x.
 ]
 
 pub waiting-some : (arcs : List Arc) (xs : List ℕ) (k : ℕ) → 0 < waiting arcs xs k → (j : ℕ) × HasStep arcs j k × (¬ Contains xs j)
-waiting-some arcs xs k some = let s = sum_by-some (awaits xs k) arcs some in found s.0 s.1 (passes _ s.2)
+waiting-some arcs xs k some = let s = sum_by-some (awaits xs k) arcs some in found s.0 s.1 (let h = s.2 in grind (arith, h))
   where
-    passes : (b : Bool) → 0 < cond {A = ℕ} b 1 0 → b ≡ true
-    passes true h = refl
-    passes false h = absurd (omega arith)
-
-    out : (b : Bool) → not b ≡ true → b ≡ true → ⊥
-    out true e h = false≢true e
-    out false e h = false≢true h
-
     found : (a : Arc) → Contains arcs a → (a.after == k && not (list_any (λ x. x == a.before) xs)) ≡ true → (j : ℕ) × HasStep arcs j k × (¬ Contains xs j)
     found a c h =
         let parts = and_parts _ _ h in
-        (a.before, subst (λ m. HasStep arcs a.before m) (eqb-true a.after k parts.0) c, λ inside. out _ parts.1 (list_any-from_Contains xs a.before inside))
+        let out = not-true _ parts.1 in
+        (a.before, subst (HasStep arcs a.before) (eqb-true a.after k parts.0) c, λ c. both_ways _ out (list_any-from_Contains xs a.before c))
 
 -- ---- the arcs of one job, passed one after the other
 pub record IsReleasing (n : ℕ) (passed : List Arc) (counts order now_counts now_order : List ℕ) : Type 0 where
@@ -146,23 +122,17 @@ IsReleasing-more n leaving i d counts order now_counts now_order new_counts new_
           let v : get_or now_counts j 0 ≢ 1 = eqb-false _ 1 more in
           let list : new_order ≡ now_order = listed ∙ ap (λ b. cond b (now_order ++ j ∷ []) now_order) more in
           subst (IsListing n (λ k. get_or new_counts k 0 == 0)) (sym list)
-          (IsListing-same n (λ k. get_or now_counts k 0 == 0) (λ k. get_or new_counts k 0 == 0) now_order (λ k u. same_test k v (cases_Bool (j == k))) h.listing)
+          (IsListing-same n (λ k. get_or now_counts k 0 == 0) (λ k. get_or new_counts k 0 == 0) now_order (λ k u. elim (cases_Bool (j == k)) [
+            | inl hit ↦ subst (λ m. (get_or new_counts m 0 == 0) ≡ (get_or now_counts m 0 == 0)) (eqb-true j k hit)
+                (ne_eqb _ 0 (λ q. absurd (omega (arith, at_j, some, v))) ∙ sym (ne_eqb _ 0 (λ q. absurd (omega (arith, some)))))
+            | inr miss ↦ ap (λ m. m == 0) (elsewhere k (λ e. eqb-false j k miss (sym e)))
+          ]) h.listing)
     ]
-      where
-        same_test : (k : ℕ) → get_or now_counts j 0 ≢ 1 → (j == k) ≡ true ⊎ (j == k) ≡ false → (get_or new_counts k 0 == 0) ≡ (get_or now_counts k 0 == 0)
-        same_test k v (inl hit) =
-            let e : j ≡ k = eqb-true j k hit in
-            let new : (get_or new_counts j 0 == 0) ≡ false = ne_eqb _ 0 (λ q. absurd (omega (arith, at_j, some, v))) in
-            let old : (get_or now_counts j 0 == 0) ≡ false = ne_eqb _ 0 (λ q. absurd (omega (arith, some))) in
-            subst (λ m. (get_or new_counts m 0 == 0) ≡ (get_or now_counts m 0 == 0)) e (new ∙ sym old)
-        same_test k v (inr miss) = ap (λ m. m == 0) (elsewhere k (λ e. eqb-false j k miss (sym e)))
-
-    longer : length order ≤ length now_order
-    longer = omega (arith, length-take (length order) now_order, ap length h.kept)
 
     kept : take (length order) new_order ≡ order
     kept = elim (cases_Bool (get_or now_counts j 0 == 1)) [
-      | inl last ↦ ap (take (length order)) (listed ∙ ap (λ b. cond b (now_order ++ j ∷ []) now_order) last) ∙ take-append-le (length order) now_order (j ∷ []) longer ∙ h.kept
+      | inl last ↦ ap (take (length order)) (listed ∙ ap (λ b. cond b (now_order ++ j ∷ []) now_order) last)
+          ∙ take-append-le (length order) now_order (j ∷ []) (length-kept order now_order h.kept) ∙ h.kept
       | inr more ↦ ap (take (length order)) (listed ∙ ap (λ b. cond b (now_order ++ j ∷ []) now_order) more) ∙ h.kept
     ]
 

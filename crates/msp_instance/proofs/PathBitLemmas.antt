@@ -3,7 +3,7 @@ use Rattle.std.proofs.Common.{◌≡◌, ◌≢◌, ℕ, ◌<◌, ◌≤◌, ◌
 use Rattle.std.proofs.Common.{filter, All, AllPairs, Contains, IsTrue, refl, ap, ap₂, sym, ◌∙◌, subst, inl, inr, arith}
 use Rattle.std.proofs.Math.Nat.{div-mul-le_self}
 use Rattle.std.proofs.lemmas.Nat.{le-div}
-use Rattle.std.proofs.lemmas.Bool.{cases_eq, cases_order, eqb-true, eq-eqb, false≢true}
+use Rattle.std.proofs.lemmas.Bool.{cases_eq, eqb-true, eq-eqb, false≢true}
 use Rattle.std.proofs.lemmas.List.{get_or_default}
 use Rattle.std.proofs.lemmas.List.Elements.{All-contains, Contains-get_or}
 use Rattle.std.proofs.lemmas.Option.{get_or_from_slice_get, slice_get_within}
@@ -19,18 +19,13 @@ use Rattle.msp_instance.proofs.SearchLemmas.{HasPath-permutation}
 use Rattle.msp_instance.proofs.CycleLemmas.{OnceBelow-from_sequence}
 use Rattle.msp_instance.specs.PathBits.{FollowsAll, IsOrder, HasPathBits}
 pub use Rattle.msp_instance.proofs.BitLemmas.{row_inside}
+use Rattle.msp_instance.proofs.ListingLemmas.{one_place}
 
 -- ---- the bits set from the last job on
 pub record IsFilling (order : List ℕ) (arcs : List Arc) (width : ℕ) (words : List ℕ) (done : ℕ) : Type 0 where
   pub whole : length words ≡ length order * width
   pub sound : (j k : ℕ) → k / 64 < width → has_bit words width j k ≡ true → HasPath arcs j k
   pub full : (p k : ℕ) → length order ≤ p + done → p < length order → HasPath arcs (get_or order p 0) k → has_bit words width (get_or order p 0) k ≡ true
-
-one_place : (order : List ℕ) (p q : ℕ) → AllPairs (λ j k. j ≢ k) order → p < length order → q < length order → get_or order p 0 ≡ get_or order q 0 → p ≡ q
-one_place order p q apart in_p in_q same = elim (cases_order p q) as (λ _. p ≡ q) [
-  | inl e ↦ e
-  | inr other ↦ elim other as (λ _. p ≡ q) [ inl less ↦ absurd (apart p q 0 less in_q same) | inr greater ↦ absurd (apart q p 0 greater in_p (sym same)) ]
-]
 
 word_inside : (n width k : ℕ) → width ≡ n / 64 + 1 → k < n → k / 64 < width
 word_inside n width k wide low = omega (arith, wide, le-div (k / 64) n 64 (omega arith) (omega (arith, div-mul-le_self k 64)))

@@ -2,7 +2,7 @@
 use Rattle.std.proofs.Common.{◌≡◌, ◌≢◌, ℕ, ◌+◌, ◌-◌, ◌<◌, ◌≤◌, Bool, true, false, cond, ◌==◌, List, [], ◌∷◌, ◌++◌, length, get_or, take, set, filter, replicate, All, Any, Contains}
 use Rattle.std.proofs.Common.{◌⊎◌, inl, inr, IsTrue, ◌↔◌, refl, sym, ap, ◌∙◌, subst, arith}
 use Rattle.std.specs.List.Sorted.{IsPermutation}
-use Rattle.std.proofs.lemmas.Bool.{cases_Bool, cases_lt, eqb-true, eqb-false, eq-eqb}
+use Rattle.std.proofs.lemmas.Bool.{cases_Bool, cases_lt, eqb-true, eq-eqb, cases_eq}
 use Rattle.std.proofs.lemmas.List.{take_all, take_more, take-append-le, get_or_default, get_or-set_other, length-set, length-replicate}
 use Rattle.std.proofs.lemmas.List.Elements.{All-nil, All-push, All-filter, All-weaker, All-contains, Contains-get_or, Contains-push, Contains-append_left}
 use Rattle.std.proofs.lemmas.List.Sorted.{Contains-permutation}
@@ -83,15 +83,14 @@ IsMeeting-more n leaving i d found now_seen now_found new_seen new_found t insid
         let list : new_found ≡ now_found = listed ∙ ap (λ b. cond b now_found (now_found ++ j ∷ [])) old in
         subst (IsMeeting n (take (i + 1) leaving) found new_seen) (sym list) (record {
           whole = whole;
-          listing = IsListing-same n (λ k. get_or now_seen k false) (λ k. get_or new_seen k false) now_found (λ k u. same k (cases_Bool (j == k))) h.listing;
+          listing = IsListing-same n (λ k. get_or now_seen k false) (λ k. get_or new_seen k false) now_found (λ k u. elim (cases_eq k j) [
+            | inl e ↦ subst (λ m. get_or new_seen m false ≡ get_or now_seen m false) (sym e) (at_j ∙ sym old)
+            | inr ne ↦ elsewhere k ne
+          ]) h.listing;
           kept = h.kept;
           met = met_more now_found h.met (IsListing-contains n (λ k. get_or now_seen k false) now_found h.listing j inside old);
           only = All-weaker (IsMet found (take i leaving)) (IsMet found (take (i + 1) leaving)) wider now_found h.only;
         })
-      where
-        same : (k : ℕ) → ((j == k) ≡ true) ⊎ ((j == k) ≡ false) → get_or new_seen k false ≡ get_or now_seen k false
-        same k (inl hit) = subst (λ m. get_or new_seen m false ≡ get_or now_seen m false) (eqb-true j k hit) (at_j ∙ sym old)
-        same k (inr miss) = elsewhere k (λ e. eqb-false j k miss (sym e))
     by (inr fresh) =
         let list : new_found ≡ now_found ++ j ∷ [] = listed ∙ ap (λ b. cond b now_found (now_found ++ j ∷ [])) fresh in
         subst (IsMeeting n (take (i + 1) leaving) found new_seen) (sym list) (record {

@@ -1,12 +1,12 @@
 -- How many jobs of a list have a level, and that a slot of the rule leaves no more jobs of high levels than fit the moments that are left.
-use Rattle.std.proofs.Common.{◌≡◌, ◌≢◌, ℕ, zero, suc, ◌+◌, ◌-◌, ◌*◌, ◌<◌, ◌≤◌, ◌⊎◌, inl, inr, Bool, true, false, not, cond, eqb, leb, List, [], ◌∷◌, ◌++◌, length, get_or, filter}
+use Rattle.std.proofs.Common.{◌≡◌, ◌≢◌, ℕ, zero, suc, ◌+◌, ◌-◌, ◌*◌, ◌<◌, ◌≤◌, ◌⊎◌, inl, inr, Bool, true, false, not, cond, eqb, leb, List, [], ◌∷◌, ◌++◌, length, get_or, filter, add-sub_of_le}
 use Rattle.std.proofs.Common.{count_by, sum_by, All, Contains, IsPermutation, refl, sym, ap, ◌∙◌, arith}
 use Rattle.std.proofs.lemmas.Bool.{cases_lt, eqb-true, eq-eqb, false≢true}
 use Rattle.std.proofs.lemmas.Bool.Decides.{nat_tests}
 use Rattle.std.proofs.lemmas.List.Elements.{All-head, All-tail, All-cons, All-filter, All-contains, filter_passes, Contains-get_or, Contains-append_left, Contains-append_right}
 use Rattle.std.proofs.lemmas.List.Sums.{length-filter, count_by-le-length, sum_by-append}
 use Rattle.std.proofs.lemmas.List.Filters.{length-filter_both, sum_by-filter_both}
-use Rattle.std.proofs.lemmas.List.Sorted.{All-permutation, sum_by-IsPermutation, Contains-permutation, IsPermutation-sym}
+use Rattle.std.proofs.lemmas.List.Sorted.{sum_by-IsPermutation, Contains-permutation, IsPermutation-sym}
 use native.Mathlib.Nat.{lt_of_mul-lt-mul_left}
 use Rattle.msp_class.proofs.Sums.{Contains-tail, Contains-filter, Contains-from_filter, sum_by-contains, sum_by-agree, sum_by-add, sum_by-none, sum_by-same, sum_by-constant}
 use Rattle.msp_levels.specs.Steps.{level_from, Fits}
@@ -36,10 +36,7 @@ cover f (x ∷ xs) ys once h =
     others k d l =
         let (z, c, e) = All-filter other (λ y. (z : ℕ) × Contains (x ∷ xs) z × (f z ≡ y)) ys h k d l in
         let passes : other (get_or (filter other ys) k d) ≡ true = filter_passes other ys k d l in
-        (z, Contains-tail x xs z c (λ same. absurd (by (get_or (filter other ys) k d) passes (sym e ∙ ap f (sym same)))), e)
-      where
-        by : (y : ℕ) → not (eqb y (f x)) ≡ true → y ≡ f x → ⊥
-        by y p e = false≢true (sym (ap not (eq-eqb y (f x) e)) ∙ p)
+        (z, Contains-tail x xs z c (λ same. absurd (false≢true (sym (ap not (eq-eqb _ (f x) (sym e ∙ ap f (sym same)))) ∙ passes))), e)
 
 -- ---- levels
 abbrev pub level_at : (ℕ → ℕ) → ℕ → List ℕ → ℕ
@@ -47,29 +44,17 @@ level_at level t xs = sum_by (λ j. cond (eqb (level j) t) 1 0) xs
 
 from_next : (level : ℕ → ℕ) (t : ℕ) (xs : List ℕ) → level_from level t xs ≡ level_at level t xs + level_from level (t + 1) xs
 from_next level t xs =
-    sum_by-agree (λ j. cond (leb t (level j)) 1 0) (λ j. cond (eqb (level j) t) 1 0 + cond (leb (t + 1) (level j)) 1 0) xs (λ j. one (level j))
-    ∙ sum_by-add (λ j. cond (eqb (level j) t) 1 0) (λ j. cond (leb (t + 1) (level j)) 1 0) xs
-  where
-    one : (l : ℕ) → cond (leb t l) 1 0 ≡ cond (eqb l t) 1 0 + cond (leb (t + 1) l) 1 0
-    one l = grind (arith, nat_tests)
+    sum_by-agree (λ j. cond (leb t (level j)) 1 0) (λ j. cond (eqb (level j) t) 1 0 + cond (leb (t + 1) (level j)) 1 0) xs
+    (λ j. grind (arith, nat_tests)) ∙ sum_by-add (λ j. cond (eqb (level j) t) 1 0) (λ j. cond (leb (t + 1) (level j)) 1 0) xs
 
 none_from : (level : ℕ → ℕ) (t : ℕ) (xs : List ℕ) → All (λ j. level j < t) xs → level_from level t xs ≡ 0
-none_from level t xs h = sum_by-none (λ j. cond (leb t (level j)) 1 0) xs (λ k d l. one (level (get_or xs k d)) (h k d l))
-  where
-    one : (l : ℕ) → l < t → cond {A = ℕ} (leb t l) 1 0 ≡ 0
-    one l h = grind (arith, nat_tests)
+none_from level t xs h = sum_by-none (λ j. cond (leb t (level j)) 1 0) xs (λ k d l. grind (arith, nat_tests, h k d l))
 
 all_from : (level : ℕ → ℕ) (t : ℕ) (xs : List ℕ) → All (λ j. t ≤ level j) xs → level_from level t xs ≡ length xs
-all_from level t xs h = omega (arith, sum_by-same (λ j. cond (leb t (level j)) 1 0) (λ _. 1) xs (λ k d l. one (level (get_or xs k d)) (h k d l)), sum_by-constant 1 xs)
-  where
-    one : (l : ℕ) → t ≤ l → cond {A = ℕ} (leb t l) 1 0 ≡ 1
-    one l h = grind (arith, nat_tests)
+all_from level t xs h = omega (arith, sum_by-same (λ j. cond (leb t (level j)) 1 0) (λ _. 1) xs (λ k d l. grind (arith, nat_tests, h k d l)), sum_by-constant 1 xs)
 
 some_from : (level : ℕ → ℕ) (xs : List ℕ) (j : ℕ) → Contains xs j → 1 ≤ level_from level (level j) xs
-some_from level xs j c = omega (arith, sum_by-contains (λ k. cond (leb (level j) (level k)) 1 0) xs j c, one (level j))
-  where
-    one : (l : ℕ) → cond (leb l l) 1 0 + 0 ≡ 1
-    one l = grind (arith, nat_tests)
+some_from level xs j c = grind (arith, nat_tests, sum_by-contains (λ k. cond (leb (level j) (level k)) 1 0) xs j c)
 
 -- ---- one slot
 all_or : {X : Type 0} (P : X → Type 0) (Q : Type 0) (xs : List X) → All (λ x. P x ⊎ Q) xs → All P xs ⊎ Q
@@ -81,10 +66,6 @@ all_or P Q (x ∷ xs) h = elim (All-head (λ x. P x ⊎ Q) x xs h) [
 
 pub Fits-low : (m : ℕ) (level : ℕ → ℕ) (xs : List ℕ) (g : ℕ) → Fits m level xs g → All (λ j. level j < g) xs
 Fits-low m level xs g h k d l = lt_of_mul-lt-mul_left m (omega (arith, h k d l, some_from level xs (get_or xs k d) (Contains-get_or xs k d l)))
-
-pub Fits-permutation : (m : ℕ) (level : ℕ → ℕ) (xs ys : List ℕ) (g : ℕ) → IsPermutation xs ys → Fits m level xs g → Fits m level ys g
-Fits-permutation m level xs ys g p h = All-permutation (λ j. level_from level (level j) ys + m * level j ≤ m * g)
-    xs ys p (λ k d l. omega (arith, h k d l, sum_by-IsPermutation (λ j. cond (leb (level (get_or xs k d)) (level j)) 1 0) xs ys p))
 
 module _ (m : ℕ) (level after : ℕ → ℕ) (blocked : ℕ → Bool) (left taken rest : List ℕ) (perm : IsPermutation left (taken ++ rest)) (few : length taken ≤ m) (once : HasOnce left)
     (kept : All (λ j. (blocked j ≡ true) ⊎ ((length taken ≡ m) × All (λ f. level j ≤ level f) taken)) rest)
@@ -156,8 +137,7 @@ module _ (m : ℕ) (level after : ℕ → ℕ) (blocked : ℕ → Bool) (left ta
     Fits-next h k d l = elim (all_or (λ r. t ≤ level r → blocked r ≡ true) Full rest either) [
       | inl shut ↦
           let (a, b) = narrow (g - t) t (omega (arith, below)) shut in
-          let room : m * t + m * (g - t) ≡ m * g = sum_is t (omega (arith, below)) in
-          omega (arith, b, room)
+          omega (arith, b, ap (λ n. m * n) (add-sub_of_le below))
       | inr full ↦ omega (arith, all_from level t taken full.1, full.0, split (λ j. cond (leb t (level j)) 1 0), old)
     ]
       where
@@ -175,12 +155,6 @@ module _ (m : ℕ) (level after : ℕ → ℕ) (blocked : ℕ → Bool) (left ta
 
         old : level_from level t left + m * t ≤ m * (g + 1)
         old = All-contains (λ j. level_from level (level j) left + m * level j ≤ m * (g + 1)) left j h here
-
-        sum_is : (t : ℕ) → t ≤ g → m * t + m * (g - t) ≡ m * g
-        sum_is t h = let e : t + (g - t) ≡ g = omega arith in sums (g - t) ∙ ap (λ n. m * n) e
-          where
-            sums : (n : ℕ) → m * t + m * n ≡ m * (t + n)
-            sums n = omega arith
 
         Full : Type 0
         Full = (length taken ≡ m) × All (λ f. t ≤ level f) taken

@@ -1,5 +1,5 @@
 -- The schedule of the rule is feasible and best, and costs the greatest bound of a level.
-use Rattle.std.proofs.Common.{◌≡◌, ℕ, ◌+◌, ◌-◌, ◌*◌, ◌/◌, ◌<◌, ◌≤◌, inl, inr, List, length, get_or, pos, ◌*ℤ◌, ◌≤ℤ◌, All, refl, sym, subst, arith}
+use Rattle.std.proofs.Common.{◌≡◌, ℕ, ◌+◌, ◌-◌, ◌*◌, ◌/◌, ◌<◌, ◌≤◌, inl, inr, List, length, get_or, pos, ◌*ℤ◌, ◌≤ℤ◌, refl, sym, subst, arith}
 use Rattle.std.specs.List.{range_with_len}
 use Rattle.std.proofs.lemmas.Bool.{cases_lt}
 use Rattle.std.proofs.lemmas.Nat.{le-div}
@@ -25,7 +25,7 @@ use Rattle.msp_slots.proofs.LeastCosts.{IsBestAt, IsBestAt-ends}
 use Rattle.msp_slots.proofs.UnitPieces.{HasUnitJobs, HasUnitJobs-from, IsInUnits}
 use Rattle.msp_slots.proofs.ListSchedules.{list_in_units, list_schedule_is_settled}
 use Rattle.msp_levels.specs.Levels.{levels_class, IsGreatestBound, IsLevelCost}
-use Rattle.msp_levels.specs.Steps.{level_from, Fits, AreByLevel}
+use Rattle.msp_levels.specs.Steps.{Fits, AreByLevel}
 use Rattle.msp_levels.proofs.ByLevel.{no_greater}
 use Rattle.msp_levels.proofs.Progress.{ends_soon}
 use Rattle.msp_levels.proofs.Facts.{IsUnitForest, IsUnitForest-from, IsForest-from}
@@ -59,13 +59,13 @@ module _ (i : Instance) (t : IsUnitForest i) (pieces : List Piece) (r : AreByLev
   is_greatest_bound = record { reached = greatest_below-reached n (λ j. level_bound i level (level j)) t.some; greatest = greatest_below-bound n (λ j. level_bound i level (level j)) }
 
   fits : Fits i.machines level (range_with_len 0 n) levels_bound
-  fits k d l = by (level (get_or (range_with_len 0 n) k d)) (greatest_below-bound n (λ j. level_bound i level (level j)) (get_or (range_with_len 0 n) k d) (inside k d l))
-    where
-      inside : All (λ j. j < n) (range_with_len 0 n)
-      inside = (OnceBelow-range n).within
-
-      by : (x : ℕ) → level_bound i level x ≤ levels_bound → level_from level x (range_with_len 0 n) + i.machines * x ≤ i.machines * levels_bound
-      by x h = omega (arith, enough (jobs_from i level x) i.machines t.machine, mul-le-mul_left i.machines h)
+  fits k d l =
+      let j = get_or (range_with_len 0 n) k d in
+      omega (
+        arith,
+        enough (jobs_from i level (level j)) i.machines t.machine,
+        mul-le-mul_left i.machines (greatest_below-bound n (λ j. level_bound i level (level j)) j ((OnceBelow-range n).within k d l)),
+      )
 
   soon_enough : (j : ℕ) → j < n → r.runs.begin j + 1 ≤ levels_bound
   soon_enough = ends_soon i level (IsForest-from i level t r.levels) r.order (no_greater level r.order r.by_level.falls) r.runs.begin r.runs.machine r.runs.runs levels_bound fits

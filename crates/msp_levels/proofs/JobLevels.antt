@@ -4,6 +4,7 @@ use Rattle.std.proofs.lemmas.Bool.{cases_lt}
 use Rattle.std.proofs.lemmas.List.{get_or-replicate, get_or_past, get_or-set_same, get_or-set_other, take_more, length-replicate, length-set}
 use Rattle.std.proofs.lemmas.List.Elements.{All-push, All-contains, All-weaker, Contains-append_left, Contains-push}
 use Rattle.msp_class.specs.declared.sizes.TheConstants.{MOST_JOBS}
+use Rattle.msp_class.proofs.Cases.{same_or_not}
 use Rattle.msp_instance.specs.declared.Arc.{Arc}
 use Rattle.msp_instance.specs.declared.Instance.{Instance}
 use Rattle.msp_instance.specs.Conditions.{IsSequence, GoesForward}
@@ -111,12 +112,9 @@ module _ (i : Instance) (order : List ℕ) (s : IsSequence i order)
       size = elim over.reached [ inl z ↦ omega (arith, z, some) | inr (a, c, e, r) ↦ omega (arith, r, h.small a.after) ]
 
       small : (k : ℕ) → get_or (set levels job value) k 0 + place ≤ length order
-      small k = elim (cases_lt k job) [
-        | inl l ↦ let ne : k ≢ job = omega (arith, l) in omega (arith, get_or-set_other levels job k value 0 ne, h.small k)
-        | inr m ↦ elim (cases_lt job k) [
-          | inl l ↦ let ne : k ≢ job = omega (arith, l) in omega (arith, get_or-set_other levels job k value 0 ne, h.small k)
-          | inr n ↦ let is : k ≡ job = omega (arith, m, n) in omega (arith, ap (λ x. get_or (set levels job value) x 0) is, here, size)
-        ]
+      small k = elim (same_or_not k job) [
+        | inl is ↦ omega (arith, ap (λ x. get_or (set levels job value) x 0) is, here, size)
+        | inr ne ↦ omega (arith, get_or-set_other levels job k value 0 ne, h.small k)
       ]
 
 -- at the numbers as the code passes them

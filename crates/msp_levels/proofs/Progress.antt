@@ -1,15 +1,16 @@
 -- How soon the jobs of an intree begin that run by falling level.
-use Rattle.std.proofs.Common.{◌≡◌, ◌≢◌, ℕ, zero, suc, ◌+◌, ◌<◌, ◌≤◌, ◌⊎◌, inl, inr, Bool, true, not, eqb, ltb, List, length, get_or, map, filter, All, AllPairs, Contains, refl}
+use Rattle.std.proofs.Common.{◌≡◌, ◌≢◌, ℕ, zero, suc, ◌+◌, ◌<◌, ◌≤◌, ◌⊎◌, inl, inr, Bool, true, not, eqb, ltb, List, length, get_or, map, filter, All, AllPairs, Contains, refl, add-one}
 use Rattle.std.proofs.Common.{sym, ap, subst, ◌∙◌, arith}
 use Rattle.std.specs.Prelude.{◌==◌, ◌&&◌}
 use Rattle.std.specs.List.{list_any, range_with_len}
-use Rattle.std.proofs.lemmas.Bool.{cases_lt, eqb-true, eq-eqb, ne_eqb, lt-ltb, le-ltb, false≢true}
+use Rattle.std.proofs.lemmas.Bool.{eqb-true, eq-eqb, ne_eqb, le-ltb, false≢true}
 use Rattle.std.proofs.lemmas.List.{length-map, get_or_default}
 use Rattle.std.proofs.lemmas.List.Elements.{All-map, All-contains, Contains-get_or}
 use Rattle.std.proofs.lemmas.List.Folds.{Any-from_list_any, list_any_at}
 use Rattle.std.proofs.lemmas.List.FromFn.{length-range_with_len}
 use Rattle.std.proofs.lemmas.List.Sums.{length-filter}
 use Rattle.std.proofs.lemmas.List.Sorted.{IsPermutation-filter_both}
+use Rattle.std.proofs.lemmas.Bool.Decides.{nat_tests}
 use Rattle.msp_class.proofs.Sums.{Contains-filter, Contains-from_filter, OnceBelow-range, OnceBelow-distinct, OnceBelow-contains, count_by-distinct, distinct_from_counts}
 use Rattle.msp_instance.specs.declared.Arc.{Arc}
 use Rattle.msp_instance.specs.declared.Instance.{Instance}
@@ -93,10 +94,7 @@ module _ (i : Instance) (level : ℕ → ℕ) (t : IsForest i level) where
     left-from (suc x) j c =
         let (d, e) = Contains-from_filter (later x) (left x) j c in
         let (l, from) = left-from x j d in
-        (l, past x (begin j) from (other x (begin j) e))
-      where
-        past : (x b : ℕ) → x ≤ b → b ≢ x → suc x ≤ b
-        past x b l ne = grind arith
+        (l, omega (arith, from, other x (begin j) e))
 
     left-to : (x j : ℕ) → j < n → x ≤ begin j → Contains (left x) j
     left-to zero j l from = OnceBelow-contains (OnceBelow-range n) j l
@@ -185,10 +183,8 @@ module _ (i : Instance) (level : ℕ → ℕ) (t : IsForest i level) where
         let both = both_true (a.after == j) (not (ltb (begin a.before) x)) p in
         let c : Contains i.arcs a = (m, b, e) in
         let to : a.after ≡ j = eqb-true a.after j both.0 in
-        (a.before, left-to x a.before (inside a c).0 (from (begin a.before) both.1), after_here a c ∙ to, one_down a c ∙ ap (λ y. level y + 1) to)
-      where
-        from : (y : ℕ) → not (ltb y x) ≡ true → x ≤ y
-        from y e = elim (cases_lt y x) [ inl less ↦ absurd (false≢true (sym (ap not (lt-ltb y x less)) ∙ e)) | inr more ↦ more ]
+        let from : x ≤ begin a.before = grind (arith, nat_tests, both.1) in
+        (a.before, left-to x a.before (inside a c).0 from, after_here a c ∙ to, one_down a c ∙ ap (λ y. level y + 1) to)
 
     bound : (b : ℕ) → Fits i.machines level (range_with_len 0 n) b → (x j : ℕ) → j < n → x ≤ begin j → (slots : ℕ) × (x + slots ≡ b) × Fits i.machines level (left x) slots
     bound b f zero j l from = (b, omega arith, f)
@@ -197,8 +193,7 @@ module _ (i : Instance) (level : ℕ → ℕ) (t : IsForest i level) where
         step : (slots : ℕ) → x + slots ≡ b → Fits i.machines level (left x) slots → (slots : ℕ) × (suc x + slots ≡ b) × Fits i.machines level (left (suc x)) slots
         step zero e g = let c = left-to x j l (omega (arith, from)) in absurd (omega (arith, All-contains (λ j. level j < 0) (left x) j (Fits-low i.machines level (left x) 0 g) c))
         step (suc g) e f =
-            let more : suc g ≡ g + 1 = omega arith in
-            let now_fits : Fits i.machines level (left x) (g + 1) = subst (Fits i.machines level (left x)) more f in (
+            let now_fits : Fits i.machines level (left x) (g + 1) = subst (Fits i.machines level (left x)) (sym (add-one g)) f in (
               g,
               omega (arith, e),
               Fits-next i.machines level (after_of i.arcs) (blocked x) (left x) (taken x) (left (suc x)) (IsPermutation-filter_both (now x) (later x) (λ j. refl) (left x))

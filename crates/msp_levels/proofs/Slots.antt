@@ -1,5 +1,5 @@
 -- Where unit jobs of an outtree run by falling level: a slot with room is over when all jobs with no more above them than its number have begun.
-use Rattle.std.proofs.Common.{◌≡◌, ℕ, zero, suc, ◌+◌, ◌-◌, ◌<◌, ◌≤◌, inl, inr, Bool, false, cond, eqb, leb, List, length, get_or, filter, All, AllPairs, Contains, refl, sym, ap, subst, ◌∙◌, arith}
+use Rattle.std.proofs.Common.{◌≡◌, ℕ, zero, suc, ◌+◌, ◌-◌, ◌<◌, ◌≤◌, inl, inr, Bool, false, cond, eqb, leb, List, length, get_or, filter, All, AllPairs, Contains, refl, sym, ap, subst, ◌∙◌, arith, sub-add_cancel, add-suc}
 use Rattle.std.specs.Prelude.{◌==◌}
 use Rattle.std.specs.List.{range_with_len}
 use Rattle.std.proofs.lemmas.Bool.{cases_lt, eq-eqb, le-leb, lt-leb, true≢false}
@@ -131,8 +131,7 @@ module _ (i : Instance) (level : ℕ → ℕ) (t : IsOuttree i level)
 
     arrived : (s f q c : ℕ) → q < n → begin q ≡ x → s + c ≤ begin q → ((d : ℕ) → climb i.arcs begin s (d + c) q ≡ f) → Below s f
     arrived s f q c l e far up =
-        let fuel : x - c + c ≡ x = omega (arith, far, e) in
-        (q, l, e, subst (λ d. climb i.arcs begin s d q ≡ f) fuel (up (x - c)))
+        (q, l, e, subst (λ d. climb i.arcs begin s d q ≡ f) (sub-add_cancel (omega (arith, far, e))) (up (x - c)))
 
     line_to_slot : (s f len q c : ℕ) → q < n → LeadsOut i.arcs len q → begin q ≤ x → x ≤ len + begin q → s + c ≤ begin q → ((d : ℕ) → climb i.arcs begin s (d + c) q ≡ f) → Below s f
     line_to_slot s f zero q c l out early enough far up = arrived s f q c l (omega (arith, early, enough)) far up
@@ -148,8 +147,8 @@ module _ (i : Instance) (level : ℕ → ℕ) (t : IsOuttree i level)
                 let same : a.before ≡ q = sym (before_is i.arcs a (subst (λ j. entering i.arcs j ≤ 1) (sym to) (t.few k lk)) ca) ∙ ap (before_of i.arcs) to ∙ comes in
                 absurd (omega (arith, from, less, ap begin same))
             | inr soon ↦ line_to_slot s f len k (suc c) lk out soon (omega (arith, enough, next)) (omega (arith, far, next)) (λ d.
-                let fuel : suc (d + c) ≡ d + suc c = omega arith in
-                subst (λ e. climb i.arcs begin s e k ≡ f) fuel (climb-step i.arcs begin s (d + c) k (omega (arith, far, next)) ∙ ap (climb i.arcs begin s (d + c)) comes ∙ up d))
+                subst (λ e. climb i.arcs begin s e k ≡ f) (sym (add-suc d c))
+                (climb-step i.arcs begin s (d + c) k (omega (arith, far, next)) ∙ ap (climb i.arcs begin s (d + c)) comes ∙ up d))
           ]
     ]
 

@@ -1,7 +1,7 @@
 -- On outtrees the schedule of the rule is feasible, by each moment as many jobs have ended as can, and so it is best.
-use Rattle.std.proofs.Common.{◌≡◌, ℕ, ◌+◌, ◌-◌, ◌*◌, ◌<◌, ◌≤◌, inl, Bool, true, false, ltb, List, length, ℤ, pos, nat_abs, ◌*ℤ◌, ◌≤ℤ◌, le_antisymm, le_trans, refl, sym, ap, subst, subst₂, ◌∙◌, arith}
+use Rattle.std.proofs.Common.{◌≡◌, ℕ, ◌+◌, ◌-◌, ◌*◌, ◌<◌, ◌≤◌, inl, Bool, true, false, ltb, List, length, ℤ, pos, nat_abs, ◌*ℤ◌, ◌≤ℤ◌, le_antisymm, le_trans, refl, sym, ap, subst, subst₂, ◌∙◌, arith, one-mul}
 use Rattle.std.specs.Prelude.{int_le}
-use Rattle.std.proofs.lemmas.Bool.{ltb-true, lt-ltb}
+use Rattle.std.proofs.lemmas.Bool.{ltb-true, lt-ltb, true_from_ne_false}
 use Rattle.std.proofs.lemmas.Int.{ints}
 use Rattle.msp_class.specs.Crit.{is_greatest}
 use Rattle.msp_class.specs.Env.{kind_of}
@@ -35,11 +35,7 @@ use Rattle.msp_levels.proofs.Ended.{begun, begun-most, most-begun, sum_of_ends}
 use Rattle.msp_levels.proofs.Slots.{slot_with_room}
 
 int_le-from : (a b : ℤ) → a ≤ℤ b → int_le a b ≡ true
-int_le-from a b h = by (int_le a b) refl
-  where
-    by : (t : Bool) → int_le a b ≡ t → int_le a b ≡ true
-    by true e = e
-    by false e = absurd (omega (arith, ints))
+int_le-from a b h = true_from_ne_false (int_le a b) (λ e. omega (arith, ints, h, e))
 
 int_le-to : (a b : ℤ) → int_le a b ≡ true → a ≤ℤ b
 int_le-to a b e = omega (arith, ints)
@@ -81,10 +77,7 @@ module _ (i : Instance) (class : i.class ≡ levels_sum_class) (inner : Inner i)
     place = placed.0
 
     ends_after : (j : ℕ) → j < n → (s.unit *ℤ pos (place j + 1)) ≤ℤ end_of s j
-    ends_after j b = subst (λ x. (s.unit *ℤ pos x) ≤ℤ end_of s j) (product (common_time i) (place j + 1) one_time) (placed.2 j b)
-      where
-        product : (c x : ℕ) → c ≡ 1 → c * x ≡ x
-        product c x e = ap (λ c. c * x) e ∙ omega arith
+    ends_after j b = subst (λ x. (s.unit *ℤ pos x) ≤ℤ end_of s j) (ap (λ c. c * (place j + 1)) one_time ∙ one-mul (place j + 1)) (placed.2 j b)
 
     lower : (s.unit *ℤ pos (least_sum i)) ≤ℤ cost_of i s
     lower =
@@ -146,8 +139,11 @@ module _ (i : Instance) (class : i.class ≡ levels_sum_class) (inner : Inner i)
           where
             by : (j : ℕ) → j < n → (b : Bool) → ltb (begin j) t ≡ b → one_if b ≤ one_if (int_le (end_of made j) (pos 1 *ℤ pos t))
             by j b false e = omega arith
-            by j b true e = omega
-                (arith, ap one_if (int_le-from (end_of made j) (pos 1 *ℤ pos t) (subst₂ (λ x y. x ≤ℤ y) (sym (units.runs.ends j b)) (sym (one-*ℤ (pos t))) (pos-le (omega (arith, ltb-true (begin j) t e))))))
+            by j b true e = omega (
+              arith,
+              ap one_if (int_le-from (end_of made j) (pos 1 *ℤ pos t)
+                  (subst₂ (λ x y. x ≤ℤ y) (sym (units.runs.ends j b)) (sym (one-*ℤ (pos t))) (pos-le (omega (arith, ltb-true (begin j) t e))))),
+            )
 
 -- what the schedule of the rule has
 pub record IsSumAnswer (i : Instance) (s : Schedule) : Type 0 where

@@ -1,8 +1,9 @@
 -- Arcs counted by the jobs that they join, and linked by their jobs after.
-use Rattle.std.proofs.Common.{◌≡◌, ◌≢◌, ℕ, zero, suc, ◌+◌, ◌-◌, ◌<◌, ◌≤◌, inl, inr, ◌⊎◌, Bool, true, false, cond, ◌==◌, ◌&&◌, ◌||◌, List, ◌∷◌, [], length, get_or, set, take}
+use Rattle.std.proofs.Common.{◌≡◌, ◌≢◌, ℕ, zero, suc, ◌+◌, ◌-◌, ◌<◌, ◌≤◌, inl, inr, Bool, true, false, cond, ◌==◌, ◌&&◌, ◌||◌, List, ◌∷◌, [], length, get_or, set, take}
 use Rattle.std.proofs.Common.{replicate, All, AllPairs, Contains, IsPermutation, refl, sym, ap, subst, ◌∙◌, arith, add-one}
 use Rattle.std.specs.List.{list_any, range_with_len}
-use Rattle.std.proofs.lemmas.Bool.{cases_Bool, cases_lt, cases_eq, eqb-true, eq-eqb, ne_eqb, and_parts, false≢true}
+use Rattle.std.proofs.lemmas.Bool.{cases_lt, cond_both, eqb-true, eq-eqb, and_parts, false_from_ne_true, true_from_ne_false, false≢true}
+use Rattle.std.proofs.lemmas.Bool.Decides.{nat_tests}
 use Rattle.std.proofs.lemmas.Grind.{get_or-set_at}
 use Rattle.std.proofs.lemmas.List.{length-set, length-replicate, get_or-replicate, get_or-set_other, get_or_default, take_all}
 use Rattle.std.proofs.lemmas.List.Elements.{All-contains, Contains-get_or}
@@ -36,20 +37,15 @@ AreLinks-none arcs earlier e = record {
 -- ---- the last arc that enters a job
 last_into-small : (arcs : List Arc) (j n : ℕ) → last_into arcs j n ≤ n
 last_into-small arcs j zero = omega arith
-last_into-small arcs j (suc n) = by ((get_or arcs n no_arc).after == j) (last_into-small arcs j n)
-  where
-    by : (b : Bool) → last_into arcs j n ≤ n → cond b (suc n) (last_into arcs j n) ≤ suc n
-    by true h = omega arith
-    by false h = omega (arith, h)
+last_into-small arcs j (suc n) =
+    cond_both ((get_or arcs n no_arc).after == j) (suc n) _ (λ m. m ≤ suc n) (λ _. omega arith) (λ _. omega (arith, last_into-small arcs j n))
 
 last_into-enters : (arcs : List Arc) (j n : ℕ) → 0 < last_into arcs j n → (get_or arcs (last_into arcs j n - 1) no_arc).after ≡ j
 last_into-enters arcs j zero l = absurd (omega (arith, l))
-last_into-enters arcs j (suc n) l = by ((get_or arcs n no_arc).after == j) refl (last_into-enters arcs j n) l
-  where
-    by : (b : Bool) → ((get_or arcs n no_arc).after == j) ≡ b → (0 < last_into arcs j n → (get_or arcs (last_into arcs j n - 1) no_arc).after ≡ j)
-        → 0 < cond b (suc n) (last_into arcs j n) → (get_or arcs (cond b (suc n) (last_into arcs j n) - 1) no_arc).after ≡ j
-    by true e h some = let at : suc n - 1 ≡ n = omega arith in ap (λ m. (get_or arcs m no_arc).after) at ∙ eqb-true _ j e
-    by false e h some = h some
+last_into-enters arcs j (suc n) l =
+    let at : suc n - 1 ≡ n = omega arith in
+    cond_both ((get_or arcs n no_arc).after == j) (suc n) (last_into arcs j n) (λ m. 0 < m → (get_or arcs (m - 1) no_arc).after ≡ j)
+    (λ e _. ap (λ m. (get_or arcs m no_arc).after) at ∙ eqb-true _ j e) (λ _. last_into-enters arcs j n) l
 
 abbrev joins : ℕ → ℕ → Arc → ℕ
 joins j k a = cond (a.after == k && (a.before == j)) 1 0
@@ -60,19 +56,12 @@ between_more arcs n j k l = sum_by_more (joins j k) arcs n no_arc l
 -- the arcs after it do not enter the job
 between_last : (arcs : List Arc) (j k n : ℕ) → n ≤ length arcs → arcs_between (take n arcs) j k ≡ arcs_between (take (last_into arcs k n) arcs) j k
 between_last arcs j k zero l = refl
-between_last arcs j k (suc n) l = by (cases_Bool ((get_or arcs n no_arc).after == k)) (between_last arcs j k n (omega (arith, l)))
-  where
-    to : Bool → ℕ
-    to b = arcs_between (take (cond b (suc n) (last_into arcs k n)) arcs) j k
-
-    by : (((get_or arcs n no_arc).after == k) ≡ true) ⊎ (((get_or arcs n no_arc).after == k) ≡ false)
-        → arcs_between (take n arcs) j k ≡ arcs_between (take (last_into arcs k n) arcs) j k → arcs_between (take (suc n) arcs) j k ≡ to ((get_or arcs n no_arc).after == k)
-    by (inl e) h = sym (ap to e)
-    by (inr e) h =
-        let none : joins j k (get_or arcs n no_arc) ≡ 0 = ap (λ b. cond (b && ((get_or arcs n no_arc).before == j)) 1 0) e in
-        let more = ap (λ m. arcs_between (take m arcs) j k) (sym (add-one n)) ∙ between_more arcs n j k (omega (arith, l)) in
-        let same : arcs_between (take (suc n) arcs) j k ≡ arcs_between (take n arcs) j k = omega (arith, more, none) in
-        same ∙ h ∙ sym (ap to e)
+between_last arcs j k (suc n) l =
+    let more = ap (λ m. arcs_between (take m arcs) j k) (sym (add-one n)) ∙ between_more arcs n j k (omega (arith, l)) in
+    cond_both ((get_or arcs n no_arc).after == k) (suc n) _ (λ m. arcs_between (take (suc n) arcs) j k ≡ arcs_between (take m arcs) j k)
+    (λ _. refl) (λ e.
+    let none : joins j k (get_or arcs n no_arc) ≡ 0 = ap (λ b. cond (b && ((get_or arcs n no_arc).before == j)) 1 0) e in
+    omega (arith, more, none, between_last arcs j k n (omega (arith, l))))
 
 -- ---- the arcs that enter a job are taken away, from the last to the first
 pub record IsReleasing (arcs : List Arc) (job : ℕ) (old now : List ℕ) (number : ℕ) : Type 0 where
@@ -136,20 +125,10 @@ module _ (arcs : List Arc) (job : ℕ) (old last earlier : List ℕ) (links : Ar
     }
       where
         each : (j : ℕ) → j < MOST_JOBS → get_or (set now at (get_or now at 0 - 1)) j 0 + arcs_between arcs j job ≡ get_or old j 0 + arcs_between (take next arcs) j job
-        each j b = elim (cases_eq j at) [
-          | inl same ↦ omega (
-            arith,
-            get_or-set_at now at j (get_or now at 0 - 1) 0 same
-                (omega (arith, b, same, h.whole)),
-            ap (λ k. get_or now k 0) same,
-            releases,
-            h.each j b,
-            more j,
-            cond-yes 1 (eq-eqb at j (sym same)),
-            gone j,
-          )
-          | inr differ ↦ omega (arith, get_or-set_other now at j (get_or now at 0 - 1) 0 differ, h.each j b, more j, cond-no 1 (ne_eqb at j (λ e. differ (sym e))), gone j)
-        ]
+        each j b =
+            let same = get_or-set_at now at j (get_or now at 0 - 1) 0 in
+            let other = get_or-set_other now at j (get_or now at 0 - 1) 0 in
+            grind (arith, nat_tests, same, other, h.whole, releases, h.each j b, more j, gone j)
 
 -- ---- arcs into a list of jobs
 abbrev into : List ℕ → ℕ → Arc → ℕ
@@ -169,18 +148,12 @@ arcs_into-less arcs jobs rest job j all once = sum_by-agree (into jobs j) (λ a.
   where
     own : (t r b : Bool) → (t ≡ true → r ≡ false) → cond {A = ℕ} ((t || r) && b) 1 0 ≡ cond (r && b) 1 0 + cond (t && b) 1 0
     own true true b h = absurd (false≢true (sym (h refl)))
-    own true false true h = refl
-    own true false false h = refl
-    own false true true h = refl
-    own false true false h = refl
-    own false false b h = refl
+    own _ _ b h = omega arith
 
     out : list_any (λ k. k == job) rest ≡ false
-    out = elim (cases_Bool (list_any (λ k. k == job) rest)) [
-      | inl e ↦ absurd (All-contains (λ k. job ≢ k) rest job
-          (AllPairs-head (λ j k. j ≢ k) job rest (AllPairs-permutation (λ j k. j ≢ k) (λ j k differ e. differ (sym e)) jobs (job ∷ rest) all once)) (Contains-from_list_any rest job e) refl)
-      | inr e ↦ e
-    ]
+    out = false_from_ne_true (list_any (λ k. k == job) rest) (λ e. All-contains (λ k. job ≢ k) rest job
+        (AllPairs-head (λ j k. j ≢ k) job rest (AllPairs-permutation (λ j k. j ≢ k) (λ j k differ e. differ (sym e)) jobs (job ∷ rest) all once))
+        (Contains-from_list_any rest job e) refl)
 
     less : (k : ℕ) (b : Bool) → cond {A = ℕ} (list_any (λ l. l == k) jobs && b) 1 0 ≡ cond (list_any (λ l. l == k) rest && b) 1 0 + cond (k == job && b) 1 0
     less k b =
@@ -196,14 +169,11 @@ module _ (i : Instance) (left : List ℕ) where
       omega (arith, none, counts, sum_by-contains (into left j) i.arcs a (Contains-get_or i.arcs k d l))
 
   pub successor_from_some : (j : ℕ) → 0 < arcs_into i.arcs left j → HasSuccessor i left j
-  successor_from_some j some = let (a, c, counts) = sum_by-some (into left j) i.arcs some in found a c (passes _ counts)
-    where
-      passes : (b : Bool) → 0 < cond {A = ℕ} b 1 0 → b ≡ true
-      passes true h = refl
-      passes false h = absurd (omega (arith, h))
-
-      found : (a : Arc) → Contains i.arcs a → (list_any (λ k. k == a.after) left && (a.before == j)) ≡ true → HasSuccessor i left j
-      found a c h = let parts = and_parts _ _ h in (a.after, subst (λ m. HasStep i.arcs m a.after) (eqb-true a.before j parts.1) c, Contains-from_list_any left a.after parts.0)
+  successor_from_some j some =
+      let (a, c, counts) = sum_by-some (into left j) i.arcs some in
+      let both = true_from_ne_false (list_any (λ k. k == a.after) left && (a.before == j)) (λ e. omega (arith, counts, cond-no 1 e)) in
+      let parts = and_parts _ (a.before == j) both in
+      (a.after, subst (λ m. HasStep i.arcs m a.after) (eqb-true a.before j parts.1) c, Contains-from_list_any left a.after parts.0)
 
   -- the latest of them in a list in which all arcs go forward has none
   pub some_free : IsAcyclic i → 0 < length left → (j : ℕ) × Contains left j × (arcs_into i.arcs left j ≡ 0)

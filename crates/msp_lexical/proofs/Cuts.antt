@@ -13,7 +13,7 @@ use Rattle.msp_instance.specs.Paths.{HasPath}
 use Rattle.msp_pieces.proofs.feasible.Series.{AllPairs-append}
 use Rattle.msp_pieces.specs.Segments.{LeadTo, AreSegments, segments_bound}
 use Rattle.msp_lexical.specs.Slots.{AreSlots, IsEnd, IsInner, AreTops, AreCut, first_in, second_in, pairs, segment}
-use Rattle.msp_lexical.proofs.TwoRows.{greatest, each_leads}
+use Rattle.msp_lexical.proofs.TwoRows.{greatest, last_slot, each_leads}
 
 -- ---- lists
 pub pairs-push : (first second : ℕ → ℕ) (x d : ℕ) → pairs first second x (d + 1) ≡ pairs first second x d ++ first (x + d) ∷ second (x + d) ∷ []
@@ -204,23 +204,12 @@ module _ (i : Instance) (two : i.machines ≡ 2) (slots : ℕ) (slot label first
   up_to (suc fuel) from segments f l h = elim (cases_lt from slots) [
     | inr more ↦ let same : from ≡ slots = omega (arith, more, l) in (segments, subst (λ x. IsCut x segments) same h)
     | inl less ↦
-        let (d, b, e, inner) = next_end slots from (omega arith) less in
-        up_to fuel (from + d + 1) (segments ++ segment first second from d ∷ []) (omega (arith, f)) (omega (arith, b)) (IsCut-next from d segments h b e inner)
+        let (z, a, b, e, _, inner) = last_slot n slots slot label first second leads s top t from less in
+        let here : from + (z - from) ≡ z = omega (arith, a) in
+        up_to fuel (from + (z - from) + 1) (segments ++ segment first second from (z - from) ∷ []) (omega (arith, f)) (omega (arith, b, here))
+        (IsCut-next from (z - from) segments h (omega (arith, b, here)) (subst Ends (sym here) e)
+        (λ y after before. inner y after (omega (arith, before, here))))
   ]
-    where
-      next_end : (more x : ℕ) → slots ≤ x + more → x < slots → (d : ℕ) × (x + d < slots) × Ends (x + d) × ((y : ℕ) → x ≤ y → y < x + d → Goes y)
-      next_end zero x g b = absurd (omega (arith, g, b))
-      next_end (suc more) x g b = elim (t x b) [
-        | inl e ↦ let same : x ≡ x + 0 = omega arith in (0, omega (arith, b), subst Ends same e, λ y from to. absurd (omega (arith, from, to)))
-        | inr goes ↦
-            let (d, c, e, inner) = next_end more (x + 1) (omega (arith, g)) goes.1 in
-            let same : (x + 1) + d ≡ x + suc d = omega arith in (
-              suc d,
-              omega (arith, c),
-              subst Ends same e,
-              λ y from to. elim (cases_lt x y) [ inl after ↦ inner y (omega (arith, after)) (omega (arith, to)) | inr at ↦ let here : x ≡ y = omega (arith, from, at) in subst Goes here goes ],
-            )
-      ]
 
   pub some_segments : (segments : List (List ℕ)) × AreSegments i segments × (segments_bound i segments ≡ slots)
   some_segments = let (all, h) = up_to slots 0 [] (omega arith) (omega arith) IsCut-start in let r = AreSegments-end slots all h in (all, r.0, r.1)

@@ -1,15 +1,15 @@
 -- One label more, and the labels of all jobs.
-use Rattle.std.proofs.Common.{◌≡◌, ◌≢◌, ℕ, zero, suc, ◌+◌, ◌<◌, ◌≤◌, ◌⊎◌, inl, inr, Bool, true, false, not, List, ◌∷◌, ◌++◌, length, get_or, set, filter, slice_index, All}
+use Rattle.std.proofs.Common.{◌≡◌, ◌≢◌, ℕ, ◌+◌, ◌<◌, ◌≤◌, ◌⊎◌, inl, inr, Bool, true, false, not, List, [], ◌∷◌, ◌++◌, length, get_or, set, filter, slice_index, All}
 use Rattle.std.proofs.Common.{AllPairs, Contains, IsTrue, ◌↔◌, IsPermutation, refl, sym, ap, subst, subst₂, ◌∙◌, arith}
 use Rattle.std.specs.List.{remove, range_with_len}
 use Rattle.std.proofs.lemmas.List.{get_or_default, get_or-set_same, get_or-set_other}
-use Rattle.std.proofs.lemmas.Bool.{cases_Bool, cases_lt, cases_eq, false≢true, not-true}
-use Rattle.std.proofs.lemmas.List.Elements.{All-contains, Contains-get_or, filter_passes}
+use Rattle.std.proofs.lemmas.Bool.{cases_Bool, cases_lt, cases_eq, false_from_ne_true, false≢true, not-true}
+use Rattle.std.proofs.lemmas.List.Elements.{All-contains, Contains-append_right, Contains-get_or, filter_passes}
 use Rattle.std.proofs.lemmas.List.Kept.{AllPairs-filter}
 use Rattle.std.proofs.lemmas.List.Quantifiers.{all_pairs_remove}
 use Rattle.std.proofs.lemmas.List.Sorted.{Contains-permutation, length_permutation, IsPermutation-sym, IsPermutation-trans, IsPermutation-cons, IsPermutation-remove, IsPermutation-filter_both}
 use Rattle.msp_class.specs.declared.sizes.TheConstants.{MOST_JOBS}
-use Rattle.msp_class.proofs.Sums.{AllPairs-head, AllPairs-tail, OnceBelow-range, OnceBelow-contains, OnceBelow-distinct, length-OnceBelow}
+use Rattle.msp_class.proofs.Sums.{AllPairs-head, AllPairs-tail, Contains-tail, OnceBelow-range, OnceBelow-contains, OnceBelow-distinct, length-OnceBelow}
 use Rattle.msp_instance.specs.declared.Instance.{Instance}
 use Rattle.msp_instance.specs.Conditions.{IsAcyclic}
 use Rattle.msp_instance.specs.Paths.{HasStep, HasPath, one, more}
@@ -83,30 +83,19 @@ module _ (i : Instance) (leads : ℕ → ℕ → Bool) (shows : Shows i leads)
     leaves = IsPermutation-trans left (job ∷ rest) (job ∷ parted) (IsPermutation-remove left place job l is) (IsPermutation-cons job rest parted (IsPermutation-filter_both stays rises other rest))
       where
         other : (j : ℕ) → rises j ≡ not (stays j)
-        other j = twice (leads j job)
-          where
-            twice : (b : Bool) → b ≡ not (not b)
-            twice true = refl
-            twice false = refl
+        other j = elim (cases_Bool (leads j job)) [ inl e ↦ rw e refl | inr e ↦ rw e refl ]
 
     distinct_all : AllPairs (λ j k. j ≢ k) (job ∷ parted)
     distinct_all = AllPairs-permutation (λ j k. j ≢ k) (λ j k differ e. differ (sym e)) left (job ∷ parted) leaves h.once
 
     from_parted : (j : ℕ) → Contains parted j → Contains left j × (j ≢ job)
     from_parted j c = (
-      Contains-permutation (job ∷ parted) left j (IsPermutation-sym left (job ∷ parted) leaves) (later c),
+      Contains-permutation (job ∷ parted) left j (IsPermutation-sym left (job ∷ parted) leaves) (Contains-append_right (job ∷ []) parted j c),
       λ e. All-contains (λ k. job ≢ k) parted j (AllPairs-head (λ j k. j ≢ k) job parted distinct_all) c (sym e),
     )
-      where
-        later : Contains parted j → Contains (job ∷ parted) j
-        later (k, b, e) = (suc k, omega (arith, b), e)
 
     to_parted : (j : ℕ) → j ≢ job → Contains left j → Contains parted j
-    to_parted j differ c = by (Contains-permutation left (job ∷ parted) j leaves c)
-      where
-        by : Contains (job ∷ parted) j → Contains parted j
-        by (zero, b, e) = absurd (differ (sym e))
-        by (suc k, b, e) = (k, omega (arith, b), e)
+    to_parted j differ c = Contains-tail job parted j (Contains-permutation left (job ∷ parted) j leaves c) (λ e. differ (sym e))
 
     size_next : count + 1 + length parted ≡ n
     size_next = let s = length_permutation left (job ∷ parted) leaves in omega (arith, s, h.size)
@@ -137,26 +126,20 @@ module _ (i : Instance) (leads : ℕ → ℕ → Bool) (shows : Shows i leads)
         (k, d, (by k bound greater less at.1).0, (by k bound greater less at.1).1, to_k, not_k)
       where
         by : (k : ℕ) → label k < MOST_JOBS + 1 → label j < label k → label j < label b → next j ≡ label j → (next k < MOST_JOBS + 1) × (next j < next k)
-        by k bound greater less same = elim (cases_eq k job) [
-          | inl e ↦ let at : next k ≡ count = ap next e ∙ given in (omega (arith, at, small), omega (arith, at, same, less, has))
-          | inr differ ↦ let at = kept k differ in (omega (arith, at, bound), omega (arith, at, same, greater))
-        ]
+        by k bound greater less same = (grind (arith, small, kept k), grind (arith, kept k))
+
+    has_old : (j : ℕ) → j < n → j ≢ job → next j < count + 1 → label j < count
+    has_old j b differ s = elim (h.each j b) [ inl q ↦ omega (arith, q.1, s, kept j differ, small) | inr q ↦ q ]
 
     ranked_next : (a b : ℕ) → a < n → b < n → next b < count + 1 → next b < next a → Outranks n leads next (MOST_JOBS + 1) a b
     ranked_next a b in_a in_b has more_ = elim (cases_eq b job) [
       | inl e ↦ subst (λ x. Outranks n leads next (MOST_JOBS + 1) a x) (sym e) (newest (omega (arith, ap next e, given, more_)))
-      | inr differ ↦ let at = kept b differ in let small_b = labelled b in_b differ (omega (arith, at, has)) in
+      | inr differ ↦ let at = kept b differ in let small_b = has_old b in_b differ has in
           Outranks-kept a b in_a in_b small_b (h.ranked a b in_a in_b small_b (before (omega (arith, at, more_)) small_b))
     ]
       where
-        labelled : (j : ℕ) → j < n → j ≢ job → label j < count + 1 → label j < count
-        labelled j b differ s = elim (h.each j b) [ inl q ↦ absurd (omega (arith, q.1, s, small)) | inr q ↦ q ]
-
         before : label b < next a → label b < count → label b < label a
-        before less has = elim (cases_eq a job) [
-          | inl e ↦ omega (arith, ap label e, job_is.1, has, small)
-          | inr differ ↦ omega (arith, kept a differ, less)
-        ]
+        before less has = grind (arith, job_is.1, small, kept a)
 
         newest : count < next a → Outranks n leads next (MOST_JOBS + 1) a job
         newest less = elim (h.each a in_a) [
@@ -176,16 +159,13 @@ module _ (i : Instance) (leads : ℕ → ℕ → Bool) (shows : Shows i leads)
                 (k, unlabelled.0, next_small k unlabelled.1, above k j unlabelled.1 has_j, to_k, not_led k unlabelled)
               where
                 next_small : (k : ℕ) → label k ≡ MOST_JOBS → next k < MOST_JOBS + 1
-                next_small k u = elim (cases_eq k job) [ inl e ↦ omega (arith, ap next e, given, small) | inr differ ↦ omega (arith, kept k differ, u) ]
+                next_small k u = grind (arith, small, kept k)
 
                 above : (k j : ℕ) → label k ≡ MOST_JOBS → label j < count → next j < next k
-                above k j u has_j = elim (cases_eq k job) [
-                  | inl e ↦ omega (arith, ap next e, given, (old j has_j).1, has_j)
-                  | inr differ ↦ omega (arith, kept k differ, u, (old j has_j).1, has_j, small)
-                ]
+                above k j u has_j = grind (arith, small, kept k, (old j has_j).1)
 
                 not_led : (k : ℕ) → Unlabelled k → leads job k ≡ false
-                not_led k u = elim (cases_Bool (leads job k)) [ inl reached ↦ absurd (omega (arith, led k u.0 reached, u.1, small)) | inr r ↦ r ]
+                not_led k u = false_from_ne_true (leads job k) (λ reached. omega (arith, led k u.0 reached, u.1, small))
             by at c e (inr later) j d limit to not_to = elim (cases_eq at place) [
               | inl same ↦ absurd (not_job (sym e ∙ ap (λ p. get_or left p a) same ∙ first))
               | inr differ ↦
@@ -202,9 +182,6 @@ module _ (i : Instance) (leads : ℕ → ℕ → Bool) (shows : Shows i leads)
     -- ---- the order of those that are left
     abbrev Later : ℕ → ℕ → Type 0
     Later b a = Outranks n leads next (count + 1) a b
-
-    has_old : (j : ℕ) → j < n → j ≢ job → next j < count + 1 → label j < count
-    has_old j b differ s = elim (h.each j b) [ inl q ↦ absurd (omega (arith, q.1, s, kept j differ, small)) | inr q ↦ q ]
 
     -- two jobs that both lead to the new job, or neither
     alike : (b a : ℕ) → leads b job ≡ leads a job → Outranks n leads label count a b → Later b a
@@ -252,16 +229,7 @@ module _ (i : Instance) (leads : ℕ → ℕ → Bool) (shows : Shows i leads)
         (u.0, kept (get_or parted k d) differ ∙ u.1)
 
     distinct_next : (j k : ℕ) → j < n → k < n → next j < count + 1 → next j ≡ next k → j ≡ k
-    distinct_next j k b c has e = by (cases_eq j job) (cases_eq k job)
-      where
-        other : (m : ℕ) → m < n → m ≢ job → next m ≢ count
-        other m in_m differ same = elim (h.each m in_m) [ inl q ↦ absurd (omega (arith, kept m differ, q.1, same, small)) | inr q ↦ absurd (omega (arith, kept m differ, q, same)) ]
-
-        by : (j ≡ job) ⊎ (j ≡ job → ⊥) → (k ≡ job) ⊎ (k ≡ job → ⊥) → j ≡ k
-        by (inl p) (inl q) = p ∙ sym q
-        by (inl p) (inr q) = absurd (other k c q (sym e ∙ ap next p ∙ given))
-        by (inr p) (inl q) = absurd (other j b p (e ∙ ap next q ∙ given))
-        by (inr p) (inr q) = h.distinct j k b c (has_old j b p has) (sym (kept j p) ∙ e ∙ kept k q)
+    distinct_next j k b c has e = grind (arith, kept j, kept k, has_old j b, has_old k c, h.distinct j k b c)
 
     lower_next : All (λ a. next a.before < count + 1 → next a.after < next a.before) i.arcs
     lower_next p d b has = by (get_or i.arcs p d).before (get_or i.arcs p d).after (ends p d b) refl refl (h.lower p d b) (cases_eq (get_or i.arcs p d).before job)

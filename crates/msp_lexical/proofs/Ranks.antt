@@ -30,7 +30,4 @@ falling_labels count labels shown ranks order e h small all sorted p q d l b =
     by x y c d less =
         let rank_x = ap (λ xs. get_or xs x 0) e ∙ h.each x c in
         let rank_y = ap (λ xs. get_or xs y 0) e ∙ h.each y d in
-        elim less [
-          | inl r ↦ omega (arith, r, rank_x, rank_y, small x c, small y d)
-          | inr r ↦ omega (arith, r.0, rank_x, rank_y, small x c, small y d)
-        ]
+        omega (arith, less, rank_x, rank_y, small x c, small y d)

@@ -1,6 +1,6 @@
 -- Schedules in the order of a list, seat by seat: what slots and segments need.
 use Rattle.std.proofs.Common.{◌≡◌, ℕ, zero, suc, ◌+◌, ◌-◌, ◌<◌, ◌≤◌, ◌⊎◌, inl, inr, Bool, true, cond, ◌==◌, ◌&&◌, List, length, All, AllPairs, Contains, refl, sym, ap, ap₂, subst}
-use Rattle.std.proofs.Common.{subst₂, ◌∙◌, arith, ltb}
+use Rattle.std.proofs.Common.{subst₂, ◌∙◌, arith, lt_of_not-le, ltb}
 use Rattle.std.proofs.lemmas.Bool.{cases_Bool, cases_lt, eqb-true, eq-eqb, ltb-true, ltb-false, false≢true, and_from, and_parts, and_cases, cond-true, cond-false}
 use Rattle.std.specs.List.{range_with_len, position_or_len}
 use Rattle.std.proofs.lemmas.List.FromFn.{length-range_with_len, get_or-range_with_len}
@@ -73,10 +73,8 @@ module _ (i : Instance) (order : List ℕ) (begin machine label : ℕ → ℕ) (
             (e, less k c z m most same)
           where
             less : (k : ℕ) → k < n → machine k ≡ 0 → machine (second x) ≡ 1 → label (second x) ≤ label k → first x ≡ k → label (second x) < label (first x)
-            less k c z m most same = elim (cases_lt (label (second x)) (label k)) [
-              | inl r ↦ omega (arith, r, ap label same)
-              | inr r ↦ let equal : second x ≡ k = labels.distinct (second x) k b c (omega (arith, r, most)) in absurd (omega (arith, ap machine equal, z, m))
-            ]
+            less k c z m most same = lt_of_not-le (λ r.
+                omega (arith, ap machine (labels.distinct (second x) k b c (omega (arith, r, most, ap label same))), z, m))
 
         only : (j : ℕ) → j < n → (begin j < slots) × ((j ≡ first (begin j)) ⊎ (j ≡ second (begin j)))
         only j b = (

@@ -90,13 +90,8 @@ module _ (i : Instance) (class : i.class ≡ lexical_class)
 
     few_slots : slots ≤ MOST_JOBS
     few_slots =
-        omega (
-          arith,
-          slots_are,
-          begins_soon i b.order pieces b.schedule (get_or pieces (length pieces - 1) no_piece).job
-              (job_inside pieces jobs (length pieces - 1) no_piece last_inside),
-          inner.conditions.few,
-        )
+        let soon = begins_soon i b.order pieces b.schedule _ (job_inside pieces jobs (length pieces - 1) no_piece last_inside) in
+        omega (arith, slots_are, soon, inner.conditions.few)
 
     at_place : (x m : ℕ) → m < 2 → seat x m ≡ slice_index seats (2 * x + m)
     at_place x zero l = let same : 2 * x ≡ 2 * x + 0 = omega arith in ap (slice_index seats) same
@@ -131,10 +126,7 @@ module _ (i : Instance) (class : i.class ≡ lexical_class)
             let (k, c, e) = piece_of j l in
             let same = ap begin (e no_piece) in
             elim (cases_lt k (length pieces - 1)) [
-              | inl less ↦ elim (b.schedule.sorted k (length pieces - 1) no_piece less last_inside) [
-                | inl sooner ↦ omega (arith, sooner, same, slots_are)
-                | inr equal ↦ omega (arith, equal.0, same, slots_are)
-              ]
+              | inl less ↦ omega (arith, b.schedule.sorted k (length pieces - 1) no_piece less last_inside, same, slots_are)
               | inr more ↦ let here : k ≡ length pieces - 1 = omega (arith, more, c) in omega (arith, ap (λ k. begin (get_or pieces k no_piece).job) here, same, slots_are)
             ]
 

@@ -1,7 +1,7 @@
 -- Slots of one or two jobs that a list of labelled jobs fills: from each job of a segment paths lead to each job of the next.
-use Rattle.std.proofs.Common.{◌≡◌, ℕ, zero, suc, ◌+◌, ◌-◌, ◌<◌, ◌≤◌, ◌⊎◌, inl, inr, Bool, true, false, refl, sym, ap, subst, ◌∙◌, arith}
-use Rattle.std.proofs.lemmas.Bool.{cases_Bool, cases_lt, false≢true}
-use Rattle.msp_lexical.specs.Slots.{AreSlots, IsEnd, AreTops}
+use Rattle.std.proofs.Common.{◌≡◌, ℕ, zero, suc, ◌+◌, ◌-◌, ◌<◌, ◌≤◌, ◌⊎◌, inl, inr, Bool, true, false, refl, sym, ap, subst, ◌∙◌, lt_of_not-le, arith}
+use Rattle.std.proofs.lemmas.Bool.{cases_eq, cases_lt, false≢true, true_from_ne_false}
+use Rattle.msp_lexical.specs.Slots.{AreSlots, IsEnd, IsInner, AreTops}
 
 module _ (n slots : ℕ) (slot label first second : ℕ → ℕ) (leads : ℕ → ℕ → Bool) (s : AreSlots n slots slot label first second leads) where
   -- of the jobs of a slot and the later ones its first job has the greatest label
@@ -33,11 +33,11 @@ module _ (n slots : ℕ) (slot label first second : ℕ → ℕ) (leads : ℕ �
     abbrev Ends : ℕ → Type 0
     Ends x = IsEnd n slots label first second top x
 
+    abbrev Goes : ℕ → Type 0
+    Goes x = IsInner n slots label second top x
+
     pub top_first : (x : ℕ) → x < slots → top x ≤ label (first x)
-    top_first x l = elim (t x l) [
-      | inl e ↦ omega (arith, e.0)
-      | inr i ↦ omega (arith, i.0, i.3, (s.second_in x l i.2).1)
-    ]
+    top_first x l = grind (arith, t x l, s.second_in x l)
 
     top_falls : (d x : ℕ) → x + d < slots → top (x + d) ≤ top x
     top_falls zero x l = let same : x + 0 ≡ x = omega arith in omega (arith, ap top same)
@@ -59,20 +59,27 @@ module _ (n slots : ℕ) (slot label first second : ℕ → ℕ) (leads : ℕ �
     falls x y e l = let same : x + (y - x) ≡ y = omega (arith, e) in subst (λ z. top z ≤ top x) same (top_falls (y - x) x (omega (arith, e, l)))
 
     -- the slot where the segment ends
-    last_by : (fuel x : ℕ) → x < slots → slots ≤ x + fuel → (z : ℕ) × (x ≤ z) × (z < slots) × Ends z × (top z ≡ top x)
+    last_by : (fuel x : ℕ) → x < slots → slots ≤ x + fuel
+        → (z : ℕ) × (x ≤ z) × (z < slots) × Ends z × (top z ≡ top x) × ((y : ℕ) → x ≤ y → y < z → Goes y)
     last_by zero x l f = absurd (omega (arith, l, f))
     last_by (suc fuel) x l f = elim (t x l) [
-      | inl e ↦ (x, omega arith, l, e, refl)
-      | inr i ↦ let (z, a, b, e, same) = last_by fuel (x + 1) i.1 (omega (arith, f)) in (z, omega (arith, a), b, e, same ∙ sym i.0)
+      | inl e ↦ (x, omega arith, l, e, refl, λ y from to. absurd (omega (arith, from, to)))
+      | inr i ↦
+          let (z, a, b, e, same, inner) = last_by fuel (x + 1) i.1 (omega (arith, f)) in
+          let between : (y : ℕ) → x ≤ y → y < z → Goes y = λ y from to. elim (cases_eq x y) [
+            | inl at ↦ subst Goes at i
+            | inr after ↦ inner y (omega (arith, from, after)) to
+          ] in
+          (z, omega (arith, a), b, e, same ∙ sym i.0, between)
     ]
 
-    pub last_slot : (x : ℕ) → x < slots → (z : ℕ) × (x ≤ z) × (z < slots) × Ends z × (top z ≡ top x)
+    pub last_slot : (x : ℕ) → x < slots → (z : ℕ) × (x ≤ z) × (z < slots) × Ends z × (top z ≡ top x) × ((y : ℕ) → x ≤ y → y < z → Goes y)
     last_slot x l = last_by slots x l (omega arith)
 
     -- the segment's jobs are those from its first slot on that have no lesser label than its least
     pub member : (x j : ℕ) → x < slots → j < n → x ≤ slot j → top x ≤ label j → top (slot j) ≡ top x
     member x j l b e h =
-        let (z, after, inside, ends, same) = last_slot x l in
+        let (z, after, inside, ends, same, inner) = last_slot x l in
         elim (cases_lt z (slot j)) [
           | inl past ↦
               let most = greatest z j inside b (omega (arith, past)) in
@@ -138,19 +145,14 @@ module _ (n slots : ℕ) (slot label first second : ℕ → ℕ) (leads : ℕ �
       leads_by : (fuel z x : ℕ) → u < slot z + fuel → z < n → slot z ≤ u → top (slot z) ≡ top u → top u ≤ label z → x < n → u < slot x → top (u + 1) ≤ label x → leads z x ≡ true
       leads_by zero z x f c near same high b l h = absurd (omega (arith, f, near))
       leads_by (suc fuel) z x f c near same high b l h = elim (cases_lt (slot z) u) [
-        | inl less ↦ elim (cases_Bool (leads z x)) [
-          | inl reached ↦ reached
-          | inr not ↦ absurd
-              (differ (λ w d near same high far. leads_by fuel w x far d near same high b l h) less not (s.ranked z (first u) x c (s.first_in u early).0 b (greater less) (first_leads x b l h) not))
-        ]
+        | inl less ↦ true_from_ne_false (leads z x) (λ not.
+            differ (λ w d near same high far. leads_by fuel w x far d near same high b l h)
+            less not (s.ranked z (first u) x c (s.first_in u early).0 b (greater less) (first_leads x b l h) not))
         | inr last ↦ at_last (omega (arith, near, last)) (s.only z c).1
       ]
         where
           greater : slot z < u → label (first u) < label z
-          greater less = elim (cases_lt (label (first u)) (label z)) [
-            | inl r ↦ r
-            | inr r ↦ absurd (omega (arith, same_slot u z early c (omega (arith, r, high, ends.0)), less))
-          ]
+          greater less = lt_of_not-le (λ r. omega (arith, same_slot u z early c (omega (arith, r, high, ends.0)), less))
 
           at_last : slot z ≡ u → (z ≡ first (slot z)) ⊎ (z ≡ second (slot z)) → leads z x ≡ true
           at_last here (inl at) = subst (λ v. leads v x ≡ true) (sym (at ∙ ap first here)) (first_leads x b l h)

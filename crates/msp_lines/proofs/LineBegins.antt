@@ -5,6 +5,7 @@ use Rattle.std.proofs.Common.{pos, nat_abs, ◌-ℤ◌, ◌*ℤ◌, ◌≤ℤ◌
 use Rattle.std.specs.Prelude.{◌==◌, ◌&&◌}
 use Rattle.std.proofs.lemmas.Bool.{eqb-true}
 use Rattle.std.proofs.lemmas.Int.{ints}
+use Rattle.std.proofs.lemmas.Nat.{le-div}
 use Rattle.std.proofs.lemmas.List.Elements.{All-contains}
 use Rattle.msp_class.specs.Env.{kind_of}
 use Rattle.msp_class.proofs.IntegerRing.{natural, pos-le, le-pos, ≤ℤ_trans, *ℤ-one}
@@ -20,7 +21,7 @@ use Rattle.msp_pieces.proofs.feasible.OneMachine.{IsTimed-from_span, apart_in_na
 use Rattle.msp_pieces.proofs.feasible.LastEnds.{last_end-contains}
 use Rattle.msp_slots.proofs.Seats.{one_at_most}
 use Rattle.msp_slots.proofs.Begins.{head_at, HasBeginsOn}
-use Rattle.msp_lines.proofs.Floors.{floor_from, floors_differ, floor_to}
+use Rattle.msp_lines.proofs.Floors.{floors_differ, floor_to}
 use Rattle.msp_lines.proofs.LineFacts.{IsLineShop, own, ones, operations}
 
 module _ (i : Instance) (late : Bool) (h : IsLineShop i late) (s : Schedule) (f : Feasible i s) where
@@ -87,11 +88,9 @@ module _ (i : Instance) (late : Bool) (h : IsLineShop i late) (s : Schedule) (f 
   soon j zero l b =
       let e = is_operation j zero l b in
       let head = All-contains (λ p. (s.unit *ℤ pos (job_at i p.job).release) ≤ℤ p.from) s.pieces (piece j zero) f.release e.among in
-      first (head_at i j) (start (piece j zero))
-      (le-pos (subst₂ (λ x y. x ≤ℤ y) (ap (λ v. v *ℤ pos (job_at i (piece j zero).job).release) unit_is ∙ ap (λ k. pos (u * (job_at i k).release)) e.job) e.timed.from head))
-    where
-      first : (r x : ℕ) → u * r ≤ x → u * (r + 0) ≤ x
-      first r x g = omega (arith, g)
+      let begins = le-pos (subst₂ (λ x y. x ≤ℤ y)
+      (ap (λ v. v *ℤ pos (job_at i (piece j zero).job).release) unit_is ∙ ap (λ k. pos (u * (job_at i k).release)) e.job) e.timed.from head) in
+      omega (arith, begins)
   soon j (suc o) l b =
       let c : o < i.machines = omega (arith, b) in
       let d = is_operation j o l c in
@@ -99,10 +98,7 @@ module _ (i : Instance) (late : Bool) (h : IsLineShop i late) (s : Schedule) (f 
       let less : (piece j o).op < (piece j (suc o)).op = subst₂ (λ x y. x < y) (sym d.op) (sym e.op) (omega arith) in
       let follows : finish (piece j o) ≤ start (piece j (suc o)) =
       le-pos (subst₂ (λ x y. x ≤ℤ y) d.timed.to e.timed.from (before (piece j o) (piece j (suc o)) d.among e.among (d.job ∙ sym e.job) less)) in
-      next (head_at i j) o (start (piece j o)) (finish (piece j o)) (start (piece j (suc o))) (soon j o l c) d.lasts follows
-    where
-      next : (r o x y z : ℕ) → u * (r + o) ≤ x → y ≡ x + u → y ≤ z → u * (r + suc o) ≤ z
-      next r o x y z a e g = omega (arith, a, e, g)
+      omega (arith, soon j o l c, d.lasts, follows)
 
   -- ---- the last machine
   abbrev last : ℕ
@@ -121,7 +117,7 @@ module _ (i : Instance) (late : Bool) (h : IsLineShop i late) (s : Schedule) (f 
   is_last j l = is_operation j last l last_inside
 
   floor : (j : ℕ) → j < n → head_at i j + last ≤ from j / u
-  floor j l = floor_from u (head_at i j + last) (from j) some_unit (soon j last l last_inside)
+  floor j l = le-div (head_at i j + last) (from j) u some_unit (omega (arith, soon j last l last_inside))
 
   apart : (a b : ℕ) → a < n → b < n → begin a ≡ begin b → a ≡ b
   apart a b l k e = elim (AllPairs-contains (λ p q. p.machine ≡ q.machine → AreApart p q) s.pieces (piece a last) (piece b last) f.machine (is_last a l).among (is_last b k).among) [

@@ -11,9 +11,10 @@ use Rattle.msp_slots.specs.Earliest.{start_in, machine_in}
 use Rattle.msp_total.specs.LeastSlots.{HasSmallDates}
 use Rattle.msp_total.proofs.LeastSlots.{chosen_soon, chosen_machine, chosen_apart, in_time, best_in_slots}
 use Rattle.msp_lines.specs.LineSteps.{line_class, lines_from, AreLeastLined}
-use Rattle.msp_lines.proofs.LineFacts.{IsLineShop, IsLineShop-from, small_dates}
+use Rattle.msp_lines.proofs.LineFacts.{IsLineShop, small_dates}
 use Rattle.msp_lines.proofs.LineBegins.{line_begins}
 use Rattle.msp_lines.proofs.LinePieces.{AreLineBegins, lines_at, lines_feasible, lines_answer, lines_end}
+use Rattle.msp_pieces.proofs.feasible.OfClass.{IsOfClass-from}
 
 module _ (i : Instance) (late : Bool) (h : IsLineShop i late) (laid : List Piece) (l : AreLeastLined i late laid) where
   abbrev n : ℕ
@@ -46,4 +47,4 @@ module _ (i : Instance) (late : Bool) (h : IsLineShop i late) (laid : List Piece
 
 pub IsLineAnswer-from : (i : Instance) (late : Bool)
     → i.class ≡ line_class late → Inner i → (pieces : List Piece) → AreLeastLined i late pieces → IsBestAnswer i (record { unit = pos 1; pieces = pieces })
-IsLineAnswer-from i late class inner pieces l = line_answer i late (IsLineShop-from i late class inner) pieces l
+IsLineAnswer-from i late class inner pieces l = line_answer i late (IsOfClass-from i (line_class late) class inner) pieces l

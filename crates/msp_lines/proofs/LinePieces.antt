@@ -47,9 +47,6 @@ module _ (i : Instance) (late : Bool) (h : IsLineShop i late) (begin : ℕ → �
   apart : (x y : ℕ) → x < y → y < n * m → x % m ≡ y % m → (begin (x / m) + x % m + 1 ≤ begin (y / m) + y % m) ⊎ (begin (y / m) + y % m + 1 ≤ begin (x / m) + x % m)
   apart x y l b e = by (cases_lt (begin (x / m)) (begin (y / m))) (cases_lt (begin (y / m)) (begin (x / m)))
     where
-      equal : (a c : ℕ) → a ≤ c → c ≤ a → a ≡ c
-      equal a c g d = omega (arith, g, d)
-
       never : x / m ≡ y / m → ⊥
       never same = omega (arith, later_rest m x y l same, e)
 
@@ -57,7 +54,7 @@ module _ (i : Instance) (late : Bool) (h : IsLineShop i late) (begin : ℕ → �
           → (begin (x / m) + x % m + 1 ≤ begin (y / m) + y % m) ⊎ (begin (y / m) + y % m + 1 ≤ begin (x / m) + x % m)
       by (inl g) o = inl (omega (arith, g, e))
       by (inr g) (inl o) = inr (omega (arith, o, e))
-      by (inr g) (inr o) = absurd (never (own_begins.apart (x / m) (y / m) (job_inside x (omega (arith, l, b))) (job_inside y b) (equal (begin (x / m)) (begin (y / m)) o g)))
+      by (inr g) (inr o) = absurd (never (own_begins.apart (x / m) (y / m) (job_inside x (omega (arith, l, b))) (job_inside y b) (omega (arith, o, g))))
 
   follows : (x y : ℕ) → x / m ≡ y / m → x % m < y % m → begin (x / m) + x % m + 1 ≤ begin (y / m) + y % m
   follows x y e l = omega (arith, ap begin e, l)
@@ -70,8 +67,8 @@ module _ (i : Instance) (late : Bool) (h : IsLineShop i late) (begin : ℕ → �
     op_inside = λ x b. on x;
     operation = λ x b. operations i late h (x / m) (x % m) (job_inside x b) (on x);
     may = λ x b. subst (λ k. MayRun k i (x / m) (x % m) (x % m)) (sym h.kind) (sym (own i late h (x / m) (x % m) (job_inside x b) (on x)));
-    once = λ x y l b e f. never x y f (later_rest m x y l e);
-    long = λ x b. lasts (begin (x / m) + x % m) (ones i late h (x / m) (x % m) (job_inside x b) (on x));
+    once = λ x y l b e f. omega (arith, f, later_rest m x y l e);
+    long = λ x b. omega (arith, ones i late h (x / m) (x % m) (job_inside x b) (on x));
     some = λ x b. omega (arith, ones i late h (x / m) (x % m) (job_inside x b) (on x));
     on_machine = apart;
     of_job = λ x y l b e. inl (follows x y e (later_rest m x y l e));
@@ -79,12 +76,6 @@ module _ (i : Instance) (late : Bool) (h : IsLineShop i late) (begin : ℕ → �
     released = λ x b. omega (arith, own_begins.released (x / m) (job_inside x b));
     early = λ x b. omega (arith, own_begins.early (x / m) (job_inside x b), on x, h.machines);
   }
-    where
-      never : (x y : ℕ) → x % m ≡ y % m → x % m < y % m → ⊥
-      never x y e l = omega (arith, e, l)
-
-      lasts : (a : ℕ) {t : ℕ} → t ≡ 1 → a + 1 ≡ a + t
-      lasts a e = omega (arith, e)
 
   pub lines_feasible : Feasible i (schedule_at (lines_at i begin))
   lines_feasible = placed_is_feasible i m (lines_at i begin) (line_operations i late h) placed

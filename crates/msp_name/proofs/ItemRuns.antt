@@ -2,7 +2,7 @@
 use Rattle.std.proofs.Common.{◌≡◌, ℕ, ◌+◌, List, [], ◌∷◌, map, length, refl, sym, ap, ◌∙◌, Bool, true, false, cond, ◌||◌, Option, Some, None, Result, Ok, Err, All, Contains, ok_or}
 use Rattle.std.specs.List.{AllByRecursion, IsDistinct}
 use Rattle.std.proofs.lemmas.List.Elements.{All-nil, All-cons, All-head, All-tail}
-use Rattle.std.proofs.lemmas.Bool.{or_parts}
+use Rattle.std.proofs.lemmas.Bool.{or_parts, or_right}
 use Rattle.msp_class.specs.declared.class.Class.{Class}
 use Rattle.msp_name.specs.declared.fault.NameFault.{NameFault}
 use Rattle.msp_name.specs.declared.fault.NameFault.TheVariants.{Item as NoItem, Twice, Clash}
@@ -28,10 +28,6 @@ or_move true true c = refl
 or_move true false c = refl
 or_move false true c = refl
 or_move false false c = refl
-
-or_true : (a : Bool) → (a || true) ≡ true
-or_true true = refl
-or_true false = refl
 
 item_eq-itself : (x : Item) → item_eq x x ≡ true
 item_eq-itself i.Cut = refl
@@ -77,16 +73,13 @@ Reads-tail s d c x xs g r =
 
 Reads-fits : (s c : Class) (x : Item) (xs : List Item) → Reads s (x ∷ xs) c → Fits s x
 Reads-fits s c x xs r =
-    let within : Within s c = record { items = λ y h. r.exact y ∙ ap (λ b. among (x ∷ xs) y || b) h ∙ or_true (among (x ∷ xs) y); env = r.env } in
+    let within : Within s c = record { items = λ y h. r.exact y ∙ ap (λ b. among (x ∷ xs) y || b) h ∙ or_right _ _ refl; env = r.env } in
     let here : has_item c x ≡ true = r.exact x ∙ (rw (item_eq-itself x) refl) in
     fits_within s c x within here r.fresh.0
 
 Reads-none : (s c : Class) → s ≡ c → Reads s [] c
 unfolding IsDistinct
 Reads-none s c e = record { exact = λ y. ap (λ v. has_item v y) (sym e); fresh = tt; once = tt; env = ap (λ v. plain_env v.env) e; crit = ap (λ v. v.crit) e }
-
-Reads-end : (s c : Class) → Reads s [] c → s ≡ c
-Reads-end s c r = class_same s c r.exact r.env r.crit
 
 pub then_read-ok : {A B : Type 0} (r : Result A NameFault) (f : A → Result B NameFault) (b : B) → then_read r f ≡ Ok b → (a : A) × (r ≡ Ok a) × (f a ≡ Ok b)
 then_read-ok (Ok a) f b h = (a, refl, h)
@@ -139,7 +132,7 @@ items_read-ok at s (w ∷ ws) c h =
     }
 
 pub items_read-from : (at : ℕ) (s c : Class) (items : List (List ℕ × Item)) → All (Contains item_texts) items → Reads s (map (λ w. w.1) items) c → items_read at s (map (λ w. w.0) items) ≡ Ok c
-items_read-from at s c [] h r = ap (λ v. Ok v) (Reads-end s c r)
+items_read-from at s c [] h r = ap (λ v. Ok v) (class_same s c r.exact r.env r.crit)
 items_read-from at s c (w ∷ ws) h r =
     let fit = Reads-fits s c w.1 (map (λ v. v.1) ws) r in
     let spells = item_spelled w.0 w.1 (All-head (Contains item_texts) w ws h) in

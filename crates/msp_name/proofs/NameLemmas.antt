@@ -1,6 +1,7 @@
 -- What is read is a name of the class, and the other way round.
 use Rattle.std.proofs.Common.{◌≡◌, ℕ, ◌+◌, List, [], ◌∷◌, ◌++◌, map, length, refl, sym, ap, subst, ◌∙◌, Bool, true, false, ◌||◌, Option, Some, None, Ok, Contains, ok_or}
 use Rattle.std.specs.List.{AllByRecursion, IsDistinct, join_with_byte}
+use Rattle.std.proofs.lemmas.List.Splits.{join_with_byte-slice_split}
 use Rattle.msp_class.specs.declared.class.Class.{Class}
 use Rattle.msp_class.specs.declared.class.Env.{Env}
 use Rattle.msp_class.specs.declared.class.Env.TheVariants as e
@@ -12,12 +13,11 @@ use Rattle.msp_name.specs.declared.words.Item.{Item}
 use Rattle.msp_name.specs.declared.words.Item.TheVariants as i
 use Rattle.msp_name.specs.Spellings.{env_texts, crit_texts}
 use Rattle.msp_name.specs.Items.{has_item, plain_env, is_short, bare, item_eq}
-use Rattle.msp_name.specs.Names.{bar, comma, among, name_of, NameOf}
+use Rattle.msp_name.specs.Names.{bar, comma, among, NameOf}
 use Rattle.msp_name.specs.Reading.{spelled, then_read, items_read, crit_read, fields_read, parts, parts_read, words, reading_of}
 use Rattle.msp_name.proofs.ItemRuns.{Reads, Given, items_read-ok, items_read-from, then_read-ok, ok_or-ok}
 use Rattle.msp_name.proofs.TableLemmas.{spelled-some, env_spelled, crit_spelled}
-use Rattle.msp_name.proofs.PrintLemmas.{name_of-NameOf}
-use Rattle.msp_name.proofs.Separators.{IsEnvRow, env_row_of, crit-lacks_bar, items-lack_bar, words-items, join-words, join-parts, parts-three}
+use Rattle.msp_name.proofs.Separators.{IsEnvRow, env_row_of, crit-lacks_bar, items-lack_bar, words-items, join-words, parts-three}
 
 has_item-crit : (c : Class) (x : Crit) (y : Item) → has_item (record c { crit = x }) y ≡ has_item c y
 has_item-crit c x i.Cut = refl
@@ -33,11 +33,8 @@ or_none false = refl
 
 -- the three texts of what is read
 three : (ps : List (List ℕ)) (c : Class) → parts_read ps ≡ Ok c → (env : List ℕ) × (items : List ℕ) × (crit : List ℕ) × (ps ≡ env ∷ items ∷ crit ∷ []) × (fields_read env items crit ≡ Ok c)
-three [] c h = cc
-three (x ∷ []) c h = cc
-three (x ∷ y ∷ []) c h = cc
 three (x ∷ y ∷ z ∷ []) c h = (x, y, z, refl, h)
-three (x ∷ y ∷ z ∷ w ∷ ws) c h = cc
+three _ c h = cc
 
 crit-ok : (o : Option Crit) (d : Class) (f : NameFault) (c : Class)
     → ok_or (elim o as (λ _. Option Class) [ Some x ↦ Some (record d { crit = x }) | None ↦ None ]) f ≡ Ok c → (x : Crit) × (o ≡ Some x) × (record d { crit = x } ≡ c)
@@ -75,7 +72,8 @@ read_name b env items crit c split r =
       env = env;
       items = given.items;
       crit = crit;
-      written = sym (join-parts b) ∙ ap (λ ps. join_with_byte bar ps) split ∙ ap (λ v. env ++ (bar ∷ (v ++ (bar ∷ crit)))) (sym joined);
+      written = sym (join_with_byte-slice_split bar b) ∙ ap (λ ps. join_with_byte bar ps) split
+          ∙ ap (λ v. env ++ (bar ∷ (v ++ (bar ∷ crit)))) (sym joined);
       env_spelled = let P : Env → Type 0 = λ v. Contains env_texts (env, v) in subst P same_env row;
       items_spelled = given.spells;
       exact = λ y. ap (λ v. has_item v y) (sym r.whole) ∙ has_item-crit r.before r.last y
@@ -136,7 +134,3 @@ NameOf-determined b c d m n =
     let p = reading_of-NameOf b c m in
     let q = reading_of-NameOf b d n in
     cc
-
--- the canonical name is read as its class
-pub reading_of-name_of : (c : Class) → reading_of (name_of c) ≡ Ok c
-reading_of-name_of c = reading_of-NameOf (name_of c) c (name_of-NameOf c)

@@ -1,11 +1,11 @@
 -- The canonical name: how its items are put one by one, its length, and that it is a name.
 use Rattle.std.proofs.Common.{◌≡◌, ℕ, ◌≤◌, List, [], ◌∷◌, ◌++◌, length, map, refl, sym, ap, ◌∙◌, Bool, true, false, ◌||◌, ◌&&◌, not, Some, append_assoc, append-nil, lit≤, leb}
 use Rattle.std.proofs.Common.{bytes_eq, Contains, All, codes, length-append, arith}
-use Rattle.std.specs.List.{join_with_byte, IsDistinct, AllByRecursion}
+use Rattle.std.specs.List.{join_with_byte, IsDistinct, AllByRecursion, filter}
 use Rattle.std.specs.Cmp.Lexicographic.{pointwise}
-use Rattle.std.proofs.lemmas.Bool.{leb-true, and_parts}
+use Rattle.std.proofs.lemmas.Bool.{leb-true, and_parts, not-true}
 use Rattle.std.proofs.lemmas.Slice.Eq.{bytes_eq-Decides, slice_eq-Decides}
-use Rattle.std.proofs.lemmas.List.Elements.{All-nil, All-cons, All-append}
+use Rattle.std.proofs.lemmas.List.Elements.{All-nil, All-cons, All-filter}
 use Rattle.msp_class.specs.declared.class.Class.{Class}
 use Rattle.msp_class.specs.declared.class.Env.{Env}
 use Rattle.msp_class.specs.declared.class.Env.TheVariants as e
@@ -23,7 +23,7 @@ use Rattle.msp_name.specs.Items.{has_item, is_short, order_eq, times_eq, plain_e
 use Rattle.msp_name.specs.Names.{bar, comma, text_if, env_text, order_text, times_text, crit_text, item_texts_of, name_of, NameOf, among}
 use Rattle.msp_name.specs.Printing.{following}
 use Rattle.msp_name.specs.Reading.{spelled}
-use Rattle.msp_name.proofs.TableLemmas.{spelled-some}
+use Rattle.msp_name.proofs.TableLemmas.{spelled-some, Finds}
 
 following-again : (w : List ℕ) (ws : List (List ℕ)) → w ++ following true ws ≡ join_with_byte comma (w ∷ ws)
 following-again w [] = append-nil w
@@ -65,25 +65,26 @@ pub items_put : (out o1 o2 o3 o4 o5 : List ℕ) (p1 p2 p3 p4 a b d f g b' f' g' 
 items_put out o1 o2 o3 o4 o5 p1 p2 p3 p4 a b d f g b' f' g' u v w x y v' x' e1 q1 eb ev e2 q2 e3 q3 ef ex e4 q4 eg e5 =
     rw (e5, e4, q4, e3, q3, e2, q2, e1, q1, eb, ev, ef, ex, eg) (five_items out a b' d f' g' u v' w x' y)
 
-row_if : Bool → (List ℕ × Item) → List (List ℕ × Item)
-row_if true r = r ∷ []
-row_if false r = []
+has : Bool → Order → Bool → Times → Bool → Item → Bool
+has a p h u s i.Cut = a
+has a p h u s i.Chains = order_eq p o.Chains
+has a p h u s i.Intree = order_eq p o.Intree
+has a p h u s i.Outtree = order_eq p o.Outtree
+has a p h u s i.Prec = order_eq p o.Prec
+has a p h u s i.Heads = h
+has a p h u s i.Unit = times_eq u t.Unit
+has a p h u s i.Equal = times_eq u t.Equal
+has a p h u s i.Short = s
 
-order_row : Order → List (List ℕ × Item)
-order_row o.Free = []
-order_row o.Chains = (codes "chains", i.Chains) ∷ []
-order_row o.Intree = (codes "intree", i.Intree) ∷ []
-order_row o.Outtree = (codes "outtree", i.Outtree) ∷ []
-order_row o.Prec = (codes "prec", i.Prec) ∷ []
-
-times_row : Times → List (List ℕ × Item)
-times_row t.General = []
-times_row t.Unit = (codes "p=1", i.Unit) ∷ []
-times_row t.Equal = (codes "p=p", i.Equal) ∷ []
+-- the items in their order, each with its text
+nine : List (List ℕ × Item)
+nine =
+    (codes "pmtn", i.Cut) ∷ (codes "chains", i.Chains) ∷ (codes "intree", i.Intree) ∷ (codes "outtree", i.Outtree)
+    ∷ (codes "prec", i.Prec) ∷ (codes "r", i.Heads) ∷ (codes "p=1", i.Unit) ∷ (codes "p=p", i.Equal) ∷ (codes "n<=2", i.Short) ∷ []
 
 -- the items by what the class says of each part
 rows : Bool → Order → Bool → Times → Bool → List (List ℕ × Item)
-rows a p h u s = row_if a (codes "pmtn", i.Cut) ++ (order_row p ++ (row_if h (codes "r", i.Heads) ++ (times_row u ++ row_if s (codes "n<=2", i.Short))))
+rows a p h u s = filter (λ r. has a p h u s r.1) nine
 
 texts : Bool → Order → Bool → Times → Bool → List (List ℕ)
 texts a p h u s = text_if a (codes "pmtn")
@@ -128,43 +129,31 @@ unfolding every
 every-at f t a p h u s = all_bools-at _ (all_times-at _ (all_bools-at _ (all_orders-at _ (all_bools-at _ t a) p) h) u) s
 
 rows-texts : (a : Bool) (p : Order) (h : Bool) (u : Times) (s : Bool) → map (λ w. w.0) (rows a p h u s) ≡ texts a p h u s
-unfolding rows texts row_if order_row times_row every all_bools all_orders all_times
+unfolding rows nine has texts every all_bools all_orders all_times
 rows-texts a p h u s = (slice_eq-Decides bytes_eq-Decides _ _ _ refl).0 (every-at (λ a p h u s. pointwise bytes_eq (map (λ w. w.0) (rows a p h u s)) (texts a p h u s)) refl a p h u s)
 
 texts-short : (a : Bool) (p : Order) (h : Bool) (u : Times) (s : Bool) → length (join_with_byte comma (texts a p h u s)) ≤ 23
 unfolding texts every all_bools all_orders all_times
 texts-short a p h u s = leb-true _ _ (every-at (λ a p h u s. leb (length (join_with_byte comma (texts a p h u s))) 23) refl a p h u s)
 
-has : Bool → Order → Bool → Times → Bool → Item → Bool
-has a p h u s i.Cut = a
-has a p h u s i.Chains = order_eq p o.Chains
-has a p h u s i.Intree = order_eq p o.Intree
-has a p h u s i.Outtree = order_eq p o.Outtree
-has a p h u s i.Prec = order_eq p o.Prec
-has a p h u s i.Heads = h
-has a p h u s i.Unit = times_eq u t.Unit
-has a p h u s i.Equal = times_eq u t.Equal
-has a p h u s i.Short = s
-
-same : Bool → Bool → Bool
+abbrev same : Bool → Bool → Bool
 same true b = b
 same false b = not b
 
 same-is : (a b : Bool) → same a b ≡ true → a ≡ b
-unfolding same
 same-is true b h = sym h
 same-is false true h = cc
 same-is false false h = refl
 
 rows-exact : (y : Item) (a : Bool) (p : Order) (h : Bool) (u : Times) (s : Bool) → has a p h u s y ≡ among (map (λ w. w.1) (rows a p h u s)) y
-unfolding has rows row_if order_row times_row every all_bools all_orders all_times same
+unfolding has rows nine every all_bools all_orders all_times
 rows-exact y a p h u s = same-is _ _ (every-at (λ a p h u s. same (has a p h u s y) (among (map (λ w. w.1) (rows a p h u s)) y)) (by y) a p h u s)
   where
     by : (y : Item) → every (λ a p h u s. same (has a p h u s y) (among (map (λ w. w.1) (rows a p h u s)) y)) ≡ true
     by i.Cut = refl
     by _ = refl
 
-differ : Item → List Item → Bool
+abbrev differ : Item → List Item → Bool
 differ x [] = true
 differ x (y ∷ ys) = not (item_eq x y) && differ x ys
 
@@ -172,14 +161,9 @@ distinct : List Item → Bool
 distinct [] = true
 distinct (x ∷ xs) = differ x xs && distinct xs
 
-not_true : (a : Bool) → not a ≡ true → a ≡ false
-not_true true h = cc
-not_true false h = refl
-
 differ-all : (x : Item) (ys : List Item) → differ x ys ≡ true → AllByRecursion (λ y. item_eq x y ≡ false) ys
-unfolding differ
 differ-all x [] h = tt
-differ-all x (y ∷ ys) h = let both = and_parts (not (item_eq x y)) (differ x ys) h in (not_true _ both.0, differ-all x ys both.1)
+differ-all x (y ∷ ys) h = let both = and_parts (not (item_eq x y)) (differ x ys) h in (not-true _ both.0, differ-all x ys both.1)
 
 distinct-is : (xs : List Item) → distinct xs ≡ true → IsDistinct item_eq xs
 unfolding distinct IsDistinct
@@ -187,38 +171,18 @@ distinct-is [] h = tt
 distinct-is (x ∷ xs) h = let both = and_parts (differ x xs) (distinct xs) h in (differ-all x xs both.0, distinct-is xs both.1)
 
 rows-distinct : (a : Bool) (p : Order) (h : Bool) (u : Times) (s : Bool) → distinct (map (λ w. w.1) (rows a p h u s)) ≡ true
-unfolding rows row_if order_row times_row distinct differ every all_bools all_orders all_times
+unfolding rows nine has distinct every all_bools all_orders all_times
 rows-distinct a p h u s = every-at (λ a p h u s. distinct (map (λ w. w.1) (rows a p h u s))) refl a p h u s
 
-row_if-spelled : (b : Bool) (r : List ℕ × Item) → Contains item_texts r → All (Contains item_texts) (row_if b r)
-unfolding row_if
-row_if-spelled true r h = All-cons (Contains item_texts) r [] h (All-nil (Contains item_texts))
-row_if-spelled false r h = All-nil (Contains item_texts)
-
-order_row-spelled : (p : Order) → All (Contains item_texts) (order_row p)
-unfolding order_row item_texts
-order_row-spelled o.Free = All-nil (Contains item_texts)
-order_row-spelled o.Chains = All-cons (Contains item_texts) _ [] (spelled-some item_texts (codes "chains") i.Chains refl) (All-nil (Contains item_texts))
-order_row-spelled o.Intree = All-cons (Contains item_texts) _ [] (spelled-some item_texts (codes "intree") i.Intree refl) (All-nil (Contains item_texts))
-order_row-spelled o.Outtree = All-cons (Contains item_texts) _ [] (spelled-some item_texts (codes "outtree") i.Outtree refl) (All-nil (Contains item_texts))
-order_row-spelled o.Prec = All-cons (Contains item_texts) _ [] (spelled-some item_texts (codes "prec") i.Prec refl) (All-nil (Contains item_texts))
-
-times_row-spelled : (p : Times) → All (Contains item_texts) (times_row p)
-unfolding times_row item_texts
-times_row-spelled t.General = All-nil (Contains item_texts)
-times_row-spelled t.Unit = All-cons (Contains item_texts) _ [] (spelled-some item_texts (codes "p=1") i.Unit refl) (All-nil (Contains item_texts))
-times_row-spelled t.Equal = All-cons (Contains item_texts) _ [] (spelled-some item_texts (codes "p=p") i.Equal refl) (All-nil (Contains item_texts))
-
-row_spelled : (w : List ℕ) (x : Item) → spelled item_texts w ≡ Some x → (b : Bool) → All (Contains item_texts) (row_if b (w, x))
-row_spelled w x h b = row_if-spelled b (w, x) (spelled-some item_texts w x h)
+found : (rs : List (List ℕ × Item)) → AllByRecursion (Finds item_texts) rs → All (Contains item_texts) rs
+found [] h = All-nil (Contains item_texts)
+found (r ∷ rs) h = All-cons (Contains item_texts) r rs (spelled-some item_texts r.0 r.1 h.0) (found rs h.1)
 
 rows-spelled : (a : Bool) (p : Order) (h : Bool) (u : Times) (s : Bool) → All (Contains item_texts) (rows a p h u s)
-unfolding rows item_texts
+unfolding rows nine item_texts
 rows-spelled a p h u s =
-    All-append (Contains item_texts) _ _ (row_spelled (codes "pmtn") i.Cut refl a)
-    (All-append (Contains item_texts) _ _ (order_row-spelled p)
-    (All-append (Contains item_texts) _ _ (row_spelled (codes "r") i.Heads refl h)
-    (All-append (Contains item_texts) _ _ (times_row-spelled u) (row_spelled (codes "n<=2") i.Short refl s))))
+    All-filter (λ r. has a p h u s r.1) (Contains item_texts) nine
+    (found nine (refl, (refl, (refl, (refl, (refl, (refl, (refl, (refl, (refl, tt))))))))))
 
 env-spelled : (x : Env) → spelled env_texts (env_text x) ≡ Some (plain_env x)
 unfolding env_texts

@@ -1,7 +1,8 @@
 -- Texts without a separator, and what they are cut into.
 use Rattle.std.proofs.Common.{◌≡◌, ℕ, List, [], ◌∷◌, ◌++◌, map, refl, ap, ◌∙◌, Bool, true, false, ◌==◌, All, Contains}
 use Rattle.std.specs.List.{AllByRecursion, list_any, join_with_byte}
-use Rattle.std.proofs.lemmas.Bool.{eq-eqb, or_parts}
+use Rattle.std.proofs.lemmas.Bool.{eq-eqb, or_parts, or_from}
+use Rattle.std.proofs.lemmas.List.Folds.{list_any-append}
 use Rattle.std.proofs.lemmas.List.Elements.{All-from_recursion, All-contains, All-head, All-tail}
 use Rattle.std.proofs.lemmas.List.Splits.{slice_split_none, slice_split_at, join_with_byte-slice_split}
 use Rattle.msp_class.specs.declared.class.Env.{Env}
@@ -30,12 +31,6 @@ parts-whole m w h = slice_split_none (λ x. x == m) w (none_passes (λ x. x == m
 pub parts-first : (m : ℕ) (w ys : List ℕ) → Lacks m w → parts m (w ++ (m ∷ ys)) ≡ w ∷ parts m ys
 parts-first m w ys h = slice_split_at (λ x. x == m) w m ys (none_passes (λ x. x == m) w h) (eq-eqb m m refl)
 
-Lacks-append : (m : ℕ) (a b : List ℕ) → Lacks m a → Lacks m b → Lacks m (a ++ b)
-Lacks-append m [] b h k = k
-Lacks-append m (x ∷ xs) b h k =
-    let both = or_parts (x == m) (list_any (λ x. x == m) xs) h in
-    rw (both.0) (Lacks-append m xs b both.1 k)
-
 is_empty : List ℕ → Bool
 is_empty [] = true
 is_empty (x ∷ xs) = false
@@ -49,7 +44,8 @@ record IsText (w : List ℕ) : Type 0 where
 join-lacks_bar : (ws : List (List ℕ)) → AllByRecursion IsText ws → Lacks bar (join_with_byte comma ws)
 join-lacks_bar [] h = refl
 join-lacks_bar (w ∷ []) h = h.0.no_bar
-join-lacks_bar (w ∷ v ∷ ws) h = Lacks-append bar w (comma ∷ join_with_byte comma (v ∷ ws)) h.0.no_bar (join-lacks_bar (v ∷ ws) h.1)
+join-lacks_bar (w ∷ v ∷ ws) h =
+    list_any-append (λ x. x == bar) w (comma ∷ join_with_byte comma (v ∷ ws)) ∙ or_from _ _ h.0.no_bar (join-lacks_bar (v ∷ ws) h.1)
 
 parts-join : (w : List ℕ) (ws : List (List ℕ)) → AllByRecursion IsText (w ∷ ws) → parts comma (join_with_byte comma (w ∷ ws)) ≡ w ∷ ws
 parts-join w [] h = parts-whole comma w h.0.no_comma
@@ -113,6 +109,3 @@ crit-lacks_bar w x h = row_fails (λ row. list_any (λ b. b == bar) row.0) crit_
 -- the three parts of a text with two bars
 pub parts-three : (a b c : List ℕ) → Lacks bar a → Lacks bar b → Lacks bar c → parts bar (a ++ (bar ∷ (b ++ (bar ∷ c)))) ≡ a ∷ b ∷ c ∷ []
 parts-three a b c h k l = parts-first bar a (b ++ (bar ∷ c)) h ∙ ap (λ ps. a ∷ ps) (parts-first bar b c k ∙ ap (λ ps. b ∷ ps) (parts-whole bar c l))
-
-pub join-parts : (b : List ℕ) → join_with_byte bar (parts bar b) ≡ b
-join-parts b = join_with_byte-slice_split bar b

@@ -1,5 +1,5 @@
 -- The jobs in the order of least cost in the earliest places: a best schedule by the greatest cost of a job.
-use Rattle.std.proofs.Common.{◌≡◌, ◌≢◌, ℕ, zero, suc, ◌+◌, ◌<◌, ◌≤◌, ◌⊎◌, inl, inr, true, List, length, get_or, take, map, ℤ, pos, nat_abs, ◌*ℤ◌, ◌≤ℤ◌, All, AllPairs, refl}
+use Rattle.std.proofs.Common.{◌≡◌, ◌≢◌, ℕ, zero, suc, ◌+◌, ◌<◌, ◌≤◌, ◌⊎◌, inl, inr, true, List, length, get_or, take, map, ℤ, pos, nat_abs, ◌*ℤ◌, ◌≤ℤ◌, All, AllPairs, refl, below_more, le_of_lt, le_of_eq, le_antisymm}
 use Rattle.std.proofs.Common.{sym, ap, ap₂, subst, subst₂, ◌∙◌, arith}
 use Rattle.std.proofs.lemmas.Bool.{cases_lt}
 use Rattle.std.proofs.lemmas.Int.{ints}
@@ -34,12 +34,9 @@ some_late k number (suc m) = elim (some_late k number m) [
   | inl w ↦ inl (w.0, omega (arith, w.1), w.2)
   | inr all ↦ elim (cases_lt (number m) k) [
     | inr late ↦ inl (m, omega arith, omega (arith, late))
-    | inl early ↦ inr (λ x l. elim (cases_lt x m) [ inl less ↦ all x less | inr more ↦ subst (λ y. number y < k) (same x m l more) early ])
+    | inl early ↦ inr (λ x l. below_more (λ y. number y < k) m all early x (omega (arith, l)))
   ]
 ]
-  where
-    same : (x m : ℕ) → x < suc m → m ≤ x → m ≡ x
-    same x m l h = omega (arith, l, h)
 
 few_below : (k : ℕ) (xs : List ℕ) → All (λ x. x < k) xs → AllPairs (λ x y. x ≢ y) xs → length xs ≤ k
 few_below k xs inside apart = omega (arith, sum_by-constant 1 xs, sum_by-distinct_test (λ _. 1) (λ _. true) k xs inside apart (λ _ _ _. refl), total_below-constant k 1)
@@ -62,19 +59,9 @@ late_one k jobs number long apart = elim (some_late k (λ x. number (get_or jobs
 -- ---- the places end in order
 end_rises : (places : List Place) → AllPairs ComesFirst places → (a b : ℕ) → a ≤ b → b < length places → (place_at places a).end ≤ (place_at places b).end
 end_rises places order a b l k = elim (cases_lt a b) [
-  | inl less ↦ by (place_at places a) (place_at places b) (order a b no_place less k)
-  | inr more ↦ same (ap (λ x. (place_at places x).end) (both a b l more))
+  | inl less ↦ elim (order a b no_place less k) [ inl h ↦ le_of_lt h | inr h ↦ le_of_eq h.0 ]
+  | inr more ↦ le_of_eq (ap (λ x. (place_at places x).end) (le_antisymm l more))
 ]
-  where
-    both : (a b : ℕ) → a ≤ b → b ≤ a → a ≡ b
-    both a b l k = omega (arith, l, k)
-
-    same : {x y : ℕ} → x ≡ y → x ≤ y
-    same e = omega (arith, e)
-
-    by : (p q : Place) → ComesFirst p q → p.end ≤ q.end
-    by p q (inl h) = omega (arith, h)
-    by p q (inr h) = omega (arith, h.0)
 
 -- ---- the schedule
 module _ (i : Instance) (h : IsPlacesInstance Fmax i) (inner : Inner i) (unit : ℕ) (common : IsLeastOfAll i.speeds unit) (few : unit ≤ GREATEST_MULTIPLE) (places : List Place)
@@ -154,13 +141,10 @@ module _ (i : Instance) (h : IsPlacesInstance Fmax i) (inner : Inner i) (unit : 
 
     -- there it costs no less
     cheapest : cost_in i unit (place_at places k).end (job k) ≤ℤ cost_in i unit (place_at places k).end (job x)
-    cheapest = no_more (subst (CostsLess i unit (place_at places k).end (job k))
-        (get_or-take (k + 1) order x 0 late.1) (o.cheapest k (omega (arith, l, count)) x 0 (omega (arith, late.1, length-take (k + 1) order, count, l))))
-      where
-        no_more : CostsLess i unit (place_at places k).end (job k) (job x)
-            → cost_in i unit (place_at places k).end (job k) ≤ℤ cost_in i unit (place_at places k).end (job x)
-        no_more (inl a) = <ℤ_weak a
-        no_more (inr a) = ≤ℤ_of_same a.0
+    cheapest =
+        let less = subst (CostsLess i unit (place_at places k).end (job k)) (get_or-take (k + 1) order x 0 late.1)
+        (o.cheapest k (omega (arith, l, count)) x 0 (omega (arith, late.1, length-take (k + 1) order, count, l))) in
+        elim less [ inl a ↦ <ℤ_weak a | inr a ↦ ≤ℤ_of_same a.0 ]
 
     -- and it ends no earlier
     ends_late : (pos other *ℤ pos (place_at places k).end) ≤ℤ (pos unit *ℤ end_of t (job x))

@@ -1,12 +1,12 @@
 -- Steps of the search for the job that costs least, and of the answer.
 use Rattle.std.proofs.Common.{◌≡◌, ℕ, ◌+◌, ◌<◌, ◌≤◌, ◌⊎◌, inl, inr, List, [], ◌∷◌, ◌++◌, length, get_or, take, ℤ, pos, ◌<ℤ◌, All, refl, sym, ap, ap₂, subst, subst₂, ◌∙◌}
 use Rattle.std.proofs.Common.{arith, slice_index_or, zero-add}
-use Rattle.std.proofs.lemmas.Bool.{cases_lt}
 use Rattle.std.proofs.lemmas.Int.{ints}
-use Rattle.std.proofs.lemmas.List.{get_or-take, length-take, take_all, get_or_default}
+use Rattle.std.proofs.lemmas.List.{take_all, take_more}
 use Rattle.std.proofs.lemmas.List.FromFn.{map-range_with_len_more}
+use Rattle.std.proofs.lemmas.List.Elements.{All-push}
 use Rattle.msp_class.specs.declared.sizes.TheConstants.{GREATEST_MULTIPLE}
-use Rattle.msp_class.specs.declared.environments.EnvKind.TheVariants.{Uniform, Unrelated}
+use Rattle.msp_class.specs.declared.environments.EnvKind.TheVariants.{Uniform}
 use Rattle.msp_class.specs.declared.class.Crit.TheVariants.{Fmax}
 use Rattle.msp_class.specs.Env.{kind_of}
 use Rattle.msp_instance.specs.declared.Job.{Job}
@@ -40,11 +40,8 @@ idle_is_within i kind unit some few = record {
   unit = (omega (arith, ints, some), omega (arith, ints, few));
   few = omega arith;
   moments = λ k d l. absurd (omega (arith, l));
-  scaled = λ e. absurd (not_unrelated (sym kind ∙ e));
+  scaled = λ e. absurd (cc);
 }
-  where
-    not_unrelated : Uniform ≡ Unrelated → ⊥
-    not_unrelated e = cc
 
 pub small_in : (i : Instance) → Inner i → i.class ≡ places_most_class → (unit : ℕ) → 1 ≤ unit → unit ≤ GREATEST_MULTIPLE → (u : ℤ) (jobs : List Job) (k : ℕ) (j : Job)
     → u ≡ pos unit → jobs ≡ i.jobs → j ≡ get_or jobs k j → k < length i.jobs → HasSmallCost u j
@@ -71,16 +68,7 @@ module _ (i : Instance) (unit end : ℕ) (jobs : List ℕ) where
   before_all c d k e f h less = less-trans (cost_in i unit end c.job) c.job (cost_in i unit end d.job) d.job (cost_in i unit end k) k (subst₂ (λ x y. IsLess x c.job y d.job) e f h) less
 
   one_more : (P : ℕ → Type 0) (k : ℕ) → k < length jobs → All P (take k jobs) → P (get_or jobs k 0) → All P (take (k + 1) jobs)
-  one_more P k l old new a d m = elim (cases_lt a k) [
-    | inl less ↦ subst P (get_or-take k jobs a d less ∙ sym (get_or-take (k + 1) jobs a d (omega (arith, less)))) (old a d (omega (arith, less, length-take k jobs, l)))
-    | inr more ↦
-        let b : a < k + 1 = omega (arith, m, length-take (k + 1) jobs) in
-        let same : k ≡ a = both a k b more in
-        subst P (get_or_default jobs k 0 d l ∙ ap (λ x. get_or jobs x d) same ∙ sym (get_or-take (k + 1) jobs a d b)) new
-  ]
-    where
-      both : (a k : ℕ) → a < k + 1 → k ≤ a → k ≡ a
-      both a k b l = omega (arith, b, l)
+  one_more P k l old new = subst (All P) (sym (take_more jobs k 0 l)) (All-push P (take k jobs) (get_or jobs k 0) old new)
 
   pub best_first : (c : Candidate) → 0 < length jobs → IsCandidate i unit end jobs 0 c → IsBestOf i unit end jobs 1 c
   best_first c l h = record {

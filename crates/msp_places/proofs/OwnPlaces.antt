@@ -1,18 +1,18 @@
 -- The law of earliest places. A job's place in a schedule is that of its rank on its machine, by the ends; these are different places.
-use Rattle.std.proofs.Common.{◌≡◌, ◌≢◌, ℕ, ◌+◌, ◌*◌, ◌-◌, ◌/◌, ◌<◌, ◌≤◌, ◌⊎◌, inl, inr, Bool, true, false, cond, eqb, leb, List, length, get_or, ℤ, pos, nat_abs, ◌-ℤ◌, ◌*ℤ◌, ◌≤ℤ◌}
+use Rattle.std.proofs.Common.{◌≡◌, ◌≢◌, ℕ, ◌+◌, ◌*◌, ◌-◌, ◌/◌, ◌<◌, ◌≤◌, ◌⊎◌, inl, inr, Bool, true, false, cond, eqb, leb, List, length, get_or, ℤ, pos, nat_abs, ◌-ℤ◌, ◌*ℤ◌, ◌≤ℤ◌, add-one-le, le_antisymm, mul-one, mul_comm}
 use Rattle.std.proofs.Common.{refl, sym, ap, ap₂, subst, ◌∙◌, arith}
 use Rattle.std.specs.Prelude.{◌&&◌}
-use Rattle.std.proofs.lemmas.Bool.{cases_lt, eqb-true, eqb-false, eq-eqb, leb-true, le-leb}
+use Rattle.std.proofs.lemmas.Bool.{cases_lt, eqb-true, eq-eqb, leb-true, le-leb}
 use Rattle.std.proofs.lemmas.Int.{ints}
 use Rattle.std.proofs.lemmas.List.{length-map, get_or-map, get_or_default}
 use Rattle.std.proofs.Math.Nat.{div-mul_cancel, mul-le-mul_left}
 use native.Mathlib.Nat.{le_of_mul-le-mul_left}
-use Rattle.msp_class.specs.declared.environments.EnvKind.{EnvKind}
 use Rattle.msp_class.specs.declared.environments.EnvKind.TheVariants.{Uniform}
 use Rattle.msp_class.specs.Env.{kind_of}
 use Rattle.msp_class.specs.Sums.{total_below}
 use Rattle.msp_class.proofs.IntegerRing.{natural, pos-le, pos-same, ≤ℤ_trans, *ℤ-mono, *ℤ-mono_nonneg}
 use Rattle.msp_class.proofs.Sums.{cond-yes, cond-no, cond-le, total_below-same, total_below-scale, total_below-term}
+use Rattle.msp_class.proofs.Cases.{same_or_not}
 use Rattle.msp_instance.specs.declared.Instance.{Instance}
 use Rattle.msp_instance.specs.Instance.{no_need, no_job, job_at, need_at, common_time}
 use Rattle.msp_instance.specs.Conditions.{Limits, MeetsConditions, HasShape, HasTimes, HasSpeeds, least_time, greatest_time}
@@ -34,10 +34,7 @@ abbrev pub order_of : ℕ → ℕ → ℕ → ℕ
 order_of machines end m = machines * end + m
 
 pub less_by_end : (machines e f m k : ℕ) → m < machines → e < f → order_of machines e m < order_of machines f k
-less_by_end machines e f m k l h = omega (arith, l, mul-le-mul_left machines (more e f h))
-  where
-    more : (e f : ℕ) → e < f → e + 1 ≤ f
-    more e f h = omega (arith, h)
+less_by_end machines e f m k l h = omega (arith, l, mul-le-mul_left machines (add-one-le h))
 
 pub less_by_order : (machines : ℕ) (p q : Place) → p.machine < machines → ComesFirst p q → order_of machines p.end p.machine < order_of machines q.end q.machine
 less_by_order machines p q l (inl h) = less_by_end machines p.end q.end p.machine q.machine l h
@@ -48,28 +45,18 @@ end_by_order machines e f m k l h = elim (cases_lt f e) [ inl g ↦ absurd (omeg
 
 same_order : (machines e f m k : ℕ) → m < machines → k < machines → order_of machines e m ≡ order_of machines f k → (e ≡ f) × (m ≡ k)
 same_order machines e f m k l n h =
-    let same : e ≡ f = both e f (end_by_order machines e f m k n (omega (arith, h))) (end_by_order machines f e k m l (omega (arith, h))) in
+    let same : e ≡ f = le_antisymm (end_by_order machines e f m k n (omega (arith, h))) (end_by_order machines f e k m l (omega (arith, h))) in
     (same, omega (arith, h, ap (λ x. machines * x) same))
-  where
-    both : (e f : ℕ) → e ≤ f → f ≤ e → e ≡ f
-    both e f g h = omega (arith, g, h)
 
 -- ---- what a uniform instance has
 cancel : (v x y : ℕ) → 1 ≤ v → v * x ≡ v * y → x ≡ y
-cancel v x y k e = both (le_of_mul-le-mul_left {k = v} (omega (arith, e)) k) (le_of_mul-le-mul_left {k = v} (omega (arith, e)) k)
-  where
-    both : {x y : ℕ} → x ≤ y → y ≤ x → x ≡ y
-    both g h = omega (arith, g, h)
+cancel v x y k e = le_antisymm (le_of_mul-le-mul_left {k = v} (omega (arith, e)) k) (le_of_mul-le-mul_left {k = v} (omega (arith, e)) k)
 
-pub some_common_time : (l : Limits) (i : Instance) → kind_of i.class.env ≡ Uniform → MeetsConditions l i → 1 ≤ common_time i
-some_common_time l i kind c = by (kind_of i.class.env) kind (c.jobs 0 no_job (omega (arith, c.some))).needs.shape (c.jobs 0 no_job (omega (arith, c.some))).needs.times
-  where
-    by : (k : EnvKind) → k ≡ Uniform → HasShape k i.class.env i.machines (job_at i 0).needs
-        → HasTimes (least_time k i.class.times) (greatest_time l i.class.times) (job_at i 0).needs → 1 ≤ common_time i
-    by k e shape times =
-        let single = subst (λ x. HasShape x i.class.env i.machines (job_at i 0).needs) e shape in
-        let ranges = subst (λ x. HasTimes (least_time x i.class.times) (greatest_time l i.class.times) (job_at i 0).needs) e times in
-        (ranges 0 no_need (omega (arith, single.0))).0
+pub first_time : (l : Limits) (i : Instance) → kind_of i.class.env ≡ Uniform → MeetsConditions l i → (1 ≤ common_time i) × (common_time i ≤ greatest_time l i.class.times)
+first_time l i kind c =
+    let needs = (c.jobs 0 no_job (omega (arith, c.some))).needs in
+    let single = subst (λ k. HasShape k i.class.env i.machines (job_at i 0).needs) kind needs.shape in
+    subst (λ k. HasTimes (least_time k i.class.times) (greatest_time l i.class.times) (job_at i 0).needs) kind needs.times 0 no_need (omega (arith, single.0))
 
 pub speeds_of : (l : Limits) (i : Instance) → kind_of i.class.env ≡ Uniform → MeetsConditions l i → HasSpeeds Uniform i.machines i.speeds
 speeds_of l i kind c = subst (λ k. HasSpeeds k i.machines i.speeds) kind c.speeds
@@ -92,10 +79,7 @@ module _ (i : Instance) (unit : ℕ) (speeds : HasSpeeds Uniform i.machines i.sp
       ∙ turned (common_time i) (unit / speed m) (speed m) unit (div-mul_cancel (speed m) (common.common m 0 inside))
     where
       turned : (a b c u : ℕ) → b * c ≡ u → a * b * c ≡ u * a
-      turned a b c u e = grouped a b c ∙ ap (λ x. x * a) e
-        where
-          grouped : (a b c : ℕ) → a * b * c ≡ b * c * a
-          grouped a b c = omega arith
+      turned a b c u e = omega (arith, ap (λ x. x * a) e)
 
   pub long-some : (m : ℕ) → m < i.machines → 1 ≤ common_time i → 1 ≤ long m
   long-some m l some = by (long m) (speed m) unit (common_time i) (long-speed m l) common.some some
@@ -140,14 +124,13 @@ module _ (n : ℕ) (machine begin end : ℕ → ℕ) (lasts : (a : ℕ) → a < 
       later false e = cond-no 1 e
 
   pub front-once : (a b : ℕ) → a < n → b < n → machine a ≡ machine b → front a ≡ front b → a ≡ b
-  front-once a b l h on same = by (eqb a b) refl
-    where
-      by : (t : Bool) → eqb a b ≡ t → a ≡ b
-      by true e = eqb-true a b e
-      by false e = elim (apart a b l h (eqb-false a b e) on) [
-        | inl k ↦ absurd (omega (arith, same, front-rises a b h on (omega (arith, k, lasts b h))))
-        | inr k ↦ absurd (omega (arith, same, front-rises b a l (sym on) (omega (arith, k, lasts a l))))
-      ]
+  front-once a b l h on same = elim (same_or_not a b) [
+    | inl e ↦ e
+    | inr ne ↦ elim (apart a b l h ne on) [
+      | inl k ↦ absurd (omega (arith, same, front-rises a b h on (omega (arith, k, lasts b h))))
+      | inr k ↦ absurd (omega (arith, same, front-rises b a l (sym on) (omega (arith, k, lasts a l))))
+    ]
+  ]
 
   -- where the jobs of a machine take equal times over a common unit
   pub front-takes : (unit other : ℕ) (time : ℕ → ℕ) → ((a : ℕ) → a < n → unit * (end a - begin a) ≡ time (machine a) * other) → (b : ℕ) → b < n
@@ -167,18 +150,12 @@ module _ (n : ℕ) (machine begin end : ℕ → ℕ) (lasts : (a : ℕ) → a < 
           turned : (a b c : ℕ) → a * b * c ≡ b * (c * a)
           turned a b c = omega arith
 
-          none : (x y : ℕ) → x * 0 ≡ y * 0
-          none x y = omega arith
-
-          one : (x : ℕ) → x ≡ x * 1
-          one x = omega arith
-
           each : (a : ℕ) → a < n → (t : Bool) → held a b ≡ t → unit * cond (held a b) (end a - begin a) 0 ≡ time (machine b) * other * cond (held a b) 1 0
           each a k true e =
               ap (λ x. unit * x) (cond-yes (end a - begin a) e)
               ∙ takes a k ∙ ap (λ m. time m * other) (eqb-true (machine a) (machine b) (both_true (eqb (machine a) (machine b)) (leb (end a) (end b)) e).0)
-              ∙ one (time (machine b) * other) ∙ ap (λ x. time (machine b) * other * x) (sym (cond-yes 1 e))
-          each a k false e = ap (λ x. unit * x) (cond-no (end a - begin a) e) ∙ none unit (time (machine b) * other) ∙ ap (λ x. time (machine b) * other * x) (sym (cond-no 1 e))
+              ∙ sym (mul-one (time (machine b) * other)) ∙ ap (λ x. time (machine b) * other * x) (sym (cond-yes 1 e))
+          each a k false e = omega (arith, ap (λ x. unit * x) (cond-no (end a - begin a) e), ap (λ x. time (machine b) * other * x) (cond-no 1 e))
 
 -- ---- the law
 module _ (l : Limits) (i : Instance) (s : Schedule) (unit : ℕ) (places : List Place) (kind : kind_of i.class.env ≡ Uniform) (uncut : i.class.cut ≡ false)
@@ -227,16 +204,7 @@ module _ (l : Limits) (i : Instance) (s : Schedule) (unit : ℕ) (places : List 
     where
       -- x·v ≡ o·p and a·v ≡ u·p give u·x ≡ a·o
       by : (x a v u p o : ℕ) → a * v ≡ u * p → x * v ≡ o * p → 1 ≤ v → u * x ≡ a * o
-      by x a v u p o e g some = cancel v (u * x) (a * o) some (grouped u x v ∙ ap (λ y. u * y) g ∙ turned u o p ∙ ap (λ y. o * y) (sym e) ∙ moved o a v)
-        where
-          grouped : (u x v : ℕ) → v * (u * x) ≡ u * (x * v)
-          grouped u x v = omega arith
-
-          turned : (u o p : ℕ) → u * (o * p) ≡ o * (u * p)
-          turned u o p = omega arith
-
-          moved : (o a v : ℕ) → o * (a * v) ≡ v * (a * o)
-          moved o a v = omega arith
+      by x a v u p o e g some = cancel v (u * x) (a * o) some (omega (arith, ap (λ y. u * y) g, ap (λ y. o * y) e))
 
       only : IsOnly i s uncut works f j (only_piece s j)
       only = is_only i s uncut works f j l
@@ -270,11 +238,8 @@ module _ (l : Limits) (i : Instance) (s : Schedule) (unit : ℕ) (places : List 
   key-once : (a b : ℕ) → a < n → b < n → key a ≡ key b → a ≡ b
   key-once a b k m e =
       let (ends, same) = same_order i.machines (number_on a * take (on a)) (number_on b * take (on b)) (on a) (on b) (on-inside a k) (on-inside b m) e in
-      front-once n on begin end lasts apart a b k m same (cancel (take (on b)) (number_on a) (number_on b) (long-some i unit speeds common (on b) (on-inside b m) (some_common_time l i kind c))
-      (turned (number_on a) (take (on b)) ∙ ap (λ x. number_on a * take x) (sym same) ∙ ends ∙ turned (take (on b)) (number_on b)))
-    where
-      turned : (x y : ℕ) → y * x ≡ x * y
-      turned x y = omega arith
+      front-once n on begin end lasts apart a b k m same (cancel (take (on b)) (number_on a) (number_on b) (long-some i unit speeds common (on b) (on-inside b m) (first_time l i kind c).0)
+      (mul_comm (take (on b)) (number_on a) ∙ ap (λ x. number_on a * take x) (sym same) ∙ ends ∙ mul_comm (number_on b) (take (on b))))
 
   machine-listed : (r : ℕ) → r < n → (place_at places r).machine < i.machines
   machine-listed r l = omega (arith, (earliest.each r no_place (omega (arith, l, earliest.count))).machine, lengths-count i unit speeds common)
@@ -297,13 +262,10 @@ module _ (l : Limits) (i : Instance) (s : Schedule) (unit : ℕ) (places : List 
   own_places = record {
     inside = λ j l. rank_inside n key listed key-once listed-rises covers j l;
     own = λ j k l m e. rank_once n key listed key-once listed-rises covers j k l m e;
-    ends = λ j l. ≤ℤ_trans (ends_mono s.unit (place_at places (number j)).end (number_on j * take (on j)) (omega (arith, ints, f.unit))
-        (end_by_order i.machines (place_at places (number j)).end (number_on j * take (on j)) (place_at places (number j)).machine (on j) (on-inside j l)
-        (rank_early n key listed key-once listed-rises covers j l))) (ends_then j l);
+    ends = λ j l. ≤ℤ_trans (*ℤ-mono_nonneg s.unit (omega (arith, ints, f.unit))
+        (pos-le (end_by_order i.machines (place_at places (number j)).end (number_on j * take (on j)) (place_at places (number j)).machine (on j)
+        (on-inside j l) (rank_early n key listed key-once listed-rises covers j l)))) (ends_then j l);
   }
-    where
-      ends_mono : (u : ℤ) (a b : ℕ) → pos 0 ≤ℤ u → a ≤ b → (u *ℤ pos a) ≤ℤ (u *ℤ pos b)
-      ends_mono u a b h k = *ℤ-mono_nonneg u h (pos-le k)
 
 pub law_of_earliest_places : LawOfEarliestPlaces
 law_of_earliest_places l i s unit places kind uncut c times f common earliest =

@@ -1,5 +1,5 @@
 -- Jobs in places of their own: a feasible schedule, in which each job ends when its place does, within the bounds of an answer.
-use Rattle.std.proofs.Common.{◌≡◌, ◌≢◌, ℕ, ◌+◌, ◌*◌, ◌-◌, ◌<◌, ◌≤◌, ◌⊎◌, inl, inr, List, length, get_or, map, All, AllPairs, pos, ◌-ℤ◌, ◌*ℤ◌, ◌≤ℤ◌, ◌<ℤ◌, refl, sym, ap, ap₂}
+use Rattle.std.proofs.Common.{◌≡◌, ◌≢◌, ℕ, ◌+◌, ◌*◌, ◌-◌, ◌<◌, ◌≤◌, ◌⊎◌, inl, inr, List, length, get_or, map, All, AllPairs, pos, ◌-ℤ◌, ◌*ℤ◌, ◌≤ℤ◌, ◌<ℤ◌, refl, sym, ap, ap₂, le_antisymm, sub-add_cancel, ne_of_lt}
 use Rattle.std.proofs.Common.{subst, subst₂, ◌∙◌, arith, zero-add}
 use Rattle.std.proofs.lemmas.Bool.{cases_lt}
 use Rattle.std.proofs.lemmas.Int.{ints}
@@ -10,7 +10,7 @@ use Rattle.std.proofs.Math.Nat.{mul-le-mul_right}
 use Rattle.msp_class.specs.declared.sizes.TheConstants.{MOST_JOBS, GREATEST_MULTIPLE}
 use Rattle.msp_class.specs.declared.class.Crit.{Crit}
 use Rattle.msp_class.specs.Env.{kind_of}
-use Rattle.msp_class.proofs.IntegerRing.{pos-le, zero-le-pos, ≤ℤ_refl, ≤ℤ_antisym}
+use Rattle.msp_class.proofs.IntegerRing.{pos-le, zero-le-pos, ≤ℤ_refl, ≤ℤ_antisym, pos-lt}
 use Rattle.msp_class.proofs.Sums.{OnceBelow, OnceBelow-from_distinct}
 use Rattle.msp_instance.specs.declared.Instance.{Instance}
 use Rattle.msp_instance.specs.Instance.{job_at, need_at, common_time}
@@ -53,30 +53,23 @@ module _ (lengths : List ℕ) (n : ℕ) (places : List Place) (earliest : AreEar
   place_is k l = earliest.each k no_place (omega (arith, l, earliest.count))
 
   not_before_itself : (p q : Place) → p ≡ q → ComesFirst p q → ⊥
-  not_before_itself p q e h = by (ap (λ (x : Place). x.end) e) (ap (λ (x : Place). x.machine) e) h
-    where
-      by : {a b c d : ℕ} → a ≡ b → c ≡ d → (a < b) ⊎ ((a ≡ b) × (c < d)) → ⊥
-      by e f (inl l) = omega (arith, e, l)
-      by e f (inr l) = omega (arith, f, l.1)
+  not_before_itself p q e h = elim h [
+    | inl l ↦ omega (arith, ap (λ (x : Place). x.end) e, l)
+    | inr l ↦ omega (arith, ap (λ (x : Place). x.machine) e, l.1)
+  ]
 
   differ : (x y : ℕ) → x < n → y < n → x ≢ y → place_at places x ≢ place_at places y
   differ x y l k ne e = elim (cases_lt x y) [
     | inl less ↦ not_before_itself (place_at places x) (place_at places y) e (earliest.order x y no_place less (omega (arith, k, earliest.count)))
     | inr more ↦ elim (cases_lt y x) [
       | inl less ↦ not_before_itself (place_at places y) (place_at places x) (sym e) (earliest.order y x no_place less (omega (arith, l, earliest.count)))
-      | inr last ↦ ne (same x y more last)
+      | inr last ↦ ne (le_antisymm last more)
     ]
   ]
-    where
-      same : (x y : ℕ) → y ≤ x → x ≤ y → x ≡ y
-      same x y l k = omega (arith, l, k)
 
   -- of two ranks on a machine the lesser ends when the other begins, or before
   end_before : (m a b : ℕ) → a < b → (place_on lengths m a).end ≤ (place_on lengths m b).begin
-  end_before m a b h = mul-le-mul_right (get_or lengths m 0) (less a b h)
-    where
-      less : (a b : ℕ) → a < b → a ≤ b - 1
-      less a b h = omega (arith, h)
+  end_before m a b h = let less : a ≤ b - 1 = omega (arith, h) in mul-le-mul_right (get_or lengths m 0) less
 
   pub apart_places : (x y : ℕ) → x < n → y < n → x ≢ y → (place_at places x).machine ≡ (place_at places y).machine
       → ((place_at places x).end ≤ (place_at places y).begin) ⊎ ((place_at places y).end ≤ (place_at places x).begin)
@@ -88,15 +81,12 @@ module _ (lengths : List ℕ) (n : ℕ) (places : List Place) (earliest : AreEar
         | inl less ↦ inl (ends p q q.machine (e ∙ ap (λ m. place_on lengths m p.rank) on) f less)
         | inr more ↦ elim (cases_lt q.rank p.rank) [
           | inl less ↦ inr (ends q p q.machine f (e ∙ ap (λ m. place_on lengths m p.rank) on) less)
-          | inr last ↦ absurd (ne (e ∙ ap₂ (place_on lengths) on (same p.rank q.rank more last) ∙ sym f))
+          | inr last ↦ absurd (ne (e ∙ ap₂ (place_on lengths) on (le_antisymm last more) ∙ sym f))
         ]
       ]
         where
           ends : (p q : Place) (m : ℕ) → p ≡ place_on lengths m p.rank → q ≡ place_on lengths m q.rank → p.rank < q.rank → p.end ≤ q.begin
           ends p q m e f h = subst₂ (λ x y. x ≤ y) (sym (ap (λ (x : Place). x.end) e)) (sym (ap (λ (x : Place). x.begin) f)) (end_before m p.rank q.rank h)
-
-          same : (x y : ℕ) → y ≤ x → x ≤ y → x ≡ y
-          same x y l k = omega (arith, l, k)
 
 module _ (crit : Crit) (i : Instance) (h : IsPlacesInstance crit i) (unit : ℕ) (common : IsLeastOfAll i.speeds unit) (few : unit ≤ GREATEST_MULTIPLE) (places : List Place)
     (earliest : AreEarliestPlaces i unit places) (job number : ℕ → ℕ) (own : AreApart (length i.jobs) job number) where
@@ -142,32 +132,17 @@ module _ (crit : Crit) (i : Instance) (h : IsPlacesInstance crit i) (unit : ℕ)
   short : (k : ℕ) → k < n → (1 ≤ long (place k).machine) × (long (place k).machine ≤ greatest_length)
   short k l = lengths_short i h.speeds (common_time_within crit i h) unit common few (place k).machine 0 (is k l).machine
 
-  begin_is : (k : ℕ) → k < n → (place k).begin ≡ ((place k).rank - 1) * long (place k).machine
-  begin_is k l = ap (λ (x : Place). x.begin) (is k l).is
-
   end_is : (k : ℕ) → k < n → (place k).end ≡ (place k).rank * long (place k).machine
   end_is k l = ap (λ (x : Place). x.end) (is k l).is
 
   end_later : (k : ℕ) → k < n → (place k).end ≡ (place k).begin + long (place k).machine
-  end_later k l = end_is k l ∙ by (place k).rank (long (place k).machine) (is k l).some ∙ ap (λ x. x + long (place k).machine) (sym (begin_is k l))
-    where
-      by : (r l : ℕ) → 1 ≤ r → r * l ≡ (r - 1) * l + l
-      by r l some = ap (λ x. x * l) (back r some) ∙ grown (r - 1) l
-        where
-          back : (r : ℕ) → 1 ≤ r → r ≡ r - 1 + 1
-          back r some = omega (arith, some)
-
-          grown : (r l : ℕ) → (r + 1) * l ≡ r * l + l
-          grown r l = omega arith
+  end_later k l = omega (arith, end_is k l, ap (λ (x : Place). x.begin) (is k l).is, ap (λ x. x * long (place k).machine) (sub-add_cancel (is k l).some))
 
   end_soon : (k : ℕ) → k < n → (place k).end ≤ greatest_end
   end_soon k l = omega (arith, end_is k l, mul-le (place k).rank (long (place k).machine) MOST_JOBS greatest_length (omega (arith, (is k l).few, h.few)) (short k l).1)
 
   different : (x y : ℕ) → x < y → y < n → job x ≢ job y
-  different x y l k e = unequal l (own.once x y (omega (arith, l, k)) k e)
-    where
-      unequal : {x y : ℕ} → x < y → x ≡ y → ⊥
-      unequal l e = omega (arith, l, e)
+  different x y l k e = ne_of_lt l (own.once x y (omega (arith, l, k)) k e)
 
   jobs : OnceBelow n (map (λ p. p.job) pieces)
   jobs = OnceBelow-from_distinct n (map (λ p. p.job) pieces) (length-map pieces (λ p. p.job) ∙ many) within distinct
@@ -185,10 +160,7 @@ module _ (crit : Crit) (i : Instance) (h : IsPlacesInstance crit i) (unit : ℕ)
 
   apart : (x y : ℕ) → x < y → y < n → (piece x).machine ≡ (piece y).machine → IsApart (piece x) (piece y)
   apart x y l k on = elim (apart_places lengths n places earliest (number x) (number y) (own.numbers x (omega (arith, l, k)))
-      (own.numbers y k) (λ e. unequal l (own.own x y (omega (arith, l, k)) k e)) on) [ inl a ↦ inl (pos-le a) | inr a ↦ inr (pos-le a) ]
-    where
-      unequal : {x y : ℕ} → x < y → x ≡ y → ⊥
-      unequal l e = omega (arith, l, e)
+      (own.numbers y k) (λ e. ne_of_lt l (own.own x y (omega (arith, l, k)) k e)) on) [ inl a ↦ inl (pos-le a) | inr a ↦ inr (pos-le a) ]
 
   whole : (k : ℕ) → k < n → IsWholeWork (kind_of i.class.env) i (pos unit) (piece k)
   whole k l = subst (λ e. IsWholeWork e i (pos unit) (piece k)) (sym h.kind)
@@ -207,7 +179,7 @@ module _ (crit : Crit) (i : Instance) (h : IsPlacesInstance crit i) (unit : ℕ)
     jobs = jobs;
     ops = all (λ p. p.op ≡ 0) (λ k l. refl);
     inside = all (λ p. p.machine < i.machines) on;
-    span = all (λ p. (pos 0 ≤ℤ p.from) × (p.from <ℤ p.to)) (λ k l. spanned (place k).begin (place k).end (long (place k).machine) (end_later k l) (short k l).0);
+    span = all (λ p. (pos 0 ≤ℤ p.from) × (p.from <ℤ p.to)) (λ k l. (zero-le-pos (place k).begin, pos-lt (omega (arith, end_later k l, (short k l).0))));
     apart = pairs (λ p q. p.machine ≡ q.machine → IsApart p q) apart;
     released = all (λ p. (pos unit *ℤ pos (job_at i p.job).release) ≤ℤ p.from) (λ k l. released unit (job_at i (job k)).release (place k).begin (no_release crit i h (job k) (own.jobs k l)));
     forward = ordered_without_arcs i.arcs pieces h.arcs;
@@ -215,9 +187,6 @@ module _ (crit : Crit) (i : Instance) (h : IsPlacesInstance crit i) (unit : ℕ)
     ends = all (λ p. p.to ≤ℤ GREATEST_ANSWER_MOMENT) (λ k l. pos-le (omega (arith, end_soon k l)));
   }
     where
-      spanned : (a b l : ℕ) → b ≡ a + l → 1 ≤ l → (pos 0 ≤ℤ pos a) × (pos a <ℤ pos b)
-      spanned a b l e some = (zero-le-pos a, omega (arith, ints, e, some))
-
       released : (u r b : ℕ) → r ≡ 0 → (pos u *ℤ pos r) ≤ℤ pos b
       released u r b z = subst (λ y. (pos u *ℤ pos y) ≤ℤ pos b) (sym z) (omega (arith, ints))
 

@@ -1,7 +1,8 @@
 -- Different numbers by rank: where each number that is not listed is above all of the list, which rises, the k-th of some different numbers
 -- is no less than the k-th of the list.
-use Rattle.std.proofs.Common.{◌≡◌, ℕ, ◌<◌, ◌≤◌, ◌⊎◌, inl, inr, Bool, true, false, cond, eqb, ltb, leb, refl, sym, ap, ◌∙◌, arith}
+use Rattle.std.proofs.Common.{◌≡◌, ℕ, ◌<◌, ◌≤◌, ◌⊎◌, inl, inr, Bool, cond, eqb, ltb, leb, sym, ap, ◌∙◌, arith, le_antisymm}
 use Rattle.std.proofs.lemmas.Bool.{cases_Bool, cases_lt, eqb-true, eq-eqb, ltb-true, lt-ltb, leb-true, le-leb}
+use Rattle.std.proofs.lemmas.Bool.Decides.{nat_tests}
 use Rattle.msp_class.specs.Sums.{total_below}
 use Rattle.msp_class.proofs.Sums.{cond-yes, cond-no, cond-le, total_below-mono, total_below-term, total_below-bound, total_below-constant, total_below-exchange}
 use Rattle.msp_pieces.proofs.lists.Positions.{total_below-strict, count_at_most_one}
@@ -24,17 +25,13 @@ module _ (n : ℕ) (key list : ℕ → ℕ) (once : (a b : ℕ) → a < n → b 
 
   rank_rises : (a b : ℕ) → a < n → key a < key b → rank a < rank b
   rank_rises a b l h = total_below-strict n (λ c. cond (ltb (key c) (key a)) 1 0)
-      (λ c. cond (ltb (key c) (key b)) 1 0) a l (λ c _. more c (ltb (key c) (key a)) refl) (omega (arith, not_itself a, cond-yes 1 (lt-ltb (key a) (key b) h)))
-    where
-      more : (c : ℕ) (t : Bool) → ltb (key c) (key a) ≡ t → one_if (ltb (key c) (key a)) ≤ one_if (ltb (key c) (key b))
-      more c true e = omega (arith, cond-yes 1 e, cond-yes 1 (lt-ltb (key c) (key b) (omega (arith, ltb-true (key c) (key a) e, h))))
-      more c false e = omega (arith, cond-no 1 e)
+      (λ c. cond (ltb (key c) (key b)) 1 0) a l (λ c _. grind (arith, nat_tests)) (omega (arith, not_itself a, cond-yes 1 (lt-ltb (key a) (key b) h)))
 
   pub rank_once : (a b : ℕ) → a < n → b < n → rank a ≡ rank b → a ≡ b
-  rank_once a b l m e = once a b l m (same (key a) (key b) (λ h. omega (arith, rank_rises a b l h, e)) (λ h. omega (arith, rank_rises b a m h, e)))
-    where
-      same : (x y : ℕ) → (x < y → ⊥) → (y < x → ⊥) → x ≡ y
-      same x y f g = elim (cases_lt x y) [ inl h ↦ absurd (f h) | inr h ↦ elim (cases_lt y x) [ inl k ↦ absurd (g k) | inr k ↦ omega (arith, h, k) ] ]
+  rank_once a b l m e = once a b l m (elim (cases_lt (key a) (key b)) [
+    | inl h ↦ absurd (omega (arith, e, rank_rises a b l h))
+    | inr h ↦ elim (cases_lt (key b) (key a)) [ inl k ↦ absurd (omega (arith, e, rank_rises b a m k)) | inr k ↦ omega (arith, h, k) ]
+  ])
 
   -- a number below the list's number of a rank stands in the list before it
   stands_before : (c r : ℕ) → c < n → r < n → key c < list r → (q : ℕ) × (q < r) × (list q ≡ key c)
@@ -44,10 +41,7 @@ module _ (n : ℕ) (key list : ℕ → ℕ) (once : (a b : ℕ) → a < n → b 
   ]
     where
       earlier : (q : ℕ) → q < n → list q ≡ key c → q < r
-      earlier q k e = elim (cases_lt q r) [ inl f ↦ f | inr g ↦ absurd (elim (cases_lt r q) [ inl f ↦ omega (arith, rises r q f k, e, h) | inr f ↦ omega (arith, ap list (same r q f g), e, h) ]) ]
-        where
-          same : (r q : ℕ) → q ≤ r → r ≤ q → r ≡ q
-          same r q f g = omega (arith, f, g)
+      earlier q k e = elim (cases_lt q r) [ inl f ↦ f | inr g ↦ elim (cases_lt r q) [ inl f ↦ omega (arith, rises r q f k, e, h) | inr f ↦ omega (arith, ap list (le_antisymm g f), e, h) ] ]
 
   module _ (a : ℕ) (l : a < n) (less : key a < list (rank a)) where
     -- the numbers up to that of a
@@ -59,11 +53,7 @@ module _ (n : ℕ) (key list : ℕ → ℕ) (once : (a b : ℕ) → a < n → b 
 
     one_more : rank a < total_below n up_to
     one_more = total_below-strict n (λ b. cond (ltb (key b) (key a)) 1 0)
-        up_to a l (λ c _. more c (ltb (key c) (key a)) refl) (omega (arith, not_itself a, cond-yes 1 (le-leb (key a) (key a) (omega arith))))
-      where
-        more : (c : ℕ) (t : Bool) → ltb (key c) (key a) ≡ t → one_if (ltb (key c) (key a)) ≤ up_to c
-        more c true e = omega (arith, cond-yes 1 e, cond-yes 1 (le-leb (key c) (key a) (omega (arith, ltb-true (key c) (key a) e))))
-        more c false e = omega (arith, cond-no 1 e)
+        up_to a l (λ c _. grind (arith, nat_tests)) (omega (arith, not_itself a, cond-yes 1 (le-leb (key a) (key a) (omega arith))))
 
     each_hits : (c : ℕ) → c < n → up_to c ≤ total_below (rank a) (hits c)
     each_hits c k = elim (cases_Bool (leb (key c) (key a))) [

@@ -1,13 +1,14 @@
 -- Places that are taken in turn are the earliest.
-use Rattle.std.proofs.Common.{◌≡◌, ◌≢◌, ℕ, ◌+◌, ◌*◌, ◌-◌, ◌<◌, ◌≤◌, inl, inr, Bool, true, false, eqb, List, [], ◌∷◌, ◌++◌, length, get_or, set, All, Contains, refl, sym, ap}
+use Rattle.std.proofs.Common.{◌≡◌, ◌≢◌, ℕ, ◌+◌, ◌*◌, ◌-◌, ◌<◌, ◌≤◌, inl, inr, List, [], ◌∷◌, ◌++◌, length, get_or, set, All, Contains, sym, ap, zero-mul, one-mul, add-sub_cancel, le_antisymm}
 use Rattle.std.proofs.Common.{ap₂, subst, subst₂, ◌∙◌, arith}
-use Rattle.std.proofs.lemmas.Bool.{cases_Bool, cases_lt, eqb-true, eqb-false}
+use Rattle.std.proofs.lemmas.Bool.{cases_lt}
 use Rattle.std.proofs.lemmas.Nat.{mul-le}
 use Rattle.std.proofs.lemmas.Grind.{get_or-set_at}
-use Rattle.std.proofs.lemmas.List.{get_or-set_other, get_or_default, get_or-append_right, get_or_append_left, length-append, length-set}
+use Rattle.std.proofs.lemmas.List.{get_or-set_other, get_or_default, get_or_append_left, length-append, length-set, get_or_push}
 use Rattle.std.proofs.lemmas.List.Elements.{All-nil, All-push, Contains-append_left, Contains-push}
 use Rattle.std.proofs.Math.Nat.{mul-le-mul_right}
 use Rattle.msp_class.specs.declared.sizes.TheConstants.{MOST_JOBS}
+use Rattle.msp_class.proofs.Cases.{same_or_not}
 use Rattle.msp_pieces.proofs.feasible.Series.{AllPairs-append}
 use Rattle.msp_places.specs.declared.place.Place.{Place}
 use Rattle.msp_places.specs.Places.{place_on, IsPlace, ComesFirst, AreEarliest, no_place, place_at}
@@ -31,13 +32,7 @@ abbrev pub from_zero : ℕ → ℕ → Place
 from_zero m l = record { machine = m; rank = 1; begin = 0; end = l }
 
 first_is : (lengths : List ℕ) (m : ℕ) → from_zero m (get_or lengths m 0) ≡ place_on lengths m 1
-first_is lengths m = ap₂ (λ b e. record { machine = m; rank = 1; begin = b; end = e }) (none (get_or lengths m 0)) (one (get_or lengths m 0))
-  where
-    none : (l : ℕ) → 0 ≡ (1 - 1) * l
-    none l = omega arith
-
-    one : (l : ℕ) → l ≡ 1 * l
-    one l = omega arith
+first_is lengths m = ap₂ (λ b e. record { machine = m; rank = 1; begin = b; end = e }) (sym (zero-mul (get_or lengths m 0))) (sym (one-mul (get_or lengths m 0)))
 
 pub first_next : (lengths : List ℕ) (k : ℕ) (new old : List Place) (p : Place) → new ≡ old ++ p ∷ [] → p ≡ from_zero k (get_or lengths k 0)
     → AreFirstBelow lengths k old → AreFirstBelow lengths (k + 1) new
@@ -46,16 +41,10 @@ first_next lengths k new old p e is so_far = record {
   each = λ m l. ap (λ xs. place_at xs m) e ∙ elim (cases_lt m k) [
     | inl less ↦ get_or_append_left old (p ∷ []) no_place m (omega (arith, less, so_far.many)) ∙ so_far.each m less
     | inr more ↦
-        let same : k ≡ m = both m k l more in
-        get_or-append_right old (p ∷ []) k m no_place so_far.many (omega (arith, more)) ∙ ap (λ n. place_at (p ∷ []) n) (none m k same) ∙ is ∙ first_is lengths k ∙ ap (λ n. place_on lengths n 1) same
+        let same : k ≡ m = omega (arith, l, more) in
+        subst (λ n. place_at (old ++ p ∷ []) n ≡ place_on lengths n 1) same (get_or_push old p no_place k so_far.many ∙ is ∙ first_is lengths k)
   ];
 }
-  where
-    both : (m k : ℕ) → m < k + 1 → k ≤ m → k ≡ m
-    both m k l h = omega (arith, l, h)
-
-    none : (m k : ℕ) → k ≡ m → m - k ≡ 0
-    none m k e = omega (arith, e)
 
 pub first_all : (lengths : List ℕ) (k : ℕ) (first : List Place) → k ≡ length lengths → AreFirstBelow lengths k first → AreFirst lengths first
 first_all lengths k first e h = record { count = h.many ∙ e; each = λ m l. h.each m (omega (arith, l, e)) }
@@ -75,14 +64,9 @@ ComesFirst-same p q r h k e = elim (cases_lt q.end r.end) [
 
 -- the place behind that of a rank is that of the next rank
 behind_is : (lengths : List ℕ) (m r : ℕ) → behind (place_on lengths m r) (get_or lengths m 0) ≡ place_on lengths m (r + 1)
-behind_is lengths m r = ap₂ (λ b e. record { machine = m; rank = r + 1; begin = b; end = e }) (first r (get_or lengths m 0)) (last r (get_or lengths m 0))
+behind_is lengths m r = ap₂ (λ b e. record { machine = m; rank = r + 1; begin = b; end = e }) (ap (λ x. x * get_or lengths m 0) (sym (add-sub_cancel r 1)))
+    (last r (get_or lengths m 0))
   where
-    first : (r l : ℕ) → r * l ≡ (r + 1 - 1) * l
-    first r l = ap (λ x. x * l) (back r)
-      where
-        back : (r : ℕ) → r ≡ r + 1 - 1
-        back r = omega arith
-
     last : (r l : ℕ) → r * l + l ≡ (r + 1) * l
     last r l = omega arith
 
@@ -141,17 +125,11 @@ module _ (lengths : List ℕ) (long : (m : ℕ) → m < length lengths → 1 ≤
   many : length more ≡ length taken + 1
   many = length-append taken (p ∷ []) ∙ omega arith
 
-  at_k : (m : ℕ) → m ≡ k → place_at after m ≡ q
-  at_k m e = get_or-set_at next k m q no_place e first.inside
-
-  at_other : (m : ℕ) → m ≢ k → place_at after m ≡ place_at next m
-  at_other m e = get_or-set_other next k m q no_place e
-
   -- what holds of the new place of the machine k, and of the places of the others
   by_machine : (P : ℕ → Place → Type 0) → P k q → ((m : ℕ) → m < length lengths → m ≢ k → P m (place_at next m)) → (m : ℕ) → m < length lengths → P m (place_at after m)
-  by_machine P here there m l = elim (cases_Bool (eqb m k)) [
-    | inl e ↦ let same = eqb-true m k e in subst (P m) (sym (at_k m same)) (subst (λ x. P x q) (sym same) here)
-    | inr e ↦ let other = eqb-false m k e in subst (P m) (sym (at_other m other)) (there m l other)
+  by_machine P here there m l = elim (same_or_not m k) [
+    | inl same ↦ subst (P m) (sym (get_or-set_at next k m q no_place same first.inside)) (subst (λ x. P x q) (sym same) here)
+    | inr other ↦ subst (P m) (sym (get_or-set_other next k m q no_place other)) (there m l other)
   ]
 
   -- the place that is taken comes before the next places of the other machines
@@ -161,15 +139,9 @@ module _ (lengths : List ℕ) (long : (m : ℕ) → m < length lengths → 1 ≤
     | inr same ↦ elim (cases_lt m k) [
       | inl early ↦ absurd (omega (arith, first.first m early, same))
       | inr late ↦ inr
-          (equal p.end (place_at next m).end (first.least m (omega (arith, l, h.count))) same, on (place_at next m).machine (ap (λ (x : Place). x.machine) (h.places m l)) p-machine late ne)
+          (le_antisymm (first.least m (omega (arith, l, h.count))) same, omega (arith, ap (λ (x : Place). x.machine) (h.places m l), p-machine, late, ne))
     ]
   ]
-    where
-      equal : (a b : ℕ) → a ≤ b → b ≤ a → a ≡ b
-      equal a b l k = omega (arith, l, k)
-
-      on : {m k a : ℕ} (b : ℕ) → b ≡ m → a ≡ k → k ≤ m → m ≢ k → a < b
-      on {m} {k} {a} b e f l ne = elim (cases_lt k m) [ inl g ↦ omega (arith, e, f, g) | inr g ↦ absurd (ne (equal m k g l)) ]
 
   pub taken_more : AreTaken lengths more after
   taken_more = record {
@@ -194,11 +166,10 @@ module _ (lengths : List ℕ) (long : (m : ℕ) → m < length lengths → 1 ≤
       here : (rank : ℕ) → 1 ≤ rank → rank < r + 1 → Contains more (place_on lengths k rank)
       here rank some less = elim (cases_lt rank r) [
         | inl old ↦ Contains-append_left taken (p ∷ []) (place_on lengths k rank) (h.whole k rank inside some old)
-        | inr new ↦ subst (Contains more) (p-is ∙ ap (place_on lengths k) (same rank r less new)) (Contains-push taken p)
+        | inr new ↦
+            let same : r ≡ rank = omega (arith, less, new) in
+            subst (Contains more) (p-is ∙ ap (place_on lengths k) same) (Contains-push taken p)
       ]
-        where
-          same : (a b : ℕ) → a < b + 1 → b ≤ a → b ≡ a
-          same a b l k = omega (arith, l, k)
 
 -- ---- at the end
 pub earliest_taken : (lengths : List ℕ) (long : (m : ℕ) → m < length lengths → 1 ≤ get_or lengths m 0) (n : ℕ) (taken next : List Place)
@@ -210,12 +181,10 @@ earliest_taken lengths long n taken next h e = record {
   earliest = λ m rank l some. elim (cases_lt rank (place_at next m).rank) [
     | inl less ↦ inl (h.whole m rank l some less)
     | inr more ↦ inr
-        (λ a d k. ComesFirst-same (get_or taken a d) (place_at next m) (place_on lengths m rank) (h.before m l a d k) (no_later m rank l more) (ap (λ (x : Place). x.machine) (h.places m l)))
+        (λ a d k. ComesFirst-same (get_or taken a d) (place_at next m) (place_on lengths m rank) (h.before m l a d k)
+        (omega (arith, ap (λ (x : Place). x.end) (h.places m l), mul-le-mul_right (get_or lengths m 0) more)) (ap (λ (x : Place). x.machine) (h.places m l)))
   ];
 }
-  where
-    no_later : (m rank : ℕ) → m < length lengths → (place_at next m).rank ≤ rank → (place_at next m).end ≤ (place_on lengths m rank).end
-    no_later m rank l k = omega (arith, ap (λ (x : Place). x.end) (h.places m l), mul-le-mul_right (get_or lengths m 0) k)
 
 -- ---- as the code has it
 pub record HasTaken (lengths : List ℕ) (turn : ℕ) (taken next : List Place) : Type 0 where

@@ -1,22 +1,20 @@
 -- Pieces in another order are closed to the same pieces in another order.
-use Rattle.std.proofs.Common.{◌≡◌, ℕ, cond, List, [], ◌∷◌, map, IsPermutation, ℤ, pos, nat_abs, ◌*ℤ◌, refl, sym, ap, ap₂, subst}
+use Rattle.std.proofs.Common.{◌≡◌, ℕ, cond, List, get_or, IsPermutation, ℤ, pos, nat_abs, ◌*ℤ◌, sym, ap, ap₂, subst}
 use Rattle.std.proofs.lemmas.List.Sorted.{IsPermutation-map, list_any-IsPermutation}
 use Rattle.msp_class.proofs.Sums.{total_below-same}
 use Rattle.msp_pieces.specs.declared.Piece.{Piece}
+use Rattle.msp_pieces.proofs.feasible.Frames.{map-same}
 use Rattle.msp_pieces.specs.Piece.{start, finish}
 use Rattle.msp_pieces.specs.Busy.{runs, busy, busy_moment}
 use Rattle.msp_plain.specs.Equal.{moved, closed}
-
-map-agree : {X Y : Type 0} (f g : X → Y) → ((x : X) → f x ≡ g x) → (xs : List X) → map f xs ≡ map g xs
-map-agree f g h [] = refl
-map-agree f g h (x ∷ xs) = ap₂ (λ y ys. y ∷ ys) (h x) (map-agree f g h xs)
 
 busy-permutation : (ps qs : List Piece) (t : ℕ) → IsPermutation ps qs → busy start finish ps t ≡ busy start finish qs t
 busy-permutation ps qs t h = total_below-same t _ _ (λ u l. ap (λ b. cond b 1 0) (list_any-IsPermutation (runs start finish u) ps qs h))
 
 pub closed-permutation : (time : ℕ) (ps qs : List Piece) → IsPermutation ps qs → IsPermutation (closed time ps) (closed time qs)
 closed-permutation time ps qs h =
-    subst (IsPermutation (closed time ps)) (map-agree (moved (busy_moment time ps)) (moved (busy_moment time qs)) same qs) (IsPermutation-map (moved (busy_moment time ps)) ps qs h)
+    subst (IsPermutation (closed time ps)) (map-same (moved (busy_moment time ps)) (moved (busy_moment time qs)) qs (λ k d l. same (get_or qs k d)))
+    (IsPermutation-map (moved (busy_moment time ps)) ps qs h)
   where
     moment : (x : ℤ) → busy_moment time ps x ≡ busy_moment time qs x
     moment x = ap (λ n. pos time *ℤ pos n) (busy-permutation ps qs (nat_abs x) h)

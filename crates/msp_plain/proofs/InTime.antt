@@ -26,7 +26,8 @@ within_fits x h = omega (arith, ints, h.0, h.1)
 pub latest_fits : (unit d b : ℤ) → IsUnit unit → LiesWithin greatest_row_date d → LiesWithin greatest_threshold b → FitsSigned w128 (unit *ℤ (d +ℤ b))
 latest_fits unit d b u h k =
     let (n, e) = natural_some unit (omega (arith, ints, u.0)) in
-    subst (λ z. FitsSigned w128 (z *ℤ (d +ℤ b))) (sym e) (within_fits _ (product_within n (d +ℤ b) (unsigned_abs GREATEST_UNIT) (10 ^ 19) (10 ^ 32) (omega (arith, ints, e, u.1)) (both_within d b h k) (omega arith)))
+    subst (λ z. FitsSigned w128 (z *ℤ (d +ℤ b))) (sym e) (within_fits _ (product_within n (d +ℤ b) (unsigned_abs GREATEST_UNIT)
+    (10 ^ 19) (10 ^ 32) (omega (arith, ints, e, u.1)) (both_within d b h k) (omega arith)))
 
 pub fits_again : (u s x y : ℤ) → u ≡ x → s ≡ y → FitsSigned w128 (x *ℤ y) → FitsSigned w128 (u *ℤ s)
 fits_again u s x y e f h = subst (FitsSigned w128) (sym (ap₂ (λ a b. a *ℤ b) e f)) h
@@ -34,18 +35,13 @@ fits_again u s x y e f h = subst (FitsSigned w128) (sym (ap₂ (λ a b. a *ℤ b
 pub narrow_fits : (x : ℤ) → LiesWithin greatest_row_date x → FitsSigned w64 x
 narrow_fits x h = omega (arith, ints, h.0, h.1)
 
-bound_within : (b : ℤ) → LiesWithin greatest_threshold b → LiesWithin greatest_row_date b
-bound_within b h = (omega (arith, ints, h.0), omega (arith, ints, h.1))
-
-sum_fits : (x : ℤ) → LiesWithin (10 ^ 19) x → FitsSigned w128 x
-sum_fits x h = omega (arith, ints, h.0, h.1)
-
 -- the sum as the types read it
 pub sum_is : (x d b c : ℤ) → x ≡ to_z w64 (of_z w64 c) +ℤ to_z w64 (of_z w64 b) → c ≡ d → LiesWithin greatest_row_date d → LiesWithin greatest_threshold b → to_z w128 (of_z w128 x) ≡ d +ℤ b
 sum_is x d b c e same h k =
     let due_is : to_z w64 (of_z w64 c) ≡ d = ap (λ z. to_z w64 (of_z w64 z)) same ∙ to_z-of_z w64 d (narrow_fits d h) in
-    let whole : x ≡ d +ℤ b = e ∙ ap₂ ◌+ℤ◌ due_is (to_z-of_z w64 b (narrow_fits b (bound_within b k))) in
-    ap (λ z. to_z w128 (of_z w128 z)) whole ∙ to_z-of_z w128 (d +ℤ b) (sum_fits (d +ℤ b) (both_within d b h k))
+    let whole : x ≡ d +ℤ b = e ∙ ap₂ ◌+ℤ◌ due_is (to_z-of_z w64 b (omega (arith, ints, k.0, k.1))) in
+    let fits : FitsSigned w128 (d +ℤ b) = omega (arith, ints, h.0, h.1, k.0, k.1) in
+    ap (λ z. to_z w128 (of_z w128 z)) whole ∙ to_z-of_z w128 (d +ℤ b) fits
 
 -- the comparison as the types read it
 pub compared : (p q x y : ℤ) → p ≡ x → q ≡ y → IsTrue (int_le p q) ↔ (x ≤ℤ y)

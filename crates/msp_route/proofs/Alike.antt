@@ -28,16 +28,13 @@ pub Alike-led : (row : ℕ) (i : Instance) (c : Class) (jobs : List Job)
 Alike-led row i c jobs g h = subst (Alike row i) (sym (ap (λ o. record i { class = unwrap_or o i.class; jobs = jobs }) g)) h
 
 module _ {row : ℕ} {i j : Instance} (h : Alike row i j) (inner : Inner i) where
-  down : (s : Schedule) → Feasible i s → Feasible j s
-  down s f = Feasible-same i j s (IsShaped-from_conditions (inner_limits (kind_of i.class.env)) i inner.conditions) h.work f
-
   up : (s : Schedule) → Feasible j s → Feasible i s
   up s f = Feasible-same j i s (IsShaped-from_conditions (inner_limits (kind_of j.class.env)) j h.lower.inner.conditions) (SameWork-sym i j h.work) f
 
   pub stay-alike : SchedulesStay row i j
   stay-alike = record {
     leads = h.lower;
-    feasible = λ s. (down s, up s);
+    feasible = λ s. ((λ f. Feasible-same i j s (IsShaped-from_conditions (inner_limits (kind_of i.class.env)) i inner.conditions) h.work f), up s);
     cost = λ s f. cost-same_charges i j s h.charges f.unit;
     unit = ≤ℤ_of_same (ap greatest_unit (sym h.work.needs.kind));
   }

@@ -1,5 +1,5 @@
 -- The jobs back to back on one machine: the releases allow it, and a feasible such schedule is an answer, in the form of a report.
-use Rattle.std.proofs.Common.{◌*◌, ◌≡◌, ℕ, ◌<◌, ◌≤◌, List, [], length, get_or, map, sum_by, ℤ, pos, ◌*ℤ◌, ◌≤ℤ◌, ◌<ℤ◌, All, Result, Ok, Err, inl, sym, ap, subst, ◌∙◌, arith}
+use Rattle.std.proofs.Common.{◌*◌, ◌≡◌, ℕ, ◌<◌, ◌≤◌, List, [], length, get_or, map, sum_by, pos, ◌*ℤ◌, ◌≤ℤ◌, All, Result, Ok, Err, inl, sym, ap, subst, ◌∙◌, arith}
 use Rattle.std.specs.Prelude.{IfOk}
 use Rattle.std.proofs.lemmas.Int.{ints}
 use Rattle.std.proofs.lemmas.Nat.Gcd.{dvd_antisymm}
@@ -12,7 +12,7 @@ use Rattle.msp_instance.specs.declared.Instance.{Instance}
 use Rattle.msp_instance.specs.Instance.{job_at, no_job}
 use Rattle.msp_pieces.specs.declared.Piece.{Piece}
 use Rattle.msp_pieces.specs.declared.Solution.{Solution}
-use Rattle.msp_pieces.specs.Piece.{job_of, start, finish, IsTimed}
+use Rattle.msp_pieces.specs.Piece.{job_of, IsTimed}
 use Rattle.msp_pieces.specs.BackToBack.{back_to_back, piece, time_at, schedule_in_order}
 use Rattle.msp_pieces.specs.Feasible.{Feasible}
 use Rattle.msp_pieces.specs.Cost.{Best, IsBest, cost_of}
@@ -34,11 +34,9 @@ module _ (i : Instance) (h : IsPlain i) (order : List ℕ) (once : OnceBelow (le
   timed = back_to_back-timed (time_at i) 0 order (λ k d l. takes_time i h (get_or order k d) (once.within k d l))
 
   pub released : All (λ p. (pos 1 *ℤ pos (job_at i p.job).release) ≤ℤ p.from) pieces
-  released k d l = by (get_or pieces k d).from _ (job_at i (get_or pieces k d).job).release
-      (timed k d l).from (h.release _ no_job (back_to_back-All piece (time_at i) piece_makes (λ j. j < length i.jobs) 0 order once.within k d l))
-    where
-      by : (x : ℤ) (n r : ℕ) → x ≡ pos n → r ≡ 0 → (pos 1 *ℤ pos r) ≤ℤ x
-      by x n r e z = omega (arith, ints)
+  released k d l =
+      let free = h.release _ no_job (back_to_back-All piece (time_at i) piece_makes (λ j. j < length i.jobs) 0 order once.within k d l) in
+      omega (arith, ints, (timed k d l).from, free)
 
   -- without arcs they may run in any order
   pub free_is_feasible : i.arcs ≡ [] → Feasible i (schedule_in_order i order)
@@ -67,11 +65,10 @@ module _ (i : Instance) (order : List ℕ) (short : AreShortJobs i order) (f : F
   pub row_is_settled : IsSettled (schedule_in_order i order)
   row_is_settled = record {
     lowest = λ d divides _. dvd_antisymm divides (one-dvd d);
-    order = λ a b d l m. inl (before (get_or row a d) (get_or row b d) (row_timed a d (omega (arith, l, m))) (row_timed b d m) (back_to_back-in_order piece (time_at i) piece_makes 0 order a b d l m));
+    order = λ a b d l m.
+        let t = row_timed a d (omega (arith, l, m)) in
+        inl (omega (arith, ints, t.from, t.lasts, (row_timed b d m).from, back_to_back-in_order piece (time_at i) piece_makes 0 order a b d l m));
   }
-    where
-      before : (p q : Piece) → IsTimed p → IsTimed q → finish p ≤ start q → p.from <ℤ q.from
-      before p q t u l = omega (arith, ints, t.from, t.lasts, u.from, l)
 
 -- what a solver owes of the order of its rule
 pub record IsBestRow (i : Instance) (order : List ℕ) : Type 0 where

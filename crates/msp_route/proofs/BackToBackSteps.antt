@@ -1,5 +1,5 @@
 -- One step of the loop that lays jobs back to back, at the numbers as the code passes them.
-use Rattle.std.proofs.Common.{◌≡◌, ℕ, ◌+◌, ◌*◌, ◌<◌, ◌≤◌, List, [], ◌∷◌, ◌++◌, length, get_or, take, sum_by, pos, ℤ, ◌≤ℤ◌, unsigned_abs, All, refl, sym, ap, ◌∙◌, arith, slice_index_or}
+use Rattle.std.proofs.Common.{◌≡◌, ℕ, ◌+◌, ◌*◌, ◌<◌, ◌≤◌, List, [], ◌∷◌, ◌++◌, length, get_or, take, sum_by, pos, ℤ, ◌≤ℤ◌, unsigned_abs, All, sym, ap, ◌∙◌, arith, slice_index_or}
 use Rattle.std.proofs.lemmas.Int.{ints}
 use Rattle.std.proofs.lemmas.List.{take_more}
 use Rattle.std.proofs.lemmas.Nat.{mul-le}
@@ -11,6 +11,7 @@ use Rattle.msp_instance.specs.Instance.{no_need, no_job}
 use Rattle.msp_pieces.specs.declared.Piece.{Piece}
 use Rattle.msp_class.specs.declared.sizes.TheConstants.{MOST_JOBS, GREATEST, GREATEST_UNIT}
 use Rattle.msp_route.proofs.JobReads.{read_job}
+use Rattle.msp_pieces.proofs.changes.LineUp.{back_to_back_agree}
 
 -- the pieces so far, and the moment at which the last of them ends
 pub laid-next : (p : ℕ → ℕ) (new old : List Piece) (order : List ℕ) (k j moment end : ℕ) (from to : ℤ) →
@@ -37,10 +38,9 @@ abbrev pub greatest_length : ℕ
 greatest_length = unsigned_abs GREATEST_UNIT * GREATEST
 
 pub short_length : (i : Instance) (unit : ℕ) → pos unit ≤ℤ GREATEST_UNIT → (j : ℕ) → time_at i j ≤ GREATEST → unit * time_at i j ≤ greatest_length
-short_length i unit h j t = omega (arith, mul-le unit (time_at i j) (unsigned_abs GREATEST_UNIT) GREATEST small t)
-  where
-    small : unit ≤ unsigned_abs GREATEST_UNIT
-    small = omega (arith, ints)
+short_length i unit h j t =
+    let small : unit ≤ unsigned_abs GREATEST_UNIT = omega (arith, ints) in
+    omega (arith, mul-le unit (time_at i j) (unsigned_abs GREATEST_UNIT) GREATEST small t)
 
 -- the moment stays early
 pub moment-next : (i : Instance) (unit k count moment length_is j : ℕ)
@@ -50,9 +50,6 @@ pub moment-next : (i : Instance) (unit k count moment length_is j : ℕ)
 moment-next i unit k count moment length_is j u needs l is early inside few = let short = short_length i unit u j (needs j no_job l).1 in (omega arith, omega arith)
 
 -- over the unit 1 the pieces that last the times are the schedule's
-back_to_back-same : (p q : ℕ → ℕ) (t : ℕ) (js : List ℕ) → ((j : ℕ) → p j ≡ q j) → back_to_back piece p t js ≡ back_to_back piece q t js
-back_to_back-same p q t [] h = refl
-back_to_back-same p q t (j ∷ js) h = ap (λ l. piece j t (t + p j) ∷ l) (back_to_back-same p q (t + p j) js h) ∙ ap (λ n. piece j t (t + n) ∷ back_to_back piece q (t + n) js) (h j)
-
 pub as_schedule : (i : Instance) (made : List Piece) (order : List ℕ) → made ≡ back_to_back piece (λ j. 1 * time_at i j) 0 order → record { unit = pos 1; pieces = made } ≡ schedule_in_order i order
-as_schedule i made order e = ap (λ ps. record { unit = pos 1; pieces = ps }) (e ∙ back_to_back-same (λ j. 1 * time_at i j) (time_at i) 0 order (λ j. omega arith))
+as_schedule i made order e =
+    ap (λ ps. record { unit = pos 1; pieces = ps }) (e ∙ back_to_back_agree (λ j. 1 * time_at i j) (time_at i) 0 order (λ k d l. omega arith))

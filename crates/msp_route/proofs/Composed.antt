@@ -1,5 +1,5 @@
 -- A reduction and a solver behind it keep what a solver owes.
-use Rattle.std.proofs.Common.{if◌then◌else◌, ◌≡◌, ℕ, Bool, true, false, ℤ, ◌+ℤ◌, ◌≤ℤ◌, Result, Ok, Err, refl, sym, ap, ◌∙◌, subst, arith}
+use Rattle.std.proofs.Common.{if◌then◌else◌, ◌≡◌, ℕ, Bool, true, false, ℤ, ◌+ℤ◌, ◌≤ℤ◌, Result, Ok, Err, refl, sym, ap, ◌∙◌, subst, arith, inl, inr}
 use Rattle.std.specs.Prelude.{IfOk, ◌==◌, ◌||◌}
 use Rattle.std.proofs.lemmas.Int.{ints}
 use Rattle.msp_class.proofs.IntegerRing.{≤ℤ_refl, ≤ℤ_trans}
@@ -18,6 +18,7 @@ use Rattle.msp_route.specs.Bounds.{EndsBy, IsBounded, KeepsBounds, IsAnswer, gre
 use Rattle.msp_route.specs.declared.bounds.TheConstants.{GREATEST_ANSWER_MOMENT, GREATEST_RAISE, GREATEST_LINED_UP, GREATEST_CLOSED_UP, GREATEST_OPEN_UNIT}
 use Rattle.msp_route.proofs.Kept.{from_uniform}
 use Rattle.msp_route.proofs.BestBack.{Best-from_back}
+use Rattle.std.proofs.lemmas.Bool.{cases_Bool}
 
 -- the unit of an answer is one that a way back takes
 unit-wider : (k : EnvKind) → answer_unit k ≤ℤ greatest_unit k
@@ -46,11 +47,10 @@ later-row row e = by (row == 47) (row == 51 || row == 52) (row == 54) e
 
 ends-composed : (row : ℕ) (upper lower : Instance) (t s : Schedule) → KeepsBounds row upper lower t s
     → EndsBy GREATEST_ANSWER_MOMENT t → (turns_dates row ≡ true → cost_of lower t ≤ℤ GREATEST_ANSWER_MOMENT) → EndsBy GREATEST_ANSWER_MOMENT s
-ends-composed row upper lower t s keeps ends low = by (row == 47) refl
-  where
-    by : (b : Bool) → (row == 47) ≡ b → EndsBy GREATEST_ANSWER_MOMENT s
-    by true e = EndsBy-later _ _ s (low e) (λ k d l. (keeps.dates (ap (λ x. x || (row == 48)) e) k d l).1)
-    by false e = EndsBy-later _ _ s (later-row row e) (keeps.ends GREATEST_ANSWER_MOMENT ends)
+ends-composed row upper lower t s keeps ends low = elim (cases_Bool (row == 47)) [
+  | inl e ↦ EndsBy-later _ _ s (low e) (λ k d l. (keeps.dates (ap (λ x. x || (row == 48)) e) k d l).1)
+  | inr e ↦ EndsBy-later _ _ s (later-row row e) (keeps.ends GREATEST_ANSWER_MOMENT ends)
+]
 
 -- in open shops the unit stays
 unit-composed : (k l : EnvKind) (before after : ℤ) → (k ≡ OpenShop → l ≡ OpenShop) → (k ≡ OpenShop → after ≡ before) → after ≤ℤ greatest_unit k → before ≤ℤ answer_unit l → after ≤ℤ answer_unit k
@@ -59,11 +59,10 @@ unit-composed OpenShop l before after stays same h a =
 unit-composed _ l before after stays same h a = h
 
 open_unit : (row : ℕ) (upper lower : Instance) (t s : Schedule) → IsLower row upper lower → KeepsBounds row upper lower t s → kind_of upper.class.env ≡ OpenShop → s.unit ≡ t.unit
-open_unit row upper lower t s led keeps open_shop = by (keeps_size row) refl
-  where
-    by : (b : Bool) → keeps_size row ≡ b → s.unit ≡ t.unit
-    by true e = keeps.unit e
-    by false e = absurd (cc (sym open_shop ∙ from_uniform row upper.class lower.class led.class e))
+open_unit row upper lower t s led keeps open_shop = elim (cases_Bool (keeps_size row)) [
+  | inl e ↦ keeps.unit e
+  | inr e ↦ absurd (cc (sym open_shop ∙ from_uniform row upper.class lower.class led.class e))
+]
 
 IsAnswer-composed : (row : ℕ) (upper lower : Instance) (t s : Schedule) → IsLower row upper lower
     → IsAnswer lower t → KeepsBounds row upper lower t s → (turns_dates row ≡ true → cost_of lower t ≤ℤ GREATEST_ANSWER_MOMENT) → IsAnswer upper s

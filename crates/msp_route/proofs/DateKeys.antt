@@ -1,5 +1,5 @@
 -- Jobs that rise by the keys of their due dates go by due date.
-use Rattle.std.proofs.Common.{◌≡◌, ◌≢◌, ℕ, ◌^◌, ◌<◌, ◌≤◌, ◌⊎◌, inl, inr, List, length, get_or, ℤ, pos, ◌+ℤ◌, ◌<ℤ◌, AllPairs, IsPermutation, sym, subst, arith}
+use Rattle.std.proofs.Common.{◌≡◌, ◌≢◌, ℕ, ◌^◌, ◌<◌, ◌≤◌, ◌⊎◌, inl, inr, List, length, get_or, pos, ◌+ℤ◌, AllPairs, IsPermutation, sym, subst, arith}
 use Rattle.std.specs.List.{range_with_len}
 use Rattle.std.proofs.lemmas.Int.{ints}
 use Rattle.msp_class.proofs.Sums.{OnceBelow, OnceBelow-from_permutation, OnceBelow-distinct}
@@ -18,14 +18,8 @@ module _ (i : Instance) (keys order : List ℕ) (count : length keys ≡ length 
       (each (get_or order b d) (once.within b d k)) (OnceBelow-distinct once a b d l k) (up a b d l k)
     where
       one : (x y : ℕ) → pos (key x) ≡ (job_at i x).due +ℤ pos (2 ^ 63) → pos (key y) ≡ (job_at i y).due +ℤ pos (2 ^ 63) → x ≢ y → (key x < key y) ⊎ ((key x ≡ key y) × (x ≤ y)) → IsDueBefore i x y
-      one x y ex ey n (inl h) = inl (less (key x) (key y) (job_at i x).due (job_at i y).due ex ey h)
-        where
-          less : (a b : ℕ) (c d : ℤ) → pos a ≡ c +ℤ pos (2 ^ 63) → pos b ≡ d +ℤ pos (2 ^ 63) → a < b → c <ℤ d
-          less a b c d e f h = omega (arith, ints, e, f, h)
-      one x y ex ey n (inr h) = inr (same (key x) (key y) (job_at i x).due (job_at i y).due ex ey h.0, omega (arith, h.1, n))
-        where
-          same : (a b : ℕ) (c d : ℤ) → pos a ≡ c +ℤ pos (2 ^ 63) → pos b ≡ d +ℤ pos (2 ^ 63) → a ≡ b → c ≡ d
-          same a b c d e f h = omega (arith, ints, e, f, h)
+      one x y ex ey n (inl h) = inl (omega (arith, ints, ex, ey, h))
+      one x y ex ey n (inr h) = inr (omega (arith, ints, ex, ey, h.0), omega (arith, h.1, n))
 
 -- the keys as the code passes them
 pub each_at : (i : Instance) (shown keys : List ℕ) → shown ≡ keys → AreDateKeys i keys → AreDateKeys i shown

@@ -7,6 +7,7 @@ use Rattle.msp_class.proofs.IntegerRing.{natural, lt-pos, <ℤ_weak, ≤ℤ_tota
 use Rattle.msp_instance.specs.Conditions.{LiesWithin}
 use Rattle.msp_route.specs.declared.halving.Range.{Range}
 use Rattle.msp_route.specs.Halving.{greatest_limit, IsLeastBound, IsRange, IsShorter}
+use Rattle.std.proofs.lemmas.Bool.{false≢true}
 
 pub bound_fits : (limit : ℕ) (x : ℤ) → limit ≤ greatest_limit → LiesWithin limit x → FitsSigned w128 x
 bound_fits limit x small h = omega (arith, ints, small, h.0, h.1)
@@ -29,12 +30,9 @@ module _ (Met : ℤ → Type 0) (limit : ℕ) where
     where
       above : (bound : ℤ) → Met bound → (middle +ℤ pos 1) ≤ℤ bound
       above bound c = elim (≤ℤ_total bound middle) [
-        | inl less ↦ absurd (never (m.1 (rises bound middle less c)))
+        | inl less ↦ absurd (false≢true (m.1 (rises bound middle less c)))
         | inr more ↦ omega (arith, ints, more)
       ]
-        where
-          never : IsTrue false → ⊥
-          never p = absurd (cc)
 
   pub least_at : limit ≤ greatest_limit → (range : Range) → IsRange Met limit range → range.high ≤ℤ range.low → IsLeastBound Met (to_z w128 (of_z w128 range.high))
   least_at small range h e = subst (IsLeastBound Met)

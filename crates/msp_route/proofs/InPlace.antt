@@ -19,7 +19,4 @@ module _ {X : Type 0} (f : X → X) where
   pub changed_next : (xs ys : List X) (k : ℕ) (d new : X) → k < length xs → ys ≡ so_far k xs → new ≡ f (get_or ys k d) → set ys k new ≡ so_far (k + 1) xs
   changed_next xs ys k d new h e made =
       ap₂ (λ l x. set l k x) e (made ∙ ap f (ap (λ l. get_or l k d) e ∙ same_item xs k d h))
-      ∙ next_item xs k d h ∙ ap (λ n. so_far n xs) more
-    where
-      more : suc k ≡ k + 1
-      more = omega arith
+      ∙ next_item xs k d h ∙ ap (λ n. so_far n xs) (let more : suc k ≡ k + 1 = omega arith in more)

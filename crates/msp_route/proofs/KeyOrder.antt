@@ -6,19 +6,19 @@ use Rattle.std.specs.List.Sorted.{IsSortedBy}
 use Rattle.std.proofs.lemmas.List.Sorted.{sorted_far}
 use Rattle.std.proofs.lemmas.Bool.Decides.{nat_tests}
 
-abbrev less : ℕ → ℕ → ℕ → ℕ → Bool
+abbrev pub less : ℕ → ℕ → ℕ → ℕ → Bool
 less x y a b = is_lt (ordering_then (nat_cmp x y) (nat_cmp a b))
 
-abbrev Goes : ℕ → ℕ → ℕ → ℕ → Type 0
+abbrev pub Goes : ℕ → ℕ → ℕ → ℕ → Type 0
 Goes x y a b = (x < y) ⊎ ((x ≡ y) × (a ≤ b))
 
-less-no : (x y a b : ℕ) → less x y a b ≡ false → Goes y x b a
+pub less-no : (x y a b : ℕ) → less x y a b ≡ false → Goes y x b a
 less-no x y a b h = grind (arith, nat_tests)
 
-not_less : (x y a b : ℕ) → Goes y x b a → less x y a b ≡ false
+pub not_less : (x y a b : ℕ) → Goes y x b a → less x y a b ≡ false
 not_less x y a b h = grind (arith, nat_tests)
 
-less-yes : (x y a b : ℕ) → less x y a b ≡ true → Goes x y a b
+pub less-yes : (x y a b : ℕ) → less x y a b ≡ true → Goes x y a b
 less-yes x y a b h = grind (arith, nat_tests)
 
 joined : (x y z a b c : ℕ) → Goes y x b a → Goes z y c b → Goes z x c a

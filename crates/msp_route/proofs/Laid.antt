@@ -1,10 +1,10 @@
 -- Pieces that lie apart on machines, with the work of their jobs: what makes them a feasible schedule, and an answer.
-use Rattle.std.proofs.Common.{◌≡◌, ℕ, ◌*◌, ◌<◌, ◌≤◌, true, List, [], ◌∷◌, length, get_or, map, ℤ, pos, ◌*ℤ◌, ◌≤ℤ◌, All, AllPairs, MatchBool, refl, sym, ap, subst, ◌∙◌, arith}
+use Rattle.std.proofs.Common.{◌≡◌, ℕ, ◌*◌, ◌<◌, ◌≤◌, true, List, [], ◌∷◌, length, get_or, map, pos, ◌*ℤ◌, ◌≤ℤ◌, All, AllPairs, MatchBool, sym, ap, subst, ◌∙◌, arith}
 use Rattle.std.specs.Prelude.{◌==◌}
 use Rattle.std.proofs.lemmas.Int.{ints}
 use Rattle.std.proofs.lemmas.List.Elements.{All-filter}
 use Rattle.msp_class.specs.declared.environments.EnvKind.{EnvKind}
-use Rattle.msp_class.specs.declared.environments.EnvKind.TheVariants.{Identical, Uniform}
+use Rattle.msp_class.specs.declared.environments.EnvKind.TheVariants.{Identical}
 use Rattle.msp_class.specs.Env.{kind_of}
 use Rattle.msp_instance.specs.declared.Instance.{Instance}
 use Rattle.msp_instance.specs.Instance.{job_at}
@@ -12,31 +12,10 @@ use Rattle.msp_pieces.specs.declared.Piece.{Piece}
 use Rattle.msp_pieces.specs.declared.Schedule.{Schedule}
 use Rattle.msp_pieces.specs.Piece.{job_of, pieces_of, start, finish, IsBefore, IsTimed}
 use Rattle.msp_pieces.specs.Intervals.{IsApart, work_of}
-use Rattle.msp_pieces.specs.Feasible.{Feasible, HasPlace, HasOperation, MayRun, FollowsRoute, GetsWork, IsWholeWork, total, whole_work, work_of as part_of}
+use Rattle.msp_pieces.specs.Feasible.{Feasible, HasPlace, HasOperation, MayRun, GetsWork, IsWholeWork, total, whole_work, work_of as part_of}
 use Rattle.msp_pieces.specs.BackToBack.{time_at}
 use Rattle.msp_pieces.proofs.feasible.OneMachine.{apart_in_int, pieces_of-job, total_lengths}
-
--- the jobs have the operation 0 alone, which any machine may run
-pub record HasOneOperation (i : Instance) : Type 0 where
-  pub first : (j o : ℕ) → HasOperation (kind_of i.class.env) i j o → o ≡ 0
-  pub operation : (j : ℕ) → HasOperation (kind_of i.class.env) i j 0
-  pub may_run : (j m : ℕ) → m < i.machines → MayRun (kind_of i.class.env) i j 0 m
-  pub route : (ps : List Piece) → FollowsRoute (kind_of i.class.env) ps
-
-HasOneOperation-from_kind : (i : Instance) (k : EnvKind) → kind_of i.class.env ≡ k → ((j o : ℕ) → HasOperation k i j o → o ≡ 0) → ((j : ℕ) → HasOperation k i j 0) →
-    ((j m : ℕ) → m < i.machines → MayRun k i j 0 m) → ((ps : List Piece) → FollowsRoute k ps) → HasOneOperation i
-HasOneOperation-from_kind i k kind first operation may_run route = record {
-  first = λ j o op. first j o (subst (λ x. HasOperation x i j o) kind op);
-  operation = λ j. subst (λ x. HasOperation x i j 0) (sym kind) (operation j);
-  may_run = λ j m l. subst (λ x. MayRun x i j 0 m) (sym kind) (may_run j m l);
-  route = λ ps. subst (λ x. FollowsRoute x ps) (sym kind) (route ps);
-}
-
-pub HasOneOperation-identical : (i : Instance) → kind_of i.class.env ≡ Identical → HasOneOperation i
-HasOneOperation-identical i kind = HasOneOperation-from_kind i Identical kind (λ j o e. e) (λ j. refl) (λ j m l. l) (λ ps. tt)
-
-pub HasOneOperation-uniform : (i : Instance) → kind_of i.class.env ≡ Uniform → HasOneOperation i
-HasOneOperation-uniform i kind = HasOneOperation-from_kind i Uniform kind (λ j o e. e) (λ j. refl) (λ j m l. l) (λ ps. tt)
+pub use Rattle.msp_pieces.proofs.feasible.OneEach.{HasOneOperation, HasOneOperation-identical, HasOneOperation-uniform}
 
 -- the pieces of jobs on machines, apart on each and of each job, from release dates on and in the order of the arcs
 pub record AreLaid (i : Instance) (unit : ℕ) (ps : List Piece) : Type 0 where
@@ -90,10 +69,7 @@ module _ (i : Instance) (unit : ℕ) (ps : List Piece) (laid : AreLaid i unit ps
         }
 
     released : All (λ p. (pos unit *ℤ pos (job_at i p.job).release) ≤ℤ p.from) ps
-    released k d l = by (get_or ps k d).from (start (get_or ps k d)) unit (job_at i (get_or ps k d).job).release (laid.timed k d l).from (laid.released k d l)
-      where
-        by : (x : ℤ) (n u r : ℕ) → x ≡ pos n → u * r ≤ n → (pos u *ℤ pos r) ≤ℤ x
-        by x n u r e m = omega (arith, ints, e, m)
+    released k d l = omega (arith, ints, (laid.timed k d l).from, laid.released k d l)
 
     pub laid_is_feasible : ((j : ℕ) → j < length i.jobs → GetsWork i s j 0) → Feasible i s
     laid_is_feasible gets = record {

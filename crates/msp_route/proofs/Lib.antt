@@ -23,7 +23,6 @@ pub mod BackToBackArcs
 pub mod OnTimeFirst
 pub mod Ratios
 pub mod Applied
-pub mod Samples
 pub mod KeyOrder
 pub mod KeyedJobs
 pub mod Halves

@@ -1,6 +1,6 @@
 -- Jobs one after another, of which the first ones are on time: what the late ones weigh, and when no schedule has late jobs of less weight.
 use Rattle.std.proofs.Common.{◌≡◌, ◌≢◌, ℕ, ◌+◌, ◌*◌, ◌<◌, ◌≤◌, Bool, true, false, cond, not, List, [], ◌∷◌, ◌++◌, length, get_or, filter, pos, nat_abs, ◌*ℤ◌, ◌≤ℤ◌, All, AllPairs}
-use Rattle.std.proofs.Common.{sum_by, refl, sym, ap, ◌∙◌, subst, arith}
+use Rattle.std.proofs.Common.{sum_by, refl, sym, ap, ◌∙◌, subst, arith, le_trans}
 use native.Mathlib.Nat.{mul-le-mul_left}
 use Rattle.std.proofs.lemmas.List.Sums.{sum_by-cons, sum_by-append}
 use Rattle.msp_class.specs.Sums.{total_below}
@@ -35,7 +35,8 @@ late_and_on_time f w (x ∷ xs) = ap (λ n. n + sum_by w (cond (not (f x)) (x �
 abbrev pub late_weight : Instance → (ℕ → ℕ) → Schedule → ℕ
 late_weight i w s = total_below (length i.jobs) (λ j. cond (is_late i s j) (w j) 0)
 
-module _ (i : Instance) (h : IsPlain i) (w : ℕ → ℕ) (order first late : List ℕ) (whole : order ≡ first ++ late) (once : OnceBelow (length i.jobs) order) (in_time : OnTime (time_at i) (due_at i) 0 first) where
+module _ (i : Instance) (h : IsPlain i) (w : ℕ → ℕ) (order first late : List ℕ) (whole : order ≡ first ++ late)
+    (once : OnceBelow (length i.jobs) order) (in_time : OnTime (time_at i) (due_at i) 0 first) where
   abbrev s : Schedule
   s = schedule_in_order i order
 
@@ -87,8 +88,6 @@ module _ (i : Instance) (h : IsPlain i) (w : ℕ → ℕ) (order first late : Li
       feasible = feasible;
       least = λ t f.
           let unit = (IsPlan-from_feasible i h.machine t f).unit in
-          over_units _ _ t.unit _ _ (nat_abs t.unit) (cost s 1 refl) (cost t (nat_abs t.unit) unit) unit (by (late_weight i w s) (late_weight i w t) (nat_abs t.unit) (omega (arith, upper, lower t f)));
+          over_units _ _ t.unit _ _ (nat_abs t.unit) (cost s 1 refl) (cost t (nat_abs t.unit) unit) unit
+          (omega (arith, mul-le-mul_left (nat_abs t.unit) (le_trans upper (lower t f))));
     }
-      where
-        by : (a b d : ℕ) → a ≤ b → d * (1 * a) ≤ d * b
-        by a b d l = omega (arith, mul-le-mul_left d l)

@@ -1,21 +1,19 @@
 -- Pieces by places: one for each operation, on its machine and apart from the others of that machine and of its job, and behind the operations
 -- before it where those have a route. They make a feasible schedule.
-use Rattle.std.proofs.Common.{◌≡◌, ◌≢◌, ℕ, ◌+◌, ◌*◌, ◌<◌, ◌≤◌, ◌⊎◌, inl, inr, Bool, true, false, not, eqb, List, [], ◌∷◌, length, get_or, map, All, AllPairs, pos, ◌-ℤ◌, ◌*ℤ◌, ◌≤ℤ◌}
-use Rattle.std.proofs.Common.{refl, sym, ap, ap₂, subst, subst₂, ◌∙◌, arith, zero-add}
+use Rattle.std.proofs.Common.{◌≡◌, ◌≢◌, ℕ, ◌+◌, ◌*◌, ◌<◌, ◌≤◌, ◌⊎◌, inl, inr, false, eqb, List, [], ◌∷◌, length, get_or, map, All, AllPairs, pos, ◌*ℤ◌, ◌≤ℤ◌}
+use Rattle.std.proofs.Common.{sym, ap, ap₂, subst, subst₂, ◌∙◌, arith, zero-add}
 use Rattle.std.specs.Prelude.{◌==◌, ◌&&◌}
 use Rattle.std.specs.List.{range_with_len}
 use Rattle.std.proofs.Math.Nat.{mul-le-mul_right}
 use Rattle.std.proofs.lemmas.Bool.Decides.{nat_tests}
 use Rattle.std.proofs.lemmas.Int.{ints}
 use Rattle.std.proofs.lemmas.List.{length-map, get_or-map}
-use Rattle.std.proofs.lemmas.List.Elements.{All-nil}
 use Rattle.std.proofs.lemmas.List.FromFn.{get_or-map-range_with_len, length-map-range_with_len}
 use Rattle.msp_class.specs.declared.sizes.TheConstants.{MOST_JOBS, MOST_MACHINES, GREATEST}
 use Rattle.msp_class.specs.Env.{kind_of, is_mirror_kind}
-use Rattle.msp_class.proofs.IntegerRing.{pos-le, pos-lt, zero-le-pos, *ℤ-one, +ℤ_idl}
+use Rattle.msp_class.proofs.IntegerRing.{pos-le, pos-lt, zero-le-pos, *ℤ-one, +ℤ_idl, one-*ℤ}
 use Rattle.msp_class.proofs.Quotients.{same_block}
 use Rattle.msp_class.proofs.Sums.{OnceBelow, OnceBelow-from_distinct}
-use Rattle.msp_instance.specs.declared.Arc.{Arc}
 use Rattle.msp_instance.specs.declared.Instance.{Instance}
 use Rattle.msp_instance.specs.Instance.{job_at, need_at}
 use Rattle.msp_pieces.specs.declared.Piece.{Piece}
@@ -30,6 +28,8 @@ use Rattle.msp_pieces.proofs.feasible.LastEnds.{last_end-least}
 use Rattle.msp_pieces.proofs.feasible.Frames.{IsShaped, rate_on, frame_of, Stands, Fits, Gets, Lasts, part, of_operation, of_one, named_one, Feasible-from_fits}
 use Rattle.msp_route.specs.declared.bounds.TheConstants.{GREATEST_ANSWER_MOMENT}
 use Rattle.msp_route.specs.Bounds.{IsAnswer, answer_unit}
+use Rattle.std.proofs.lemmas.Bool.{not-true}
+use Rattle.msp_pieces.proofs.feasible.BackToBack.{ordered_without_arcs}
 
 -- what is read of an instance without arcs, each of whose jobs has as many operations
 pub record HasOperations (i : Instance) (ops : ℕ) : Type 0 where
@@ -98,10 +98,7 @@ module _ (i : Instance) (ops : ℕ) (ps : Places) (h : HasOperations i ops) (pla
   key p = p.job * ops + p.op
 
   key_small : (j o : ℕ) → j < length i.jobs → o < ops → j * ops + o < ps.count
-  key_small j o l k = omega (arith, placed.count, k, mul-le-mul_right ops (more j (length i.jobs) l))
-    where
-      more : (a c : ℕ) → a < c → a + 1 ≤ c
-      more a c h = omega (arith, h)
+  key_small j o l k = omega (arith, placed.count, k, mul-le-mul_right ops (let more : j + 1 ≤ length i.jobs = omega (arith, l) in more))
 
   keys : OnceBelow ps.count (map key pieces)
   keys = OnceBelow-from_distinct ps.count (map key pieces) (length-map pieces key ∙ many) within distinct
@@ -138,14 +135,8 @@ module _ (i : Instance) (ops : ℕ) (ps : Places) (h : HasOperations i ops) (pla
           ap (λ l. total (map (part (frame_of i)) l)) e ∙ +ℤ_idl (part (frame_of i) p)
           ∙ ap (λ r. length_of p *ℤ pos r) (h.rate p.job p.machine) ∙ *ℤ-one (length_of p)
           ∙ of_one (λ q. length_of q ≡ pos (need_at i q.job q.op).time) pieces j o p e
-          (all (λ q. length_of q ≡ pos (need_at i q.job q.op).time) (λ x b. lasts (ps.from x) (ps.to x) (need_at i (ps.job x) (ps.op x)).time (placed.long x b)))
-          ∙ ap₂ (λ a b. pos (need_at i a b).time) name.0 name.1 ∙ ap pos (sym (h.want j o)) ∙ one (whole_work (kind_of i.class.env) i j o)
-        where
-          lasts : (a b t : ℕ) → b ≡ a + t → (pos b -ℤ pos a) ≡ pos t
-          lasts a b t e = omega (arith, ints, e)
-
-          one : (a : ℕ) → pos a ≡ pos 1 *ℤ pos a
-          one a = omega (arith, ints)
+          (all (λ q. length_of q ≡ pos (need_at i q.job q.op).time) (λ x b. omega (arith, ints, placed.long x b)))
+          ∙ ap₂ (λ a b. pos (need_at i a b).time) name.0 name.1 ∙ ap pos (sym (h.want j o)) ∙ sym (one-*ℤ (pos (whole_work _ i j o)))
 
   -- ---- feasible
   fits : Fits (frame_of i) (pos 1) pieces
@@ -155,10 +146,9 @@ module _ (i : Instance) (ops : ℕ) (ps : Places) (h : HasOperations i ops) (pla
     place = all (Stands (frame_of i)) (λ x b. record { job = placed.job_inside x b; operation = placed.operation x b; machine = placed.may x b });
     machine = pairs (λ p q. p.machine ≡ q.machine → IsApart p q) (λ x y l b e. apart (placed.on_machine x y l b e));
     job = pairs (λ p q. p.job ≡ q.job → IsApart p q) (λ x y l b e. apart (placed.of_job x y l b e));
-    release = all (λ p. (pos 1 *ℤ pos (job_at i p.job).release) ≤ℤ p.from) (λ x b. released (job_at i (ps.job x)).release (ps.from x) (placed.released x b));
-    arc = subst (λ arcs. All (λ a. All (λ p. All (λ q. p.job ≡ a.before → q.job ≡ a.after → IsBefore p q) pieces) pieces) arcs)
-        (sym h.arcs) (All-nil (λ (a : Arc). All (λ p. All (λ q. p.job ≡ a.before → q.job ≡ a.after → IsBefore p q) pieces) pieces));
-    route = λ e. all (λ p. All (From p) pieces) (λ x b. all (From (piece_at ps x)) (λ y c f l. pos-le (placed.routed (turned (is_mirror_kind (kind_of i.class.env)) e) x y b c f l)));
+    release = all (λ p. (pos 1 *ℤ pos (job_at i p.job).release) ≤ℤ p.from) (λ x b. omega (arith, ints, placed.released x b));
+    arc = ordered_without_arcs i.arcs pieces h.arcs;
+    route = λ e. all (λ p. All (From p) pieces) (λ x b. all (From (piece_at ps x)) (λ y c f l. pos-le (placed.routed (not-true _ e) x y b c f l)));
     work = λ j o l has. gets j o l (h.has j o l has);
   }
     where
@@ -166,15 +156,7 @@ module _ (i : Instance) (ops : ℕ) (ps : Places) (h : HasOperations i ops) (pla
       From p q = p.job ≡ q.job → p.op < q.op → IsBefore p q
 
       apart : {a b c d : ℕ} → (a ≤ b) ⊎ (c ≤ d) → (pos a ≤ℤ pos b) ⊎ (pos c ≤ℤ pos d)
-      apart (inl l) = inl (pos-le l)
-      apart (inr l) = inr (pos-le l)
-
-      released : (r x : ℕ) → r ≤ x → (pos 1 *ℤ pos r) ≤ℤ pos x
-      released r x e = omega (arith, ints, e)
-
-      turned : (b : Bool) → not b ≡ true → b ≡ false
-      turned true e = absurd (cc)
-      turned false e = refl
+      apart e = elim e [ inl l ↦ inl (pos-le l) | inr l ↦ inr (pos-le l) ]
 
   pub placed_is_feasible : Feasible i (schedule_at ps)
   placed_is_feasible = Feasible-from_fits i (schedule_at ps) h.shaped fits

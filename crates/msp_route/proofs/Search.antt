@@ -13,7 +13,7 @@ use Rattle.msp_instance.specs.declared.Arc.{Arc}
 use Rattle.msp_instance.specs.declared.Instance.{Instance}
 use Rattle.msp_instance.specs.Conditions.{IsAcyclic}
 use Rattle.msp_instance.proofs.ListingLemmas.{list_any-from_Contains, Contains-from_list_any}
-use Rattle.msp_pieces.proofs.lists.Intervals.{greatest_by, greatest_by-contains, greatest_by-reached}
+use Rattle.msp_pieces.proofs.lists.Intervals.{greatest_by-contains, greatest_by-reached}
 use Rattle.msp_route.specs.declared.last_job.Candidate.{Candidate}
 use Rattle.msp_pieces.specs.Blocks.{cost_at, HasNoSuccessor}
 use Rattle.msp_route.specs.LastJob.{CostsLess, EndsAt}
@@ -35,9 +35,6 @@ module _ (jobs : List ℕ) (blocked : ℕ → Bool) (cost : ℕ → ℤ) (k : �
     first = more (λ x. blocked x ≡ false → Precedes c (cost x) x) h.first (λ e. absurd (false≢true (sym e ∙ b)));
   }
 
-  precedes_on : (a b : Candidate) (z : ℤ) (m : ℕ) → Precedes a b.cost b.job → Precedes b z m → Precedes a z m
-  precedes_on a b z m h g = grind (arith, ints)
-
   abbrev Chosen : Candidate → Type 0
   Chosen c = (c.place < k + 1) × (c.job ≡ get_or jobs c.place 0) × (c.cost ≡ cost c.job) × (blocked c.job ≡ false)
 
@@ -57,17 +54,14 @@ module _ (jobs : List ℕ) (blocked : ℕ → Bool) (cost : ℕ → ℤ) (k : �
 
       earlier : (b : Option Candidate) → IsFound jobs blocked cost k b → IfSome b (λ b. Precedes result b.cost b.job) → All (λ x. blocked x ≡ false → Precedes result (cost x) x) (take k jobs)
       earlier None f g = λ n d l e. absurd (false≢true (sym e ∙ f n d l))
-      earlier (Some b) f g = λ n d l e. precedes_on result b (cost (get_or (take k jobs) n d)) (get_or (take k jobs) n d) g (f.first n d l e)
+      earlier (Some b) f g = λ n d l e. let old = f.first n d l e in grind (arith, ints, g, old)
 
       newest : Chosen next
       newest = (omega (arith, place), job ∙ at ∙ ap (λ n. get_or jobs n 0) (sym place), price ∙ ap cost (sym job), ap blocked job ∙ free)
 
       kept : (b : Option Candidate) → b ≡ Some result → IsFound jobs blocked cost k b → Chosen result
       kept None e f = absurd (cc)
-      kept (Some b) e f = subst Chosen (same b result e) (omega (arith, f.early), f.is, f.price, f.free)
-        where
-          same : (a b : Candidate) → Some a ≡ Some b → a ≡ b
-          same a b e = cc
+      kept (Some b) e f = let same : b ≡ result = cc in subst Chosen same (omega (arith, f.early), f.is, f.price, f.free)
 
       chosen : Chosen result
       chosen = elim either [ inl e ↦ subst Chosen (sym e) newest | inr e ↦ kept best e h ]
@@ -110,12 +104,9 @@ module _ (i : Instance) (left : List ℕ) (flags : List Bool) (blocked : ℕ →
     some_open acyclic some h =
         let (rank, rises) = ranked i acyclic in
         let (j, c, top) = greatest_by-reached rank left some in
-        let free : HasNoSuccessor i left j = λ k d l e c'. last rank (get_or i.arcs k d) j (rises k d l) e top (greatest_by-contains rank left (get_or i.arcs k d).after c') in
+        let free : HasNoSuccessor i left j = λ k d l e c'. omega (arith, rises k d l, ap rank e, top, greatest_by-contains rank left (get_or i.arcs k d).after c') in
         let shut : All (λ j. blocked j ≡ true) left = subst (All (λ j. blocked j ≡ true)) (take_all (length left) left (omega arith)) h in
         false≢true (sym (open_from_free j (All-contains (λ j. j < length i.jobs) left j inside c) free) ∙ All-contains (λ j. blocked j ≡ true) left j shut c)
-      where
-        last : (rank : ℕ → ℕ) (a : Arc) (j : ℕ) → rank a.before < rank a.after → a.before ≡ j → rank j ≡ greatest_by rank left → rank a.after ≤ greatest_by rank left → ⊥
-        last rank a j r e t g = omega (arith, r, ap rank e, t, g)
 
     pub ends_last : (c : Candidate) (moment : ℕ) → IsFirstCandidate left blocked (λ j. cost_at i j moment) (length left) c → EndsAt i moment left (get_or left c.place 0)
     ends_last c moment h = subst (EndsAt i moment left) h.is (record {

@@ -1,5 +1,5 @@
 -- The jobs that begin on a machine, read one after another and put into another order, are a group.
-use Rattle.std.proofs.Common.{◌≡◌, ◌≢◌, ℕ, suc, ◌+◌, ◌<◌, ◌≤◌, Bool, true, false, not, cond, if◌then◌else◌, List, [], ◌∷◌, ◌++◌, length, get_or, map, filter, All, AllPairs, Contains}
+use Rattle.std.proofs.Common.{◌≡◌, ◌≢◌, ℕ, ◌+◌, ◌<◌, ◌≤◌, Bool, true, false, not, cond, if◌then◌else◌, List, [], ◌∷◌, ◌++◌, length, get_or, map, filter, All, AllPairs, Contains, add-one, zero-add}
 use Rattle.std.proofs.Common.{IsPermutation, refl, sym, ap, ap₂, subst, ◌∙◌, arith}
 use Rattle.std.specs.List.{range_with_len}
 use Rattle.std.specs.List.Sorted.{IsStableBy}
@@ -25,17 +25,11 @@ module _ (i : Instance) (machine : ℕ) where
   pub grouped-next : (new old : List JobTimes) (k : ℕ) → new ≡ old ++ (if begins_on i machine k then route_times i k ∷ [] else [])
       → old ≡ map (route_times i) (filter (begins_on i machine) (range_with_len 0 k)) → new ≡ map (route_times i) (filter (begins_on i machine) (range_with_len 0 (k + 1)))
   grouped-next new old k e so_far =
-      let more : range_with_len 0 (k + 1) ≡ range_with_len 0 k ++ k ∷ [] = ap (range_with_len 0) back ∙ range_with_len_last 0 k ∙ ap (λ n. range_with_len 0 k ++ n ∷ []) place in
+      let more : range_with_len 0 (k + 1) ≡ range_with_len 0 k ++ k ∷ [] = ap (range_with_len 0) (add-one k) ∙ range_with_len_last 0 k ∙ ap (λ n. range_with_len 0 k ++ n ∷ []) (zero-add k) in
       e ∙ ap₂ (λ a b. a ++ b) so_far (one (begins_on i machine k))
       ∙ sym (ap (λ l. map (route_times i) (filter (begins_on i machine) l)) more ∙ ap (map (route_times i)) (filter-append (begins_on i machine) (range_with_len 0 k) (k ∷ []))
       ∙ map-append (route_times i) (filter (begins_on i machine) (range_with_len 0 k)) (filter (begins_on i machine) (k ∷ [])))
     where
-      back : k + 1 ≡ suc k
-      back = omega arith
-
-      place : 0 + k ≡ k
-      place = omega arith
-
       one : (b : Bool) → (if b then route_times i k ∷ [] else []) ≡ map (route_times i) (cond b (k ∷ []) [])
       one true = refl
       one false = refl

@@ -39,6 +39,10 @@ StandsBefore-last jobs j k a (x, inside, is) e = (
   λ d. (ap (λ t. t.job) (get_or_append_left jobs (j ∷ []) d x inside ∙ get_or_default jobs x d k inside ∙ is) ∙ sym e, ap (λ t. t.job) (get_or_at jobs j [] d (length jobs) refl)),
 )
 
+pub job_of : (first second : Stage) (from to : Moments) (p : Piece) (k : JobTimes) → IsOf first second from to p k → p.job ≡ k.job
+job_of first second from to p k (inl o) = o.job
+job_of first second from to p k (inr o) = o.job
+
 -- ---- no job, and one more
 module _ (first second : Stage) (from : Moments) where
   pub IsInLine-none : IsInLine first second [] from from []
@@ -117,26 +121,14 @@ module _ (first second : Stage) (machines : first.machine ≢ second.machine) (j
     has_second = All-push (λ k. 0 < k.second → HasPiece new second k.job) jobs j (λ n d l s. has_still second (get_or jobs n d).job (tidy.has_second n d l s))
         (λ s. (two, has_two s, refl, refl))
 
-    before_first : (p : Piece) (k : JobTimes) → IsOf first second from at p k → p.machine ≡ first.machine → finish p ≤ at.first
-    before_first p k (inl o) e = o.to
-    before_first p k (inr o) e = absurd (machines (sym e ∙ o.machine))
-
-    before_second : (p : Piece) (k : JobTimes) → IsOf first second from at p k → p.machine ≡ second.machine → finish p ≤ begin
-    before_second p k (inl o) e = absurd (machines (sym o.machine ∙ e))
-    before_second p k (inr o) e = omega (arith, o.to)
-
     apart : AllPairs (IsApartOn machine_of start finish) new
     apart = pairs (IsApartOn machine_of start finish) tidy.apart
-        (λ n d l e. let (k, c, o) = tidy.known n d l in inl (before_first (get_or ps n d) k o e))
-        (λ n d l e. let (k, c, o) = tidy.known n d l in inl (before_second (get_or ps n d) k o e))
+        (λ n d l e. let (k, c, o) = tidy.known n d l in elim o [ inl x ↦ inl x.to | inr x ↦ absurd (machines (sym e ∙ x.machine)) ])
+        (λ n d l e. let (k, c, o) = tidy.known n d l in elim o [ inl x ↦ absurd (machines (sym x.machine ∙ e)) | inr x ↦ inl (omega (arith, x.to)) ])
         (λ e. absurd (machines e))
 
-    job_is : (p : Piece) (k : JobTimes) → IsOf first second from at p k → p.job ≡ k.job
-    job_is p k (inl o) = o.job
-    job_is p k (inr o) = o.job
-
     not_mine : All (λ p. p.job ≢ j.job) ps
-    not_mine n d l e = let (k, c, o) = tidy.known n d l in All-contains (λ k. k.job ≢ j.job) jobs k other c (sym (job_is (get_or ps n d) k o) ∙ e)
+    not_mine n d l e = let (k, c, o) = tidy.known n d l in All-contains (λ k. k.job ≢ j.job) jobs k other c (sym (job_of first second from at _ k o) ∙ e)
 
     in_order : AllPairs (λ p q. p.job ≡ q.job → (p.op ≡ first.op) × (q.op ≡ second.op) × (finish p ≤ start q)) new
     in_order = pairs (λ p q. p.job ≡ q.job → (p.op ≡ first.op) × (q.op ≡ second.op) × (finish p ≤ start q)) tidy.in_order
@@ -181,10 +173,6 @@ module _ (first second : Stage) (machines : first.machine ≢ second.machine) (j
     IsEarly-still p (inr (inl e)) = inr (inl e)
     IsEarly-still p (inr (inr (q, c, e, s))) = inr (inr (q, still q c, e, s))
 
-    first_early : IsEndOn first.machine from.first ps at.first → IsEarly second from new one
-    first_early (inl e) = inl e
-    first_early (inr (q, c, m, e)) = inr (inr (q, still q c, e, inl m))
-
     second_early : (j.first ≡ 0 → at.first ≡ from.first) → IsEarly second from new two
     second_early none = by (leb at.second (at.first + j.first)) refl h.second_end
       where
@@ -201,7 +189,7 @@ module _ (first second : Stage) (machines : first.machine ≢ second.machine) (j
     early : AllPairs (λ s t. t.first ≡ 0 → s.first ≡ 0) all → All (IsEarly second from new) new
     early sorted = each (IsEarly second from new)
         (λ n d l. IsEarly-still (get_or ps n d) (h.early (AllPairs-front (λ s t. t.first ≡ 0 → s.first ≡ 0) jobs (j ∷ []) sorted) n d l))
-        (λ some. first_early h.first_end)
+        (λ some. elim h.first_end [ inl e ↦ inl e | inr (q, c, m, e) ↦ inr (inr (q, still q c, e, inl m)) ])
         (λ some. second_early nothing)
       where
         nothing : j.first ≡ 0 → at.first ≡ from.first

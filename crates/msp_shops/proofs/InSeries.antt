@@ -1,5 +1,5 @@
 -- No feasible schedule on two machines in series, cut or not, ends before the laid pieces, so they are best.
-use Rattle.std.proofs.Common.{ap, ◌≡◌, ℕ, ◌+◌, ◌*◌, ◌<◌, ◌≤◌, inl, inr, max, Bool, true, false, leb, List, All, AllPairs, sum_by, nat_abs, refl, sym, subst, arith}
+use Rattle.std.proofs.Common.{ap, ◌≡◌, ℕ, ◌+◌, ◌*◌, ◌<◌, ◌≤◌, inl, inr, max, List, All, AllPairs, sum_by, nat_abs, subst, arith, le_trans, mul-le-mul_left}
 use Rattle.msp_class.specs.Env.{is_shop_kind}
 use Rattle.msp_class.proofs.IntegerRing.{pos-le}
 use Rattle.msp_instance.specs.declared.Instance.{Instance}
@@ -32,15 +32,12 @@ module _ (i : Instance) (shop : IsTwoMachineShop i) (s : Schedule) (f : Feasible
   abbrev unit : ℕ
   unit = nat_abs s.unit
 
-  less : (u m n : ℕ) → m ≤ n → u * n ≤ end → u * m ≤ end
-  less u m n l b = grind arith
-
   second_is_over : (m : ℕ) → m < 2 → (jobs others : List JobTimes) → IsJohnsonGroup i m jobs
       → unit * (sum_by (λ t. t.first) others + sum_by (λ t. t.second) jobs) ≤ end → (y : ℕ) → IsCritical jobs (after others) y → unit * y ≤ end
-  second_is_over m two jobs others g full y (inl e) = less unit y _ (omega (arith, e)) full
+  second_is_over m two jobs others g full y (inl e) = le_trans (mul-le-mul_left unit (omega (arith, e))) full
   second_is_over m two jobs others g full y (inr (before, k, rest, is, e)) =
       let S : List JobTimes → Type 0 = HaveTwoStages (λ t. t.first) (λ t. t.second) (ready i shop s f end ends m) unit end in
-      less unit y _ (omega (arith, e))
+      le_trans (mul-le-mul_left unit (omega (arith, e)))
       (johnson_bound (λ t. t.first) (λ t. t.second) (ready i shop s f end ends m) unit end before k rest
       (subst (AllPairs (GoesBefore (λ t. t.first) (λ t. t.second))) is g.order) (subst S is (two_stages i shop s f end ends m two jobs g.group)))
 
@@ -52,26 +49,13 @@ module _ (i : Instance) (shop : IsTwoMachineShop i) (s : Schedule) (f : Feasible
     load_there = load i shop s f end ends 1 (omega arith) there here group_there.group group_here.group
 
     greater : (w x y z : ℕ) → unit * w ≤ end → unit * x ≤ end → unit * y ≤ end → unit * z ≤ end → unit * max (max w x) (max y z) ≤ end
-    greater w x y z a b c d = two (max w x) (max y z) (two w x a b) (two y z c d)
-      where
-        two : (x y : ℕ) → unit * x ≤ end → unit * y ≤ end → unit * max x y ≤ end
-        two x y a b = by (leb x y) refl
-          where
-            is_left : (x y : ℕ) → leb x y ≡ false → max x y ≡ x
-            is_left x y e = grind arith
-
-            is_right : (x y : ℕ) → leb x y ≡ true → max x y ≡ y
-            is_right x y e = grind arith
-
-            by : (t : Bool) → leb x y ≡ t → unit * max x y ≤ end
-            by true e = subst (λ n. unit * n ≤ end) (sym (is_right x y e)) b
-            by false e = subst (λ n. unit * n ≤ end) (sym (is_left x y e)) a
+    greater w x y z a b c d = grind arith
 
     pub last_is_over : unit * last i shop here there group_here.group group_there.group ps h ≤ end
     last_is_over = greater h.end_here.first h.end_here.second h.end_there.first h.end_there.second
-        (less unit h.end_here.first _ (omega (arith, h.pass_here.first_end)) load_here)
+        (le_trans (mul-le-mul_left unit (omega (arith, h.pass_here.first_end))) load_here)
         (second_is_over 0 (omega arith) here there group_here load_there h.end_here.second h.pass_here.second_end)
-        (less unit h.end_there.first _ (omega (arith, h.pass_there.first_end)) load_there)
+        (le_trans (mul-le-mul_left unit (omega (arith, h.pass_there.first_end))) load_there)
         (second_is_over 1 (omega arith) there here group_there load_here h.end_there.second h.pass_there.second_end)
 
 -- ---- the answer

@@ -1,24 +1,20 @@
 -- The laid pieces are those of Jackson's rule: on each machine in its order, and as early as they can begin.
-use Rattle.std.proofs.Common.{◌≡◌, ◌≢◌, ℕ, ◌<◌, ◌≤◌, ◌⊎◌, inl, inr, List, ◌++◌, get_or, All, AllPairs, Contains, sum_by, pos, ◌≤ℤ◌, refl, sym, ap, subst, subst₂, ◌∙◌, arith}
+use Rattle.std.proofs.Common.{◌≡◌, ◌≢◌, ℕ, ◌<◌, ◌≤◌, ◌⊎◌, inl, inr, List, ◌++◌, get_or, All, AllPairs, Contains, sum_by, pos, refl, sym, ap, subst, subst₂, ◌∙◌, arith}
 use Rattle.std.proofs.lemmas.List.Elements.{All-append, All-contains, Contains-append_left, Contains-append_right}
-use Rattle.msp_class.proofs.IntegerRing.{pos-le}
 use Rattle.msp_instance.specs.declared.Instance.{Instance}
 use Rattle.msp_pieces.specs.declared.Piece.{Piece}
-use Rattle.msp_pieces.specs.Piece.{IsBefore, start, finish, IsTimed}
+use Rattle.msp_pieces.specs.Piece.{start, finish, IsTimed}
 use Rattle.msp_pieces.proofs.feasible.Series.{AllPairs-append}
 use Rattle.msp_shops.specs.declared.pass.JobTimes.{JobTimes}
 use Rattle.msp_shops.specs.declared.pass.Moments.{Moments}
 use Rattle.msp_shops.specs.declared.pass.Stage.{Stage}
-use Rattle.msp_shops.specs.Order.{GoesBefore, ComesFirst}
-use Rattle.msp_shops.specs.Pass.{IsOf, StandsBefore, IsEarly, IsEndOn, IsPass}
+use Rattle.msp_shops.specs.Order.{ComesFirst}
+use Rattle.msp_shops.specs.Pass.{StandsBefore, IsEarly, IsEndOn, IsPass}
 use Rattle.msp_shops.specs.Groups.{route_times, IsTwoMachineShop, IsJohnsonGroup}
 use Rattle.msp_shops.specs.Laid.{after, AreLaid}
 use Rattle.msp_shops.specs.Jackson.{JobComesFirst, RunsFirst, BeginsEarly, IsJacksonSchedule}
-use Rattle.msp_shops.proofs.Shops.{over_one}
+use Rattle.msp_shops.proofs.Shops.{is_before, over_one}
 use Rattle.msp_shops.proofs.LaidPieces.{timed, in_order}
-
-is_before : (p q : Piece) → IsTimed p → IsTimed q → finish p ≤ start q → IsBefore p q
-is_before p q a b l = subst₂ (λ x y. x ≤ℤ y) (sym a.to) (sym b.from) (pos-le l)
 
 -- ---- one group
 module _ (i : Instance) (m : ℕ) (jobs : List JobTimes) (group : IsJohnsonGroup i m jobs) where
@@ -31,12 +27,7 @@ module _ (i : Instance) (m : ℕ) (jobs : List JobTimes) (group : IsJohnsonGroup
       (group.order x y d before inside, group.ties x y d before inside)
 
   pub none_before : AllPairs (λ s t. t.first ≡ 0 → s.first ≡ 0) jobs
-  none_before a b d l k zero = by (get_or jobs a d) (get_or jobs b d) zero (group.order a b d l k)
-    where
-      by : (s t : JobTimes) → t.first ≡ 0 → GoesBefore (λ (u : JobTimes). u.first) (λ u. u.second) s t → s.first ≡ 0
-      by s t e (inl (short, inl less)) = absurd (omega (arith, less, e))
-      by s t e (inl (short, inr less)) = omega (arith, less, e)
-      by s t e (inr (long, less, most)) = absurd (omega (arith, less, e))
+  none_before a b d l k zero = grind (arith, zero, group.order a b d l k)
 
   module _ (other : ℕ) (from to : Moments) (ps : List Piece) (h : IsPass (record { op = 0; machine = m }) (record { op = 1; machine = other }) jobs from to ps) where
     pub rows : AllPairs (λ p q. p.machine ≡ q.machine → RunsFirst i p q) ps
@@ -51,11 +42,7 @@ module _ (i : Instance) (m : ℕ) (jobs : List JobTimes) (group : IsJohnsonGroup
     Side p = ((p.op ≡ 0) × (p.machine ≡ m) × (finish p ≤ to.first)) ⊎ ((p.op ≡ 1) × (p.machine ≡ other) × (from.second ≤ start p))
 
     pub sides : All Side ps
-    sides k d l = let (t, c, o) = h.tidy.known k d l in by (get_or ps k d) t o
-      where
-        by : (p : Piece) (t : JobTimes) → IsOf (record { op = 0; machine = m }) (record { op = 1; machine = other }) from to p t → Side p
-        by p t (inl o) = inl (o.op, o.machine, o.to)
-        by p t (inr o) = inr (o.op, o.machine, o.from)
+    sides k d l = let (t, c, o) = h.tidy.known k d l in elim o [ inl x ↦ inl (x.op, x.machine, x.to) | inr x ↦ inr (x.op, x.machine, x.from) ]
 
 -- the machine of second operations is free when the pieces that cross it end
 early_of : (second : Stage) (total : ℕ) (own crossing all : List Piece) → ((q : Piece) → Contains own q → Contains all q) → ((q : Piece) → Contains crossing q → Contains all q)
@@ -68,7 +55,8 @@ early_of second total own crossing all has_own has_crossing whole last p is (inr
     inr (q, has_own q c, (All-contains IsTimed all q whole (has_own q c)).to ∙ ap pos e ∙ sym is.from, s)
 
 -- ---- both groups
-module _ (i : Instance) (shop : IsTwoMachineShop i) (here there : List JobTimes) (group_here : IsJohnsonGroup i 0 here) (group_there : IsJohnsonGroup i 1 there) (ps : List Piece) (h : AreLaid here there ps) where
+module _ (i : Instance) (shop : IsTwoMachineShop i) (here there : List JobTimes) (group_here : IsJohnsonGroup i 0 here)
+    (group_there : IsJohnsonGroup i 1 there) (ps : List Piece) (h : AreLaid here there ps) where
   abbrev both : List Piece
   both = h.pieces_here ++ h.pieces_there
 
@@ -123,4 +111,5 @@ module _ (i : Instance) (shop : IsTwoMachineShop i) (here there : List JobTimes)
 pub IsJacksonSchedule-read : (i : Instance) (shop : IsTwoMachineShop i) (here there here_read there_read : List JobTimes) (ps : List Piece)
     → IsJohnsonGroup i 0 here → IsJohnsonGroup i 1 there → here_read ≡ here → there_read ≡ there
     → AreLaid here_read there_read ps → IsJacksonSchedule i (over_one ps)
-IsJacksonSchedule-read i shop here there here_read there_read ps a b e f h = IsJacksonSchedule-laid i shop here there a b ps (subst (λ l. AreLaid here l ps) f (subst (λ l. AreLaid l there_read ps) e h))
+IsJacksonSchedule-read i shop here there here_read there_read ps a b e f h = IsJacksonSchedule-laid i shop here there a b ps
+    (subst (λ l. AreLaid here l ps) f (subst (λ l. AreLaid l there_read ps) e h))

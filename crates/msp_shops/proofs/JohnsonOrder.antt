@@ -1,7 +1,10 @@
 -- Johnson's order of two stages: no way through the items takes longer, where each is laid as early as the order allows, than any two stages of them.
-use Rattle.std.proofs.Common.{◌≡◌, ℕ, ◌+◌, ◌*◌, ◌≤◌, ◌<◌, ◌⊎◌, inl, inr, min, Bool, true, false, cond, leb, List, [], ◌∷◌, ◌++◌, All, AllPairs, Contains, sum_by, refl, arith}
-use Rattle.std.proofs.lemmas.Bool.{cond_both, leb-true, leb-false}
-use Rattle.std.proofs.lemmas.List.Elements.{All-cons, All-contains, Contains-append_right}
+use Rattle.std.proofs.Common.{ℕ, ◌+◌, ◌*◌, ◌≤◌, ◌<◌, ◌⊎◌, min, cond, leb, List, [], ◌∷◌, ◌++◌, All, AllPairs, Contains, sum_by, refl, arith, subst₂, length, length-append, le_trans, mul-le-mul_left, inl, inr}
+use Rattle.std.proofs.lemmas.Bool.{cond_both, leb-false, cases_lt}
+use Rattle.std.proofs.lemmas.List.Elements.{Contains-append_right}
+use Rattle.std.proofs.lemmas.List.{get_or_append_left}
+use Rattle.std.proofs.Math.Seq.{get_or-append_seam}
+use Rattle.std.proofs.lemmas.Bool.Decides.{nat_tests}
 use Rattle.msp_class.proofs.Sums.{sum_by-cons, sum_by-append, sum_by-mono, AllPairs-head, AllPairs-tail}
 use Rattle.msp_shops.specs.Order.{GoesBefore}
 use Rattle.msp_shops.proofs.Cut.{HaveTwoStages}
@@ -10,11 +13,8 @@ use Rattle.msp_shops.proofs.Threshold.{added, threshold, threshold_from_end}
 -- ---- what stands before an item of a list, and after it
 module _ {X : Type 0} (R : X → X → Type 0) where
   pub all_before : (l1 : List X) (k : X) (l2 : List X) → AllPairs R (l1 ++ k ∷ l2) → All (λ x. R x k) l1
-  all_before [] k l2 h = λ i d l. absurd (omega (arith, l))
-  all_before (x ∷ l1) k l2 h = All-cons (λ y. R y k) x l1 (head (AllPairs-head R x (l1 ++ k ∷ l2) h)) (all_before l1 k l2 (AllPairs-tail R x (l1 ++ k ∷ l2) h))
-    where
-      head : All (R x) (l1 ++ k ∷ l2) → R x k
-      head a = All-contains (R x) (l1 ++ k ∷ l2) k a (Contains-append_right l1 (k ∷ l2) k (0, omega arith, refl))
+  all_before l1 k l2 h i d l = subst₂ R (get_or_append_left l1 (k ∷ l2) d i l)
+      (get_or-append_seam l1 k l2 d) (h i (length l1) d l (omega (arith, length-append l1 (k ∷ l2))))
 
   pub all_after : (l1 : List X) (k : X) (l2 : List X) → AllPairs R (l1 ++ k ∷ l2) → All (R k) l2
   all_after [] k l2 h = AllPairs-head R k l2 h
@@ -33,33 +33,34 @@ module _ {X : Type 0} (first second : X → ℕ) where
 
   -- k in the first group
   early_before : (a b c d : ℕ) → c ≤ d → ((a ≤ b) × ((d < c) ⊎ (a ≤ c))) ⊎ ((b < a) × (d < c) × (d ≤ b)) → a ≤ cond (leb c a) b (min a b)
-  early_before a b c d l (inl (m, inl n)) = absurd (omega arith)
-  early_before a b c d l (inl (m, inr n)) = cond_both (leb c a) b (min a b) (λ x. a ≤ x) (λ _. m) (λ _. omega arith)
-  early_before a b c d l (inr (m, n, o)) = absurd (omega arith)
+  early_before a b c d l h = grind (arith, nat_tests)
 
   early_after : (c d a b : ℕ) → c ≤ d → ((c ≤ d) × ((b < a) ⊎ (c ≤ a))) ⊎ ((d < c) × (b < a) × (b ≤ d)) → b ≤ cond (leb c a) b (min a b)
-  early_after c d a b l (inl (m, inl n)) = cond_both (leb c a) b (min a b) (λ x. b ≤ x) (λ _. omega arith) (λ _. omega arith)
-  early_after c d a b l (inl (m, inr n)) = cond_both (leb c a) b (min a b) (λ x. b ≤ x) (λ _. omega arith) (λ e. absurd (omega (arith, leb-false c a e)))
-  early_after c d a b l (inr (m, n, o)) = absurd (omega arith)
+  early_after c d a b l h = grind (arith, nat_tests)
 
   early_own : (c d : ℕ) → c + d ≤ c + cond (leb c c) d (min c d)
   early_own c d = cond_both (leb c c) d (min c d) (λ x. c + d ≤ c + x) (λ _. omega arith) (λ e. absurd (omega (arith, leb-false c c e)))
 
   -- k in the second group
   late_before : (a b c d : ℕ) → d < c → ((a ≤ b) × ((d < c) ⊎ (a ≤ c))) ⊎ ((b < a) × (d < c) × (d ≤ b)) → a ≤ cond (leb d b) a (min b a)
-  late_before a b c d l (inl (m, n)) = cond_both (leb d b) a (min b a) (λ x. a ≤ x) (λ _. omega arith) (λ _. omega arith)
-  late_before a b c d l (inr (m, n, o)) = cond_both (leb d b) a (min b a) (λ x. a ≤ x) (λ _. omega arith) (λ e. absurd (omega (arith, leb-false d b e)))
+  late_before a b c d l h = grind (arith, nat_tests)
 
   late_after : (c d a b : ℕ) → d < c → ((c ≤ d) × ((b < a) ⊎ (c ≤ a))) ⊎ ((d < c) × (b < a) × (b ≤ d)) → b ≤ cond (leb d b) a (min b a)
-  late_after c d a b l (inl (m, n)) = absurd (omega arith)
-  late_after c d a b l (inr (m, n, o)) = cond_both (leb d b) a (min b a) (λ x. b ≤ x) (λ _. omega arith) (λ _. omega arith)
+  late_after c d a b l h = grind (arith, nat_tests)
 
   late_own : (c d : ℕ) → c + d ≤ d + cond (leb d d) c (min d c)
   late_own c d = cond_both (leb d d) c (min d c) (λ x. c + d ≤ d + x) (λ _. omega arith) (λ e. absurd (omega (arith, leb-false d d e)))
 
   pub johnson_bound : (ready : X → ℕ) (unit end : ℕ) (l1 : List X) (k : X) (l2 : List X)
       → AllPairs (GoesBefore first second) (l1 ++ k ∷ l2) → HaveTwoStages first second ready unit end (l1 ++ k ∷ l2) → unit * way l1 k l2 ≤ end
-  johnson_bound ready unit end l1 k l2 order h = by (leb (first k) (second k)) refl
+  johnson_bound ready unit end l1 k l2 order h = elim (cases_lt (second k) (first k)) [
+    | inr l ↦ le_trans (mul-le-mul_left unit
+        (counts (added first second (first k)) l1 k l2 (λ i d m. early_before _ _ _ _ l (before i d m)) (λ i d m. early_after _ _ _ _ l (after i d m)) _ (early_own (first k) (second k))))
+        (threshold first second ready unit end (l1 ++ k ∷ l2) h (first k) k here (omega arith))
+    | inl l ↦ le_trans (mul-le-mul_left unit
+        (counts (added second first (second k)) l1 k l2 (λ i d m. late_before _ _ _ _ l (before i d m)) (λ i d m. late_after _ _ _ _ l (after i d m)) _ (late_own (first k) (second k))))
+        (threshold_from_end first second ready unit end (l1 ++ k ∷ l2) h (second k) k here (omega arith))
+  ]
     where
       before : All (λ x. GoesBefore first second x k) l1
       before = all_before (GoesBefore first second) l1 k l2 order
@@ -69,18 +70,3 @@ module _ {X : Type 0} (first second : X → ℕ) where
 
       here : Contains (l1 ++ k ∷ l2) k
       here = Contains-append_right l1 (k ∷ l2) k (0, omega arith, refl)
-
-      scaled : (u m n : ℕ) → m ≤ n → u * n ≤ end → u * m ≤ end
-      scaled u m n l b = grind arith
-
-      by : (t : Bool) → leb (first k) (second k) ≡ t → unit * way l1 k l2 ≤ end
-      by true e =
-          let l = leb-true (first k) (second k) e in
-          scaled unit _ _
-          (counts (added first second (first k)) l1 k l2 (λ i d m. early_before _ _ _ _ l (before i d m)) (λ i d m. early_after _ _ _ _ l (after i d m)) (first k) (early_own (first k) (second k)))
-          (threshold first second ready unit end (l1 ++ k ∷ l2) h (first k) k here (omega arith))
-      by false e =
-          let l = leb-false (first k) (second k) e in
-          scaled unit _ _
-          (counts (added second first (second k)) l1 k l2 (λ i d m. late_before _ _ _ _ l (before i d m)) (λ i d m. late_after _ _ _ _ l (after i d m)) (second k) (late_own (first k) (second k)))
-          (threshold_from_end first second ready unit end (l1 ++ k ∷ l2) h (second k) k here (omega arith))

@@ -1,8 +1,8 @@
 -- Pieces that touch are joined: what is said of the pieces of slices still holds, and none goes on with another.
 use Rattle.std.proofs.Common.{◌≡◌, ℕ, suc, ◌+◌, ◌<◌, ◌≤◌, ◌⊎◌, inl, inr, Bool, true, false, cond, ltb, List, [], ◌∷◌, ◌++◌, length, length-append, get_or, drop, map, All, AllPairs}
-use Rattle.std.proofs.Common.{ℤ, pos, ◌+ℤ◌, ◌≤ℤ◌, ◌<ℤ◌, ◌-ℤ◌, append_assoc, refl, sym, ap, ap₂, subst, subst₂, ◌∙◌, arith}
+use Rattle.std.proofs.Common.{ℤ, pos, ◌+ℤ◌, ◌≤ℤ◌, ◌<ℤ◌, append_assoc, refl, sym, ap, ap₂, subst, subst₂, ◌∙◌, arith}
 use Rattle.std.specs.Prelude.{◌==◌, ◌&&◌}
-use Rattle.std.proofs.lemmas.Bool.{ltb-true, ltb-false}
+use Rattle.std.proofs.lemmas.Bool.{cond-true, cond-false, lt-ltb, le-ltb}
 use Rattle.std.proofs.lemmas.Int.{ints}
 use Rattle.std.proofs.lemmas.List.{append-nil, drop_more, drop_all}
 use Rattle.std.proofs.lemmas.List.Elements.{All-nil, All-cons, All-append, All-head, All-tail}
@@ -45,11 +45,8 @@ part_joined : (c r : ℕ) (p q : Piece) → GoesOn p q → among c r (p ∷ []) 
 unfolding taken
 part_joined c r p q g = ap (λ b. taken ((p.job == c) && (p.op == r)) p +ℤ taken b q) (ap₂ (λ j o. (j == c) && (o == r)) (sym g.job) (sym g.op)) ∙ by ((p.job == c) && (p.op == r))
   where
-    sum_of : (a b c d : ℤ) → b ≡ c → (pos 0 +ℤ (b -ℤ a)) +ℤ (pos 0 +ℤ (d -ℤ c)) ≡ pos 0 +ℤ (d -ℤ a)
-    sum_of a b c d e = omega (arith, ints, e)
-
     by : (b : Bool) → taken b p +ℤ taken b q ≡ taken b (one_of p q)
-    by true = sum_of p.from p.to q.from q.to g.touch
+    by true = omega (arith, ints, g.touch)
     by false = refl
 
 among_joined : (c r : ℕ) (before after : List Piece) (p q : Piece) → GoesOn p q → among c r (before ++ p ∷ q ∷ after) ≡ among c r (before ++ one_of p q ∷ after)
@@ -231,19 +228,14 @@ column_is columns m s e = ap (λ l. get_or l m 0) e
 pub Joins-put : (columns job m : ℕ) (t begin from to : ℤ) (s : Slice) (old mid new : List Piece) → job ≡ column_of s m → job < columns
     → HasBegun job m t begin old mid → from ≡ begin → to ≡ t +ℤ s.length → new ≡ mid ++ made job m from to ∷ [] → Joins (old ++ row_part columns t s m) new
 Joins-put columns job m t begin «from» to s old mid new column inside begun same ends pushed =
-    subst₂ Joins (ap (λ xs. old ++ xs) (sym (by (ltb (column_of s m) columns) refl)))
+    let here = cond-true (ltb (column_of s m) columns) (row_piece t s m ∷ []) [] (lt-ltb (column_of s m) columns (omega (arith, column, inside))) in
+    subst₂ Joins (ap (λ xs. old ++ xs) (sym (here ∙ ap (λ j. made j m t (t +ℤ s.length) ∷ []) (sym column))))
     (sym (pushed ∙ ap₂ (λ a b. mid ++ made job m a b ∷ []) same ends)) (joins_first job m t begin (t +ℤ s.length) old mid begun)
-  where
-    by : (b : Bool) → ltb (column_of s m) columns ≡ b → cond b (row_piece t s m ∷ []) [] ≡ made job m t (t +ℤ s.length) ∷ []
-    by true e = ap (λ j. made j m t (t +ℤ s.length) ∷ []) (sym column)
-    by false e = absurd (omega (arith, ltb-false (column_of s m) columns e, column, inside))
 
 pub Joins-none : (columns job m : ℕ) (t : ℤ) (s : Slice) (old : List Piece) → job ≡ column_of s m → columns ≤ job → Joins (old ++ row_part columns t s m) old
-Joins-none columns job m t s old column outside = subst (λ xs. Joins xs old) (sym (ap (λ xs. old ++ xs) (by (ltb (column_of s m) columns) refl) ∙ append-nil old)) as_they_are
-  where
-    by : (b : Bool) → ltb (column_of s m) columns ≡ b → cond b (row_piece t s m ∷ []) [] ≡ []
-    by true e = absurd (omega (arith, ltb-true (column_of s m) columns e, column, outside))
-    by false e = refl
+Joins-none columns job m t s old column outside =
+    let none = cond-false (ltb (column_of s m) columns) (row_piece t s m ∷ []) [] (le-ltb (column_of s m) columns (omega (arith, column, outside))) in
+    subst (λ xs. Joins xs old) (sym (ap (λ xs. old ++ xs) none ∙ append-nil old)) as_they_are
 
 pub Joins-slice : (columns m k : ℕ) (t : ℤ) (x d : Slice) (slices : List Slice) (parts old new : List Piece) → k < length slices → x ≡ get_or slices k d
     → Joins parts (old ++ row_parts columns t m (drop k slices)) → Joins (old ++ row_part columns t x m) new → Joins parts (new ++ row_parts columns (t +ℤ x.length) m (drop (k + 1) slices))

@@ -1,5 +1,5 @@
 -- The laid pieces are the operations of all jobs, and when they end.
-use Rattle.std.proofs.Common.{◌*◌, ◌≡◌, ◌≢◌, ℕ, ◌+◌, ◌-◌, ◌<◌, ◌≤◌, ◌⊎◌, inl, inr, max, List, ◌++◌, length, length-append, get_or, All, AllPairs, Contains, sum_by, refl, sym, ap, subst, ◌∙◌, arith}
+use Rattle.std.proofs.Common.{◌*◌, ◌≡◌, ◌≢◌, ℕ, ◌+◌, ◌-◌, ◌<◌, ◌≤◌, ◌⊎◌, inl, inr, max, List, ◌++◌, length, length-append, get_or, All, AllPairs, Contains, sum_by, refl, sym, ap, subst, ◌∙◌, arith, pos_of_ne-zero}
 use Rattle.std.proofs.lemmas.Bool.{cases_lt}
 use Rattle.std.proofs.lemmas.List.Elements.{All-append, All-contains, Contains-append_left, Contains-append_right}
 use Rattle.msp_class.specs.declared.sizes.TheConstants.{MOST_JOBS, GREATEST}
@@ -80,26 +80,20 @@ module _ (i : Instance) (shop : IsTwoMachineShop i) (m other : ℕ) (turns : oth
   ordered a b d l k e = let r = h.tidy.in_order a b d l k e in (omega (arith, r.0, r.1), r.2)
 
   pub has_piece : (j o : ℕ) → j < length i.jobs → (need_at i j 0).machine ≡ m → o < length (job_at i j).needs → (need_at i j o).time ≢ 0 → (p : Piece) × Contains ps p × (p.job ≡ j) × (p.op ≡ o)
-  has_piece j o inside first op works = by (cases_lt o 1)
-    where
-      mine : Contains jobs (route_times i j)
-      mine = group.all j inside first
-
-      positive : (o k : ℕ) → o ≡ k → (need_at i j o).time ≢ 0 → 0 < (need_at i j k).time
-      positive o k e w = some (need_at i j k).time (λ z. w (ap (λ x. (need_at i j x).time) e ∙ z))
-        where
-          some : (t : ℕ) → t ≢ 0 → 0 < t
-          some t n = omega arith
-
-      by : (o < 1) ⊎ (1 ≤ o) → (p : Piece) × Contains ps p × (p.job ≡ j) × (p.op ≡ o)
-      by (inl l) =
-          let e : o ≡ 0 = omega (arith, l) in
-          let (p, c, a, b) = All-contains (λ t. 0 < t.first → HasPiece ps (record { op = 0; machine = m }) t.job) jobs (route_times i j) h.tidy.has_first mine (positive o 0 e works) in
-          (p, c, a, b ∙ sym e)
-      by (inr l) =
-          let e : o ≡ 1 = omega (arith, l, op, (shop.needs j inside).few) in
-          let (p, c, a, b) = All-contains (λ t. 0 < t.second → HasPiece ps (record { op = 1; machine = other }) t.job) jobs (route_times i j) h.tidy.has_second mine (positive o 1 e works) in
-          (p, c, a, b ∙ sym e)
+  has_piece j o inside first op works =
+      let mine : Contains jobs (route_times i j) = group.all j inside first in
+      elim (cases_lt o 1) [
+        | inl l ↦
+            let e : o ≡ 0 = omega (arith, l) in
+            let (p, c, a, b) = All-contains (λ t. 0 < t.first → HasPiece ps (record { op = 0; machine = m }) t.job) jobs (route_times i j) h.tidy.has_first mine
+            (pos_of_ne-zero (subst (λ k. (need_at i j k).time ≢ 0) e works)) in
+            (p, c, a, b ∙ sym e)
+        | inr l ↦
+            let e : o ≡ 1 = omega (arith, l, op, (shop.needs j inside).few) in
+            let (p, c, a, b) = All-contains (λ t. 0 < t.second → HasPiece ps (record { op = 1; machine = other }) t.job) jobs (route_times i j) h.tidy.has_second mine
+            (pos_of_ne-zero (subst (λ k. (need_at i j k).time ≢ 0) e works)) in
+            (p, c, a, b ∙ sym e)
+      ]
 
 -- ---- both groups
 module _ (i : Instance) (shop : IsTwoMachineShop i) (here there : List JobTimes) (group_here : IsGroup i 0 here) (group_there : IsGroup i 1 there) (ps : List Piece) (h : AreLaid here there ps) where
@@ -130,24 +124,14 @@ module _ (i : Instance) (shop : IsTwoMachineShop i) (here there : List JobTimes)
 
   ends : All (λ p. finish p ≤ last) both
   ends = All-append (λ p. finish p ≤ last) h.pieces_here h.pieces_there
-      (λ k d l. by_here (get_or h.pieces_here k d) (ones_here k d l)) (λ k d l. by_there (get_or h.pieces_there k d) (ones_there k d l))
-    where
-      by_here : (p : Piece) → OneHere p → finish p ≤ last
-      by_here p o = elim o.side [ inl s ↦ omega (arith, s.1) | inr s ↦ omega (arith, s.2) ]
-
-      by_there : (p : Piece) → OneThere p → finish p ≤ last
-      by_there p o = elim o.side [ inl s ↦ omega (arith, s.1) | inr s ↦ omega (arith, s.2) ]
+      (λ k d l. elim (ones_here k d l).side [ inl s ↦ omega (arith, s.1) | inr s ↦ omega (arith, s.2) ])
+      (λ k d l. elim (ones_there k d l).side [ inl s ↦ omega (arith, s.1) | inr s ↦ omega (arith, s.2) ])
 
   crossing : (p q : Piece) → OneHere p → OneThere q → IsApartOn machine_of start finish p q
-  crossing p q a b same = by a.side b.side
-    where
-      by : ((p.machine ≡ 0) × (finish p ≤ h.end_here.first)) ⊎ ((p.machine ≡ 1) × ((after there).second ≤ start p) × (finish p ≤ h.end_here.second))
-          → ((q.machine ≡ 1) × (finish q ≤ h.end_there.first)) ⊎ ((q.machine ≡ 0) × ((after here).second ≤ start q) × (finish q ≤ h.end_there.second))
-          → (finish p ≤ start q) ⊎ (finish q ≤ start p)
-      by (inl s) (inl t) = absurd (omega (arith, s.0, t.0, same))
-      by (inl s) (inr t) = inl (omega (arith, s.1, t.1, h.pass_here.first_end))
-      by (inr s) (inl t) = inr (omega (arith, s.1, t.1, h.pass_there.first_end))
-      by (inr s) (inr t) = absurd (omega (arith, s.0, t.0, same))
+  crossing p q a b same = elim a.side [
+    | inl s ↦ elim b.side [ inl t ↦ absurd (omega (arith, s.0, t.0, same)) | inr t ↦ inl (omega (arith, s.1, t.1, h.pass_here.first_end)) ]
+    | inr s ↦ elim b.side [ inl t ↦ inr (omega (arith, s.1, t.1, h.pass_there.first_end)) | inr t ↦ absurd (omega (arith, s.0, t.0, same)) ]
+  ]
 
   other_jobs : (p q : Piece) → OneHere p → OneThere q → p.job ≢ q.job
   other_jobs p q a b e = omega (arith, a.begins, b.begins, ap (λ j. (need_at i j 0).machine) e)

@@ -1,137 +1,68 @@
 -- Open shops with preemption: what an instance has, the lines of its matrix of times, and why laid slices are best.
-use Rattle.std.proofs.Common.{◌≡◌, ◌≢◌, ℕ, suc, ◌+◌, ◌*◌, ◌<◌, ◌≤◌, ◌⊎◌, inl, inr, true, cond, eqb, List, [], ◌∷◌, ◌++◌, length, get_or, map, All, AllPairs, MatchBool, ℤ, pos}
-use Rattle.std.proofs.Common.{◌+ℤ◌, ◌*ℤ◌, ◌≤ℤ◌, sum_by, append_assoc, refl, sym, ap, ap₂, subst, subst₂, ◌∙◌, arith}
+use Rattle.std.proofs.Common.{◌≡◌, ◌≢◌, ℕ, suc, ◌+◌, ◌*◌, ◌<◌, ◌≤◌, ◌⊎◌, inl, inr, true, List, [], ◌∷◌, ◌++◌, length, get_or, map, All, AllPairs, MatchBool, ℤ, pos}
+use Rattle.std.proofs.Common.{◌+ℤ◌, ◌*ℤ◌, ◌≤ℤ◌, append_assoc, refl, sym, ap, ap₂, subst, subst₂, ◌∙◌, arith}
 use Rattle.std.specs.List.{range_with_len}
 use Rattle.std.proofs.lemmas.Int.{ints}
 use Rattle.std.proofs.lemmas.Nat.{mul-le}
 use Rattle.std.proofs.lemmas.Bool.{cases_lt}
 use Rattle.std.proofs.lemmas.List.{get_or_append_left, get_or-append-add, length-append}
 use Rattle.std.proofs.lemmas.List.FromFn.{get_or-map-range_with_len, length-map-range_with_len, map-range_with_len_more}
-use Rattle.std.proofs.lemmas.List.Elements.{All-nil}
-use Rattle.msp_class.specs.declared.sizes.TheConstants.{MOST_JOBS, MOST_MACHINES, MOST_PIECES, GREATEST}
-use Rattle.msp_class.specs.declared.class.Crit.TheVariants.{Cmax}
-use Rattle.msp_class.specs.declared.environments.EnvKind.TheVariants.{OpenShop}
-use Rattle.msp_class.specs.Env.{kind_of, is_shop, is_shop_kind}
+use Rattle.msp_class.specs.declared.sizes.TheConstants.{MOST_JOBS, MOST_MACHINES, MOST_PIECES}
+use Rattle.msp_class.specs.Env.{kind_of}
 use Rattle.msp_class.specs.Sums.{total_below}
-use Rattle.msp_class.proofs.IntegerRing.{≤ℤ_trans, one-*ℤ, pos-le}
-use Rattle.msp_class.proofs.Sums.{total_below-same, total_below-bound, total_below-only, eqb_comm, int_total_below-natural}
-use Rattle.msp_instance.specs.declared.Arc.{Arc}
-use Rattle.msp_instance.specs.declared.Need.{Need}
+use Rattle.msp_class.proofs.IntegerRing.{one-*ℤ, pos-le}
+use Rattle.msp_class.proofs.Sums.{int_total_below-natural}
+use Rattle.msp_class.specs.declared.class.Env.{Env}
 use Rattle.msp_instance.specs.declared.Instance.{Instance}
-use Rattle.msp_instance.specs.Instance.{no_need, no_job, job_at, need_at}
+use Rattle.msp_instance.specs.Instance.{no_job, job_at, need_at}
 use Rattle.msp_instance.specs.Conditions.{Inner}
 use Rattle.msp_pieces.specs.declared.Piece.{Piece}
 use Rattle.msp_pieces.specs.declared.Schedule.{Schedule}
 use Rattle.msp_pieces.specs.declared.Frac.{Frac}
 use Rattle.msp_pieces.specs.Fraction.{IsOver}
-use Rattle.msp_pieces.specs.Piece.{pieces_of, IsBefore, IsApart, finish}
+use Rattle.msp_pieces.specs.Piece.{pieces_of, IsApart}
 use Rattle.msp_pieces.specs.Feasible.{Feasible, HasPlace, HasOperation, MayRun, FollowsRoute, GetsWork, IsWholeWork, total as sum, whole_work, work_of}
 use Rattle.msp_pieces.specs.Cost.{cost_of}
 use Rattle.msp_pieces.specs.Loads.{machine_load, job_length}
-use Rattle.msp_pieces.proofs.lists.Places.{sum_by-places}
-use Rattle.msp_pieces.proofs.bounds.Loads.{law_of_machines, law_of_lines}
 use Rattle.msp_pieces.proofs.feasible.OfClass.{IsOfClass-from}
+use Rattle.msp_pieces.proofs.feasible.BackToBack.{ordered_without_arcs}
 use Rattle.msp_timetable.specs.declared.matrix.Matrix.{Matrix}
 use Rattle.msp_timetable.specs.declared.matrix.Slice.{Slice}
 use Rattle.msp_timetable.specs.Split.{cell, row_sum, column_sum, total, IsMatrix, IsGreatestSum, IsSplit}
 use Rattle.msp_shops.specs.OpenCut.{open_cut_class, IsGreatestLine, IsOpenCutCost}
 use Rattle.msp_shops.specs.Joined.{AreJoined}
 use Rattle.msp_shops.specs.Sliced.{AreTimes, IsTimeMatrix, IsCutPlan}
-use Rattle.msp_shops.proofs.Shops.{IsLeastEnd, IsBestPlan, IsBestPlan-from_feasible, over_one}
+use Rattle.msp_shops.proofs.Shops.{IsBestPlan, IsBestPlan-from_feasible, over_one}
 use Rattle.msp_shops.proofs.SlicedPieces.{Differ, IsLaidPiece, AreLaid, AreLaid-parts}
 use Rattle.msp_shops.proofs.Joining.{AreLaid-joined}
+use Rattle.msp_shops.proofs.OpenFacts.{IsOpenShop, IsOpenShop-from, load_is, length_is, load_short, length_short, end_short, least_end}
 
--- ---- what an instance of the class has
-pub record IsCutInstance (i : Instance) : Type 0 where
-  pub kind : kind_of i.class.env ≡ OpenShop
-  pub shop : is_shop i.class.env ≡ true
-  pub cut : i.class.cut ≡ true
-  pub crit : i.class.crit ≡ Cmax
-  pub arcs : i.arcs ≡ []
-  pub release : All (λ j. j.release ≡ 0) i.jobs
-  pub some : 1 ≤ length i.jobs
-  pub few : length i.jobs ≤ MOST_JOBS
-  pub some_machines : 1 ≤ i.machines
-  pub few_machines : i.machines ≤ MOST_MACHINES
-  pub needs : (j : ℕ) → j < length i.jobs → length (job_at i j).needs ≡ i.machines
-  pub machines : (j o : ℕ) → j < length i.jobs → o < i.machines → (need_at i j o).machine ≡ o
-  pub times : (j o : ℕ) → j < length i.jobs → o < i.machines → (need_at i j o).time ≤ GREATEST
-
-pub IsCutInstance-from_class : (i : Instance) → i.class ≡ open_cut_class → Inner i → IsCutInstance i
-IsCutInstance-from_class i e inner =
-    let h = IsOfClass-from i open_cut_class e inner in
-    record {
-      kind = h.kind;
-      shop = ap is_shop_kind h.kind;
-      cut = h.cut;
-      crit = h.crit;
-      arcs = h.arcs;
-      release = λ k d l. (h.jobs k d l).release;
-      some = h.some;
-      few = h.few;
-      some_machines = h.machine;
-      few_machines = h.machines;
-      needs = λ j l. (h.jobs j no_job l).needs.shape.0;
-      machines = λ j o l b. let s = (h.jobs j no_job l).needs.shape in s.1 o (omega (arith, s.0, b));
-      times = λ j o l b. let n = (h.jobs j no_job l).needs in (n.times o no_need (omega (arith, n.shape.0, b))).1;
-    }
-
--- ---- loads and lengths
-on_machine : (needs : List Need) (n o : ℕ) → length needs ≡ n
-    → ((k : ℕ) → k < n → (get_or needs k no_need).machine ≡ k) → o < n → sum_by (λ n. cond (eqb n.machine o) n.time 0) needs ≡ (get_or needs o no_need).time
-on_machine needs n o size is l =
-    sum_by-places (λ (n : Need). cond (eqb n.machine o) n.time 0) needs no_need
-    ∙ ap (λ k. total_below k (λ k. cond (eqb (get_or needs k no_need).machine o) (get_or needs k no_need).time 0)) size
-    ∙ total_below-same n (λ k. cond (eqb (get_or needs k no_need).machine o) (get_or needs k no_need).time 0)
-    (λ k. cond (eqb o k) (get_or needs k no_need).time 0) (λ k m. ap (λ b. cond b (get_or needs k no_need).time 0) (ap (λ x. eqb x o) (is k m) ∙ eqb_comm k o))
-    ∙ total_below-only n (λ k. (get_or needs k no_need).time) o l
+pub IsOpenShop-from_cut : (i : Instance) → i.class ≡ open_cut_class → Inner i → IsOpenShop i
+IsOpenShop-from_cut i e inner = IsOpenShop-from i Env.O true refl (IsOfClass-from i open_cut_class e inner)
 
 -- the most slices
 abbrev most_slices : ℕ
 most_slices = MOST_MACHINES * MOST_JOBS + 2 * (MOST_MACHINES + MOST_JOBS)
 
-module _ (i : Instance) (h : IsCutInstance i) where
-  load_is : (o : ℕ) → o < i.machines → machine_load i o ≡ total_below (length i.jobs) (λ j. (need_at i j o).time)
-  load_is o l =
-      sum_by-places (λ j. sum_by (λ n. cond (eqb n.machine o) n.time 0) j.needs) i.jobs no_job
-      ∙ total_below-same (length i.jobs) _ (λ j. (need_at i j o).time) (λ j b. on_machine (job_at i j).needs i.machines o (h.needs j b) (λ k m. h.machines j k b m) l)
-
-  length_is : (j : ℕ) → j < length i.jobs → job_length i j ≡ total_below i.machines (λ o. (need_at i j o).time)
-  length_is j l = sum_by-places (λ (n : Need). n.time) (job_at i j).needs no_need ∙ ap (λ n. total_below n (λ o. (need_at i j o).time)) (h.needs j l)
-
-  load_short : (o : ℕ) → o < i.machines → machine_load i o ≤ MOST_JOBS * GREATEST
-  load_short o l = omega (arith, load_is o l, total_below-bound (length i.jobs) GREATEST (λ j. (need_at i j o).time) (λ j b. h.times j o b l), h.few)
-
-  length_short : (j : ℕ) → j < length i.jobs → job_length i j ≤ MOST_MACHINES * GREATEST
-  length_short j l = omega (arith, length_is j l, total_below-bound i.machines GREATEST (λ o. (need_at i j o).time) (λ o b. h.times j o l b), h.few_machines)
-
-  end_short : (end : ℕ) → IsGreatestLine i end → end ≤ MOST_JOBS * GREATEST
-  end_short end e = elim e.reached [ inl (m, l, f) ↦ omega (arith, f, load_short m l) | inr (j, l, f) ↦ omega (arith, f, length_short j l) ]
-
-  least_end : (end : ℕ) → IsGreatestLine i end → IsLeastEnd i end
-  least_end end e t f c b ends = elim e.reached [
-    | inl (m, l, g) ↦ subst (λ n. (t.unit *ℤ pos n) ≤ℤ c) (sym g) (law_of_machines i t m c h.shop f b ends)
-    | inr (j, l, g) ↦ subst (λ n. (t.unit *ℤ pos n) ≤ℤ c) (sym g) (≤ℤ_trans (law_of_lines i t j h.shop f l) (ends j l))
-  ]
-
+module _ (i : Instance) (h : IsOpenShop i) (cut : i.class.cut ≡ true) where
   -- ---- the matrix of times
   module _ (m : Matrix) (rows : m.rows ≡ i.machines) (columns : m.columns ≡ length i.jobs) (cells : (r c : ℕ) → r < m.rows → c < m.columns → cell m r c ≡ pos (need_at i c r).time) where
     row_is : (r : ℕ) → r < m.rows → row_sum m r ≡ pos (machine_load i r)
     row_is r l =
         int_total_below-natural m.columns (λ c. cell m r c) (λ c. (need_at i c r).time) (λ c b. cells r c l b)
-        ∙ ap pos (ap (λ n. total_below n (λ c. (need_at i c r).time)) columns ∙ sym (load_is r (omega (arith, l, rows))))
+        ∙ ap pos (ap (λ n. total_below n (λ c. (need_at i c r).time)) columns ∙ sym (load_is i h r (omega (arith, l, rows))))
 
     column_is : (c : ℕ) → c < m.columns → column_sum m c ≡ pos (job_length i c)
     column_is c l =
         int_total_below-natural m.rows (λ r. cell m r c) (λ r. (need_at i c r).time) (λ r b. cells r c b l)
-        ∙ ap pos (ap (λ n. total_below n (λ r. (need_at i c r).time)) rows ∙ sym (length_is c (omega (arith, l, columns))))
+        ∙ ap pos (ap (λ n. total_below n (λ r. (need_at i c r).time)) rows ∙ sym (length_is i h c (omega (arith, l, columns))))
 
     is_matrix : length m.cells ≡ m.rows * m.columns → IsMatrix m
     is_matrix whole = record {
       whole = whole;
       cells = λ r c l b. omega (arith, ints, cells r c l b);
-      row_sums = λ r l. omega (arith, ints, row_is r l, load_short r (omega (arith, l, rows)));
-      column_sums = λ c l. omega (arith, ints, column_is c l, length_short c (omega (arith, l, columns)));
+      row_sums = λ r l. omega (arith, ints, row_is r l, load_short i h r (omega (arith, l, rows)));
+      column_sums = λ c l. omega (arith, ints, column_is c l, length_short i h c (omega (arith, l, columns)));
     }
 
     greatest : (g : ℤ) → IsGreatestSum m g → (end : ℕ) × (g ≡ pos end) × IsGreatestLine i end
@@ -165,11 +96,8 @@ module _ (i : Instance) (h : IsCutInstance i) where
       timely : (p : Piece) → IsLaidPiece m.rows m.columns slices (pos 0) (pos 0 +ℤ g) p → (p.op < length (job_at i p.job).needs) × ((need_at i p.job p.op).time ≢ 0)
       timely p a = (
         omega (arith, a.row, rows, h.needs p.job (job_inside p a)),
-        λ z. absurd (some (need_at i p.job p.op).time z (subst (λ x. pos 1 ≤ℤ x) (split.cells p.op p.job a.row a.job ∙ cells p.op p.job a.row a.job) a.uses)),
+        λ z. omega (arith, ints, z, subst (λ x. pos 1 ≤ℤ x) (split.cells p.op p.job a.row a.job ∙ cells p.op p.job a.row a.job) a.uses),
       )
-        where
-          some : (t : ℕ) → t ≡ 0 → pos 1 ≤ℤ pos t → ⊥
-          some t z l = absurd (omega (arith, ints, z, l))
 
       place : (p : Piece) → IsLaidPiece m.rows m.columns slices (pos 0) (pos 0 +ℤ g) p → HasPlace i p
       place p a = record {
@@ -179,10 +107,7 @@ module _ (i : Instance) (h : IsCutInstance i) where
       }
 
       released : (p : Piece) → IsLaidPiece m.rows m.columns slices (pos 0) (pos 0 +ℤ g) p → (pos 1 *ℤ pos (job_at i p.job).release) ≤ℤ p.from
-      released p a = by (job_at i p.job).release (h.release p.job no_job (job_inside p a))
-        where
-          by : (r : ℕ) → r ≡ 0 → (pos 1 *ℤ pos r) ≤ℤ p.from
-          by r z = subst (λ x. x ≤ℤ p.from) (sym (one-*ℤ (pos r))) (omega (arith, ints, z, a.from))
+      released p a = omega (arith, ints, h.shop.release p.job no_job (job_inside p a), a.from)
 
       works : (j o : ℕ) → j < length i.jobs → HasOperation (kind_of i.class.env) i j o → GetsWork i (over_one ps) j o
       works j o l op =
@@ -190,7 +115,7 @@ module _ (i : Instance) (h : IsCutInstance i) where
           let row : o < m.rows = omega (arith, there, rows, h.needs j l) in
           let column : j < m.columns = omega (arith, l, columns) in
           subst₂ (λ b k. MatchBool b (sum (map (work_of k i) (pieces_of (over_one ps) j o)) ≡ pos 1 *ℤ pos (whole_work k i j o))
-          ((p : Piece) × (pieces_of (over_one ps) j o ≡ p ∷ []) × IsWholeWork k i (pos 1) p)) (sym h.cut) (sym h.kind)
+          ((p : Piece) × (pieces_of (over_one ps) j o ≡ p ∷ []) × IsWholeWork k i (pos 1) p)) (sym cut) (sym h.kind)
           (laid.work j o column row ∙ split.cells o j row column ∙ cells o j row column ∙ sym (one-*ℤ (pos (need_at i j o).time)))
 
       feasible : Feasible i (over_one ps)
@@ -198,22 +123,13 @@ module _ (i : Instance) (h : IsCutInstance i) where
         unit = omega (arith, ints);
         span = λ k d l. ((each k d l).from, (each k d l).lasts);
         place = λ k d l. place _ (each k d l);
-        machine = λ a b d l k e. on_one (get_or ps a d) (get_or ps b d) (pairs a b d l k) e;
-        job = λ a b d l k e. of_one (get_or ps a d) (get_or ps b d) (pairs a b d l k) e;
+        machine = λ a b d l k e. elim (pairs a b d l k) [ inl x ↦ x | inr x ↦ absurd (x.0 e) ];
+        job = λ a b d l k e. elim (pairs a b d l k) [ inl x ↦ x | inr x ↦ absurd (x.1 e) ];
         release = λ k d l. released _ (each k d l);
-        arc = subst (λ arcs. All (λ a. All (λ p. All (λ r. p.job ≡ a.before → r.job ≡ a.after → IsBefore p r) ps) ps) arcs)
-            (sym h.arcs) (All-nil (λ (a : Arc). All (λ p. All (λ r. p.job ≡ a.before → r.job ≡ a.after → IsBefore p r) ps) ps));
+        arc = ordered_without_arcs i.arcs ps h.shop.arcs;
         route = subst (λ k. FollowsRoute k ps) (sym h.kind) tt;
         work = works;
       }
-        where
-          on_one : (p q : Piece) → IsApart p q ⊎ Differ p q → p.machine ≡ q.machine → IsApart p q
-          on_one p q (inl a) e = a
-          on_one p q (inr a) e = absurd (a.0 e)
-
-          of_one : (p q : Piece) → IsApart p q ⊎ Differ p q → p.job ≡ q.job → IsApart p q
-          of_one p q (inl a) e = a
-          of_one p q (inr a) e = absurd (a.1 e)
 
       few : length ps ≤ MOST_PIECES
       few = by (length slices) m.rows m.columns laid.few split.few (omega (arith, rows, h.few_machines)) (omega (arith, columns, h.few))
@@ -229,12 +145,9 @@ module _ (i : Instance) (h : IsCutInstance i) where
           let (end, e, line) = greatest g split.lengths in (
             end,
             line,
-            IsBestPlan-from_feasible i h.shop h.crit h.some end (least_end end line) ps feasible few
-                (λ k d l. ended (get_or ps k d) end e (each k d l)) (pos-le (omega (arith, end_short end line))),
+            IsBestPlan-from_feasible i h.shop.kind h.shop.crit h.shop.some end (least_end i h end line) ps feasible few
+                (λ k d l. let a = each k d l in omega (arith, ints, a.to, a.from, a.lasts, e)) (pos-le (omega (arith, end_short i h end line))),
           )
-        where
-          ended : (p : Piece) (end : ℕ) → g ≡ pos end → IsLaidPiece m.rows m.columns slices (pos 0) (pos 0 +ℤ g) p → finish p ≤ end
-          ended p end e a = omega (arith, ints, a.to, a.from, a.lasts, e)
 
 -- ---- as the code has it
 pub row_next : (i : Instance) (k j : ℕ) (base old new : List ℤ) (x : ℤ) (t : ℕ) → new ≡ old ++ x ∷ [] → x ≡ pos t → t ≡ (need_at i j k).time
@@ -270,13 +183,13 @@ IsTimeMatrix-made i class inner m rows columns t =
     record {
       rows = rows;
       columns = columns;
-      matrix = is_matrix i (IsCutInstance-from_class i class inner) m rows columns cells (t.all ∙ ap₂ ◌*◌ (sym rows) (sym columns));
+      matrix = is_matrix i (IsOpenShop-from_cut i class inner) (ap (λ c. c.cut) class) m rows columns cells (t.all ∙ ap₂ ◌*◌ (sym rows) (sym columns));
       cells = cells;
     }
 
 pub IsBestPlan-from_cut : (i : Instance) → i.class ≡ open_cut_class → Inner i → (pieces : List Piece) → IsCutPlan i pieces → (end : ℕ) × IsGreatestLine i end × IsBestPlan i end (over_one pieces)
 IsBestPlan-from_cut i class inner pieces (m, slices, t, split, joins, apart) =
-    best_laid i (IsCutInstance-from_class i class inner)
+    best_laid i (IsOpenShop-from_cut i class inner) (ap (λ c. c.cut) class)
     m t.rows t.columns t.cells slices split pieces (AreLaid-joined m.rows m.columns slices joins (AreLaid-parts m.rows m.columns slices split.each))
 
 pub AreJoined-from_cut : (i : Instance) (pieces : List Piece) → IsCutPlan i pieces → AreJoined pieces

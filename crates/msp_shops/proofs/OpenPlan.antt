@@ -1,5 +1,5 @@
 -- The pieces of an open shop as the rule lays them: they are a plan, and end by the greatest of the loads and lengths.
-use Rattle.std.proofs.Common.{◌≡◌, ◌≢◌, ℕ, zero, suc, ◌+◌, ◌<◌, ◌≤◌, ◌⊎◌, inl, inr, max, List, [], ◌∷◌, ◌++◌, length, get_or, map, All, AllPairs, Contains, sum_by, refl, sym, ap}
+use Rattle.std.proofs.Common.{◌≡◌, ◌≢◌, ℕ, zero, suc, ◌+◌, ◌<◌, ◌≤◌, ◌⊎◌, inl, inr, max, List, [], ◌∷◌, ◌++◌, length, get_or, map, All, AllPairs, Contains, sum_by, refl, sym, ap, pos_of_ne-zero}
 use Rattle.std.proofs.Common.{ap₂, subst, ◌∙◌, arith, length-append}
 use Rattle.std.specs.Prelude.{IsPermutation}
 use Rattle.std.proofs.lemmas.List.{length-map, get_or-map}
@@ -14,7 +14,6 @@ use Rattle.msp_class.proofs.IntegerRing.{pos-le}
 use Rattle.msp_instance.specs.declared.Instance.{Instance}
 use Rattle.msp_instance.specs.Instance.{need_at}
 use Rattle.msp_pieces.specs.declared.Piece.{Piece}
-use Rattle.msp_pieces.specs.Loads.{machine_load}
 use Rattle.msp_pieces.specs.Intervals.{IsApartOn}
 use Rattle.msp_pieces.specs.Piece.{start, finish, IsTimed}
 use Rattle.msp_pieces.proofs.feasible.Series.{AllPairs-append}
@@ -28,7 +27,8 @@ use Rattle.msp_shops.specs.Times.{times_at}
 use Rattle.msp_shops.specs.OpenOrder.{all_times, IsSpecial, AreGrouped}
 use Rattle.msp_shops.proofs.Parts.{All-part, Contains-part, AllPairs-part, length-part}
 use Rattle.msp_shops.proofs.Shops.{IsTimely, IsShopPlan, IsBestPlan, IsBestPlan-from_plan, over_one}
-use Rattle.msp_shops.proofs.OpenFacts.{IsOpenInstance, job_numbers, one_or_other, load_is, length_is, end_short, least_end, critical_end}
+use Rattle.msp_shops.proofs.OpenFacts.{IsOpenInstance, job_numbers, one_or_other, load_is, end_short, least_end, critical_end, length_of_two, greatest_line}
+use Rattle.msp_shops.proofs.InLine.{job_of}
 
 -- ---- all jobs, the special one before the others
 pub record AreStages (first second : Stage) : Type 0 where
@@ -50,6 +50,9 @@ distinct_from_map f xs h a b d l m e =
 in_front : {X : Type 0} (x : X) (xs : List X) (y : X) → Contains (x ∷ xs) y → (x ≡ y) ⊎ Contains xs y
 in_front x xs y (zero, l, e) = inl e
 in_front x xs y (suc k, l, e) = inr (k, omega arith, e)
+
+either_of : (o a b : ℕ) → o < 2 → a < 2 → b < 2 → a ≢ b → (o ≡ a) ⊎ (o ≡ b)
+either_of o a b k l m n = grind arith
 
 both_operations : (f : ℕ → ℕ) (a b : ℕ) → a < 2 → b < 2 → a ≢ b → f a + f b ≡ f 0 + f 1
 both_operations f a b l m n = by (one_or_other a l) (one_or_other b m)
@@ -97,10 +100,13 @@ module _ (i : Instance) (h : IsOpenInstance i) (first second : Stage)
   not_special = AllPairs-head (λ a b. a.job ≢ b.job) special others distinct
 
   few_others : length others ≤ MOST_JOBS
-  few_others = omega (arith, length-OnceBelow once, length-map jobs (λ t. t.job), h.few)
+  few_others = omega (arith, length-OnceBelow once, length-map jobs (λ t. t.job), h.is.few)
 
   short : All (λ t. (t.first ≤ GREATEST) × (t.second ≤ GREATEST)) jobs
-  short k d l = let r = read k d l in (omega (arith, r.first_time, h.times _ first.op r.inside g.one_small), omega (arith, r.second_time, h.times _ second.op r.inside g.two_small))
+  short k d l = let r = read k d l in (
+    omega (arith, r.first_time, h.is.times _ first.op r.inside (omega (arith, g.one_small, h.two))),
+    omega (arith, r.second_time, h.is.times _ second.op r.inside (omega (arith, g.two_small, h.two))),
+  )
 
   pub is_ready : IsReady i first second special others
   is_ready = record {
@@ -117,10 +123,7 @@ module _ (i : Instance) (h : IsOpenInstance i) (first second : Stage)
 
   module _ (end : ℕ) (e : IsOpenEnd i end) where
     load_ends : (o : ℕ) → o < 2 → total_below (length i.jobs) (λ j. (need_at i j o).time) ≤ end
-    load_ends o l = elim (one_or_other o l) [
-      | inl z ↦ omega (arith, sym (load_is i h o l), ap (machine_load i) z, e.first_load)
-      | inr z ↦ omega (arith, sym (load_is i h o l), ap (machine_load i) z, e.second_load)
-    ]
+    load_ends o l = let m : o < i.machines = omega (arith, l, h.two) in omega (arith, load_is i h.is o m, (greatest_line i h end e).loads o m)
 
     sum_of : (f : JobTimes → ℕ) → f special + sum_by f others ≡ total_below (length i.jobs) (λ j. f (times_at i first.op second.op j))
     sum_of f = sym (sum_by-cons f special others) ∙ sum_by-IsPermutation f times jobs all
@@ -141,7 +144,7 @@ module _ (i : Instance) (h : IsOpenInstance i) (first second : Stage)
           r.second_time,
           both_operations (λ o. (need_at i special.job o).time)
               first.op second.op g.one_small g.two_small g.other,
-          length_is i h special.job r.inside,
+          length_of_two i h special.job r.inside,
           e.lengths special.job r.inside,
         )
 
@@ -175,9 +178,9 @@ module _ (i : Instance) (h : IsOpenInstance i) (first second : Stage)
       second_ends : to.second ≤ end
       second_ends = critical_end others special.first special.second end to.second s.lesser_first s.greatest grouped first_sum second_sum p.second_end
 
-      each : (P : Piece → Type 0) → P two → All P laid → P one → All P pieces
+      each : (P : Piece → Type 0) → (0 < special.second → P two) → All P laid → (0 < special.first → P one) → All P pieces
       each P a b c = All-append P (before ++ laid) after
-          (All-append P before laid (All-part P special.job second 0 special.second (λ _. a)) b) (All-part P special.job first last special.first (λ _. c))
+          (All-append P before laid (All-part P special.job second 0 special.second a) b) (All-part P special.job first last special.first c)
 
       pairs : (R : Piece → Piece → Type 0) → All (R two) laid → AllPairs R laid → All (λ q. R q one) laid → R two one → AllPairs R pieces
       pairs R a b c d =
@@ -211,29 +214,17 @@ module _ (i : Instance) (h : IsOpenInstance i) (first second : Stage)
           let r : IsRead i first second special = All-head (IsRead i first second) special others read in
           let rest : All (IsRead i first second) others = All-tail (IsRead i first second) special others read in
           each Known
-          (known_by second special.job special.second 0 special.second two (record { job = refl; op = refl; machine = refl; whole = refl; from = omega arith; to = omega arith })
-          r.inside r.second_time g.two g.two_small (omega (arith, line)))
+          (λ _. known_by second special.job special.second 0 special.second two
+          (record { job = refl; op = refl; machine = refl; whole = refl; from = omega arith; to = omega arith }) r.inside r.second_time g.two g.two_small (omega (arith, line)))
           (λ k d l. let (t, c, o) = p.tidy.known k d l in known_of (get_or laid k d) t (All-contains (IsRead i first second) others t rest c) o)
-          (known_by first special.job special.first 0 end one (record { job = refl; op = refl; machine = refl; whole = refl; from = omega arith; to = omega (arith, first_ends, line) })
+          (λ _. known_by first _ special.first 0 end one (record { job = refl; op = refl; machine = refl; whole = refl; from = omega arith; to = omega (arith, first_ends, line) })
           r.inside r.first_time g.one g.one_small (omega arith))
 
       different : first.machine ≢ second.machine
       different z = g.other (sym g.one ∙ z ∙ g.two)
 
-      after_two : (q : Piece) (t : JobTimes) → IsOf first second from to q t → IsApartOn machine_of start finish two q
-      after_two q t (inl o) z = absurd (different (sym o.machine ∙ sym z))
-      after_two q t (inr o) z = inl (omega (arith, o.from))
-
-      before_one : (q : Piece) (t : JobTimes) → IsOf first second from to q t → IsApartOn machine_of start finish q one
-      before_one q t (inl o) z = inl (omega (arith, o.to))
-      before_one q t (inr o) z = absurd (different (sym z ∙ o.machine))
-
-      job_is : (q : Piece) (t : JobTimes) → IsOf first second from to q t → q.job ≡ t.job
-      job_is q t (inl o) = o.job
-      job_is q t (inr o) = o.job
-
       not_of_special : All (λ q. special.job ≢ q.job) laid
-      not_of_special k d l z = let (t, c, o) = p.tidy.known k d l in All-contains (λ t. special.job ≢ t.job) others t not_special c (z ∙ job_is (get_or laid k d) t o)
+      not_of_special k d l z = let (t, c, o) = p.tidy.known k d l in All-contains (λ t. special.job ≢ t.job) others t not_special c (z ∙ job_of first second from to _ t o)
 
       abbrev InOrder : Piece → Piece → Type 0
       InOrder q r = q.job ≡ r.job → (q.op ≢ r.op) × (finish q ≤ start r)
@@ -247,19 +238,13 @@ module _ (i : Instance) (h : IsOpenInstance i) (first second : Stage)
 
       apart : AllPairs (IsApartOn machine_of start finish) pieces
       apart = pairs (IsApartOn machine_of start finish)
-          (λ k d l. let (t, c, o) = p.tidy.known k d l in after_two (get_or laid k d) t o)
+          (λ k d l z. elim (p.tidy.known k d l).2 [ inl x ↦ absurd (different (sym x.machine ∙ sym z)) | inr x ↦ inl (omega (arith, x.from)) ])
           p.tidy.apart
-          (λ k d l. let (t, c, o) = p.tidy.known k d l in before_one (get_or laid k d) t o)
+          (λ k d l z. elim (p.tidy.known k d l).2 [ inl x ↦ inl (omega (arith, x.to)) | inr x ↦ absurd (different (sym z ∙ x.machine)) ])
           (λ z. absurd (different (sym z)))
 
       in_laid : (stage : Stage) (j : ℕ) → HasPiece laid stage j → HasPiece pieces stage j
       in_laid stage j (q, c, x, y) = (q, Contains-append_left (before ++ laid) after q (Contains-append_right before laid q c), x, y)
-
-      some_time : (j o : ℕ) → (need_at i j o).time ≢ 0 → 0 < (need_at i j o).time
-      some_time j o n = positive (need_at i j o).time n
-        where
-          positive : (t : ℕ) → t ≢ 0 → 0 < t
-          positive t n = omega arith
 
       has_first : (j : ℕ) → (special ≡ times_at i first.op second.op j) ⊎ Contains others (times_at i first.op second.op j) → 0 < (need_at i j first.op).time → HasPiece pieces first j
       has_first j (inl z) n =
@@ -276,43 +261,31 @@ module _ (i : Instance) (h : IsOpenInstance i) (first second : Stage)
       )
       has_second j (inr c) n = in_laid second j (All-contains (λ t. 0 < t.second → HasPiece laid second t.job) others (times_at i first.op second.op j) p.tidy.has_second c n)
 
-      which : (o : ℕ) → o < 2 → (o ≡ first.op) ⊎ (o ≡ second.op)
-      which o l = by (one_or_other o l) (one_or_other first.op g.one_small) (one_or_other second.op g.two_small)
-        where
-          by : (o ≡ 0) ⊎ (o ≡ 1) → (first.op ≡ 0) ⊎ (first.op ≡ 1) → (second.op ≡ 0) ⊎ (second.op ≡ 1) → (o ≡ first.op) ⊎ (o ≡ second.op)
-          by (inl a) (inl b) c = inl (a ∙ sym b)
-          by (inl a) (inr b) (inl c) = inr (a ∙ sym c)
-          by (inl a) (inr b) (inr c) = absurd (g.other (b ∙ sym c))
-          by (inr a) (inr b) c = inl (a ∙ sym b)
-          by (inr a) (inl b) (inr c) = inr (a ∙ sym c)
-          by (inr a) (inl b) (inl c) = absurd (g.other (b ∙ sym c))
-
       has_all : (j o : ℕ) → j < length i.jobs → IsTimely i j o → (q : Piece) × Contains pieces q × (q.job ≡ j) × (q.op ≡ o)
-      has_all j o l (m, n) = elim (which o (omega (arith, m, h.needs j l))) [
-        | inl z ↦ let (q, c, x, y) = has_first j (has_job j l) (subst (λ k. 0 < (need_at i j k).time) z (some_time j o n)) in (q, c, x, y ∙ sym z)
-        | inr z ↦ let (q, c, x, y) = has_second j (has_job j l) (subst (λ k. 0 < (need_at i j k).time) z (some_time j o n)) in (q, c, x, y ∙ sym z)
+      has_all j o l (m, n) = elim (either_of o first.op second.op (omega (arith, m, h.is.needs j l, h.two)) g.one_small g.two_small g.other) [
+        | inl z ↦ let (q, c, x, y) = has_first j (has_job j l) (subst (λ k. 0 < (need_at i j k).time) z (pos_of_ne-zero n)) in (q, c, x, y ∙ sym z)
+        | inr z ↦ let (q, c, x, y) = has_second j (has_job j l) (subst (λ k. 0 < (need_at i j k).time) z (pos_of_ne-zero n)) in (q, c, x, y ∙ sym z)
       ]
 
       timed : All IsTimed pieces
-      timed = All-append IsTimed (before ++ laid) after
-          (All-append IsTimed before laid (All-part IsTimed special.job second 0 special.second (λ b. record { from = refl; to = refl; lasts = omega (arith, b) })) p.tidy.timed)
-          (All-part IsTimed special.job first last special.first (λ b. record { from = refl; to = refl; lasts = omega (arith, b) }))
+      timed = each IsTimed (λ b. record { from = refl; to = refl; lasts = omega (arith, b) }) p.tidy.timed
+          (λ b. record { from = refl; to = refl; lasts = omega (arith, b) })
 
       plan : IsShopPlan i pieces
       plan = record {
         timed = timed;
         job = λ k d l. (known k d l).0;
-        operation = λ k d l. omega (arith, (known k d l).1, h.needs (get_or pieces k d).job (known k d l).0);
-        machine = λ k d l. (known k d l).2 ∙ sym (h.machines (get_or pieces k d).job (get_or pieces k d).op (known k d l).0 (known k d l).1);
+        operation = λ k d l. omega (arith, (known k d l).1, h.is.needs (get_or pieces k d).job (known k d l).0, h.two);
+        machine = λ k d l. let n = known k d l in n.2 ∙ sym (h.is.machines _ (get_or pieces k d).op n.0 (omega (arith, n.1, h.two)));
         whole = λ k d l. (known k d l).3;
         apart = apart;
         in_order = in_order;
-        route = inl h.kind;
+        route = inl h.is.kind;
         each = has_all;
       }
 
       pub IsBestPlan-from_laid : IsBestPlan i end (over_one pieces)
-      IsBestPlan-from_laid = IsBestPlan-from_plan i h.shop end (least_end i h end e) pieces plan
+      IsBestPlan-from_laid = IsBestPlan-from_plan i h.is.shop end (least_end i h.is end (greatest_line i h end e)) pieces plan
           (omega (
             arith,
             length-append (before ++ laid)
@@ -324,4 +297,4 @@ module _ (i : Instance) (h : IsOpenInstance i) (first second : Stage)
             few_others,
           ))
           (λ k d l. (known k d l).4)
-          (pos-le (omega (arith, end_short i h end e)))
+          (pos-le (omega (arith, end_short i h.is end (greatest_line i h end e))))

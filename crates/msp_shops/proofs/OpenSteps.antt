@@ -1,14 +1,13 @@
 -- The jobs of an open shop as the code takes and lays them.
-use Rattle.std.proofs.Common.{◌≡◌, ℕ, suc, ◌+◌, ◌<◌, ◌≤◌, List, [], ◌∷◌, ◌++◌, length, get_or, map, All, sym, ap, ◌∙◌, ap₂, subst, subst₂, zero-add, Option, Some, arith}
+use Rattle.std.proofs.Common.{◌≡◌, ℕ, ◌+◌, ◌<◌, ◌≤◌, List, [], ◌∷◌, ◌++◌, length, get_or, map, All, sym, ap, ◌∙◌, ap₂, subst, subst₂, zero-add, Option, Some, arith}
 use Rattle.std.proofs.Common.{length-append, inl, inr, AllPairs, pos, refl}
 use Rattle.std.specs.Prelude.{IsPermutation}
 use Rattle.std.specs.List.{range_with_len}
 use Rattle.std.specs.List.Sorted.{IsNonDecreasingBy}
 use Rattle.std.specs.Option.{option_to_list}
-use Rattle.std.proofs.lemmas.List.{map-append, get_or_append_left}
+use Rattle.std.proofs.lemmas.List.{get_or_append_left}
 use Rattle.std.proofs.Math.Seq.{get_or-append_seam}
 use Rattle.std.proofs.lemmas.List.Sorted.{IsPermutation-trans, IsPermutation-append_comm, IsPermutation-map, IsPermutation-append_right, All-permutation}
-use Rattle.msp_class.proofs.Sums.{range_with_len_last}
 use Rattle.msp_instance.specs.declared.Instance.{Instance}
 use Rattle.msp_shops.specs.declared.pass.JobTimes.{JobTimes}
 use Rattle.msp_shops.specs.Groups.{route_times}
@@ -16,6 +15,7 @@ use Rattle.msp_shops.specs.Times.{times_at}
 use Rattle.msp_shops.specs.Order.{GoesBefore}
 use Rattle.msp_shops.specs.OpenOrder.{lesser, AreGrouped, all_times, turned, IsLaid, IsLaidOut, on_first, on_second, IsOpenPlan}
 use Rattle.std.proofs.lemmas.List.Elements.{All-map}
+use Rattle.std.proofs.lemmas.List.FromFn.{map-range_with_len_more}
 use Rattle.msp_instance.specs.Conditions.{Inner}
 use Rattle.msp_pieces.specs.declared.Piece.{Piece}
 use Rattle.msp_pieces.specs.declared.Schedule.{Schedule}
@@ -57,11 +57,7 @@ greatest_popped sorted rest o x h e f k d l =
 pub times_next : (i : Instance) (old new : List JobTimes) (k : ℕ) (x : JobTimes)
     → new ≡ old ++ x ∷ [] → x ≡ route_times i k → old ≡ map (route_times i) (range_with_len 0 k) → new ≡ map (route_times i) (range_with_len 0 (k + 1))
 times_next i old new k x e one so_far =
-    e ∙ ap₂ (λ l y. l ++ y ∷ []) so_far one ∙ sym (map-append (route_times i) (range_with_len 0 k) (k ∷ []))
-    ∙ ap (λ n. map (route_times i) (range_with_len 0 k ++ n ∷ [])) (sym (zero-add k)) ∙ ap (map (route_times i)) (sym (range_with_len_last 0 k) ∙ ap (range_with_len 0) place)
-  where
-    place : suc k ≡ k + 1
-    place = omega arith
+    e ∙ ap₂ (λ l y. l ++ y ∷ []) so_far one ∙ sym (map-range_with_len_more (route_times i) 0 k k (zero-add k))
 
 -- ---- as the code has it
 first_stages : AreStages on_first on_second
@@ -78,14 +74,14 @@ best_laid : (i : Instance) → IsOpenInstance i → (first second : Stage) → A
 best_laid i h first second g ps w =
     let (to, laid, p, e) = w.laid in
     subst (λ l. IsBestPlan i (open_end i) (over_one l)) (sym e)
-    (IsBestPlan-from_laid i h first second g w.special w.others w.all (open_end i) (IsOpenEnd-open_end i h.shop.some) w.is_special w.grouped to laid p)
+    (IsBestPlan-from_laid i h first second g w.special w.others w.all (open_end i) (IsOpenEnd-open_end i h.is.shop.some) w.is_special w.grouped to laid p)
 
 pub IsBestPlan-from_open : (i : Instance) → i.class ≡ open_class → Inner i → (ps : List Piece) → IsOpenPlan i ps → IsBestPlan i (open_end i) (over_one ps)
 IsBestPlan-from_open i class inner ps (inl w) = best_laid i (IsOpenInstance-from_class i class inner) on_first on_second first_stages ps w
 IsBestPlan-from_open i class inner ps (inr w) = best_laid i (IsOpenInstance-from_class i class inner) on_second on_first second_stages ps w
 
 pub IsOpenCost-read : (i : Instance) → i.class ≡ open_class → Inner i → (cost : Frac) (s : Schedule) → IsBestPlan i (open_end i) s → IsOver cost (cost_of i s) (pos 1) → IsOpenCost i cost
-IsOpenCost-read i class inner cost s w over = (open_end i, IsOpenEnd-open_end i (IsOpenInstance-from_class i class inner).shop.some, subst (λ x. IsOver cost x (pos 1)) w.cost over)
+IsOpenCost-read i class inner cost s w over = (open_end i, IsOpenEnd-open_end i (IsOpenInstance-from_class i class inner).is.shop.some, subst (λ x. IsOver cost x (pos 1)) w.cost over)
 
 sorted_rest : (times rest sorted : List JobTimes) (special : JobTimes) → IsPermutation times (special ∷ rest) → IsPermutation rest sorted → IsPermutation times (special ∷ sorted)
 sorted_rest times rest sorted special p q = IsPermutation-trans times (special ∷ rest) (special ∷ sorted) p (IsPermutation-append_right (special ∷ []) rest sorted q)

@@ -1,5 +1,5 @@
 -- The pieces of an operation: one where it takes time, else none; and those of a job more.
-use Rattle.std.proofs.Common.{◌≡◌, ℕ, ◌<◌, ◌≤◌, List, [], ◌∷◌, ◌++◌, length, get_or, All, AllPairs, Contains, refl, arith}
+use Rattle.std.proofs.Common.{ℕ, ◌<◌, ◌≤◌, List, [], ◌∷◌, ◌++◌, length, get_or, All, AllPairs, Contains, refl, arith, pos_of_ne-zero}
 use Rattle.std.specs.Prelude.{◌==◌}
 use Rattle.std.proofs.lemmas.Bool.{cond_both, eqb-true, eqb-false}
 use Rattle.std.proofs.lemmas.List.Elements.{All-nil, All-cons, All-append}
@@ -10,10 +10,7 @@ use Rattle.msp_shops.specs.Pass.{whole_piece, part}
 
 pub All-part : (P : Piece → Type 0) (job : ℕ) (stage : Stage) (begin time : ℕ) → (0 < time → P (whole_piece job stage begin time)) → All P (part job stage begin time)
 All-part P job stage begin time h = cond_both (time == 0) [] (whole_piece job stage begin time ∷ []) (All P)
-    (λ _. All-nil P) (λ e. All-cons P (whole_piece job stage begin time) [] (h (positive time (eqb-false time 0 e))) (All-nil P))
-  where
-    positive : (t : ℕ) → (t ≡ 0 → ⊥) → 0 < t
-    positive t n = omega arith
+    (λ _. All-nil P) (λ e. All-cons P (whole_piece job stage begin time) [] (h (pos_of_ne-zero (eqb-false time 0 e))) (All-nil P))
 
 pub Contains-part : (job : ℕ) (stage : Stage) (begin time : ℕ) → 0 < time → Contains (part job stage begin time) (whole_piece job stage begin time)
 Contains-part job stage begin time some = cond_both (time == 0) [] (whole_piece job stage begin time ∷ [])

@@ -2,7 +2,7 @@
 use Rattle.std.proofs.Common.{◌≡◌, ◌≢◌, ℕ, ◌*◌, ◌-◌, ◌<◌, ◌≤◌, inl, inr, Bool, true, false, cond, eqb, List, [], ◌∷◌, length, get_or, map, filter, All, AllPairs, MatchBool}
 use Rattle.std.proofs.Common.{pos, nat_abs, ◌*ℤ◌, sum_by, refl, sym, ap, ap₂, subst, ◌∙◌, arith}
 use Rattle.std.specs.Prelude.{◌==◌, ◌&&◌}
-use Rattle.std.proofs.lemmas.Bool.{cases_lt, eqb-true, eqb-false, eq-eqb}
+use Rattle.std.proofs.lemmas.Bool.{cases_lt, eqb-true, eq-eqb, and_from}
 use Rattle.std.proofs.lemmas.Int.{ints}
 use Rattle.std.proofs.lemmas.List.Elements.{All-filter, filter_passes}
 use Rattle.std.proofs.Math.ListN.{get_or-eq_default}
@@ -11,6 +11,7 @@ use Rattle.msp_class.specs.declared.environments.EnvKind.TheVariants.{FlowShop, 
 use Rattle.msp_class.specs.Env.{kind_of}
 use Rattle.msp_class.proofs.IntegerRing.{natural, pos-same, +ℤ_idl}
 use Rattle.msp_class.proofs.Sums.{sum_by-filter, sum_by-mono}
+use Rattle.msp_class.proofs.Cases.{same_or_not}
 use Rattle.msp_instance.specs.declared.Instance.{Instance}
 use Rattle.msp_instance.specs.Instance.{job_at, need_at, no_need}
 use Rattle.msp_pieces.specs.declared.Piece.{Piece}
@@ -154,27 +155,18 @@ module _ (i : Instance) (shop : IsTwoMachineShop i) (s : Schedule) (f : Feasible
 
     -- and it is work on the operation's machine
     pub work_on_machine : (m : ℕ) → (time ≢ 0 → (need_at i j o).machine ≡ m) → unit * time ≤ work_of job_of start finish (on m) j
-    work_on_machine m is = by (eqb time 0) refl
+    work_on_machine m is = elim (same_or_not time 0) [
+      | inl z ↦ omega (arith, ap (λ n. unit * n) z)
+      | inr works ↦ omega (
+        arith,
+        worked works,
+        sum_by-wider (size_of start finish) (λ p. (p.job == j) && (p.op == o)) (λ p. eqb p.machine m && eqb p.job j) s.pieces (λ k d l. on_it works (get_or s.pieces k d) (own_places k d l)),
+        ap (sum_by (size_of start finish)) (filter-both (λ p. eqb p.machine m) (λ p. eqb p.job j) s.pieces),
+      )
+    ]
       where
-        none : (t x : ℕ) → t ≡ 0 → unit * t ≤ x
-        none t x e = subst (λ n. unit * n ≤ x) (sym e) (omega arith)
-
-        both : (a b : Bool) → a ≡ true → b ≡ true → (a && b) ≡ true
-        both a b e f = cc
-
         on_it : time ≢ 0 → (p : Piece) → HasOwnPlace p → ((p.job == j) && (p.op == o)) ≡ true → (eqb p.machine m && eqb p.job j) ≡ true
         on_it works p h e =
             let (a, b) = both_true _ _ e in
             let on : p.machine ≡ m = h.machine ∙ ap₂ (λ k n. (need_at i k n).machine) (eqb-true _ _ a) (eqb-true _ _ b) ∙ is works in
-            both _ _ (eq-eqb _ _ on) a
-
-        by : (b : Bool) → eqb time 0 ≡ b → unit * time ≤ work_of job_of start finish (on m) j
-        by true e = none time _ (eqb-true _ _ e)
-        by false e =
-            let works : time ≢ 0 = eqb-false _ _ e in
-            omega (
-              arith,
-              worked works,
-              sum_by-wider (size_of start finish) (λ p. (p.job == j) && (p.op == o)) (λ p. eqb p.machine m && eqb p.job j) s.pieces (λ k d l. on_it works (get_or s.pieces k d) (own_places k d l)),
-              ap (sum_by (size_of start finish)) (filter-both (λ p. eqb p.machine m) (λ p. eqb p.job j) s.pieces),
-            )
+            and_from _ _ (eq-eqb _ _ on) a

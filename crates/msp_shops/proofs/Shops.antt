@@ -1,19 +1,18 @@
 -- Pieces of a shop, one for each operation, as a schedule over the unit 1: when it is feasible, and when no feasible schedule ends earlier.
 use Rattle.std.proofs.Common.{◌≡◌, ◌≢◌, ℕ, ◌+◌, ◌*◌, ◌<◌, ◌≤◌, ◌⊎◌, inl, inr, true, false, List, [], ◌∷◌, length, get_or, map, ℤ, pos, nat_abs, ◌*ℤ◌, ◌≤ℤ◌, ◌<ℤ◌, All}
-use Rattle.std.proofs.Common.{AllPairs, Contains, Bool, MatchBool, refl, sym, ap, ap₂, ◌∙◌, subst, subst₂, arith}
+use Rattle.std.proofs.Common.{AllPairs, Contains, Bool, MatchBool, refl, sym, ap, ap₂, ◌∙◌, subst, subst₂, arith, rules}
 use Rattle.std.specs.Prelude.{◌==◌, ◌&&◌}
-use Rattle.std.proofs.lemmas.Bool.{eq-eqb}
+use Rattle.std.proofs.lemmas.Bool.{eq-eqb, and_from}
 use Rattle.std.proofs.lemmas.Int.{ints}
-use Rattle.std.proofs.lemmas.List.Elements.{All-nil, Contains-get_or}
+use Rattle.std.proofs.lemmas.List.Elements.{Contains-get_or}
 use Rattle.std.proofs.lemmas.List.Kept.{AllPairs-filter}
 use Rattle.msp_class.specs.declared.sizes.TheConstants.{MOST_PIECES}
 use Rattle.msp_class.specs.declared.environments.EnvKind.{EnvKind}
-use Rattle.msp_class.specs.declared.environments.EnvKind.TheVariants.{Unrelated, OpenShop, FlowShop, JobShop}
+use Rattle.msp_class.specs.declared.environments.EnvKind.TheVariants.{OpenShop}
 use Rattle.msp_class.specs.declared.class.Crit.TheVariants.{Cmax}
 use Rattle.msp_class.specs.Env.{kind_of, is_shop_kind, is_shop}
 use Rattle.msp_class.proofs.IntegerRing.{natural, pos-le, ≤ℤ_antisym, +ℤ_idl, *ℤ_comm, *ℤ-one, one-*ℤ, ≤ℤ_trans}
 use Rattle.msp_class.proofs.Sums.{AllPairs-contains, Contains-filter}
-use Rattle.msp_instance.specs.declared.Arc.{Arc}
 use Rattle.msp_instance.specs.declared.Instance.{Instance}
 use Rattle.msp_instance.specs.Instance.{no_job, job_at, need_at}
 use Rattle.msp_pieces.specs.declared.Piece.{Piece}
@@ -21,14 +20,16 @@ use Rattle.msp_pieces.specs.declared.Schedule.{Schedule}
 use Rattle.msp_pieces.specs.Piece.{length_of, pieces_of, IsBefore, start, finish, IsTimed}
 use Rattle.msp_pieces.specs.Feasible.{Feasible, HasPlace, HasOperation, MayRun, FollowsRoute, GetsWork, IsWholeWork, total, whole_work, work_of}
 use Rattle.msp_pieces.specs.Cost.{cost_of, end_of, Best}
-use Rattle.msp_pieces.specs.Within.{IsMoment, Within}
+use Rattle.msp_pieces.specs.Within.{Within}
 use Rattle.msp_pieces.specs.Intervals.{IsApartOn}
 use Rattle.msp_pieces.proofs.feasible.OneMachine.{IsTimed-from_span, apart_in_int}
 use Rattle.msp_pieces.proofs.feasible.Frames.{of_operation-named, of_one, named_one}
 use Rattle.msp_pieces.proofs.feasible.LastEnds.{last_end-bound}
 use Rattle.msp_pieces.proofs.costs.Makespan.{cost_natural, ends_by_cost, cost_by_ends}
+use Rattle.msp_pieces.proofs.feasible.BackToBack.{ordered_without_arcs}
 use Rattle.msp_route.specs.declared.bounds.TheConstants.{GREATEST_ANSWER_MOMENT}
 use Rattle.msp_route.specs.Bounds.{IsAnswer, answer_unit}
+use Rattle.msp_route.proofs.Owed.{answer_is_within}
 use Rattle.msp_shops.specs.Pass.{machine_of}
 
 -- ---- the kinds of shops
@@ -38,55 +39,34 @@ IsTimely i j o = (o < length (job_at i j).needs) × ((need_at i j o).time ≢ 0)
 
 has_by : (k : EnvKind) (i : Instance) (j o : ℕ) → is_shop_kind k ≡ true → IsTimely i j o → HasOperation k i j o
 has_by OpenShop i j o s h = h
-has_by FlowShop i j o s h = h
-has_by JobShop i j o s h = h
-has_by _ i j o s h = absurd (cc)
+has_by _ i j o s h = search rules
 
 by_has : (k : EnvKind) (i : Instance) (j o : ℕ) → is_shop_kind k ≡ true → HasOperation k i j o → IsTimely i j o
 by_has OpenShop i j o s h = h
-by_has FlowShop i j o s h = h
-by_has JobShop i j o s h = h
-by_has _ i j o s h = absurd (cc)
+by_has _ i j o s h = search rules
 
 may_by : (k : EnvKind) (i : Instance) (j o m : ℕ) → is_shop_kind k ≡ true → m ≡ (need_at i j o).machine → MayRun k i j o m
 may_by OpenShop i j o m s h = h
-may_by FlowShop i j o m s h = h
-may_by JobShop i j o m s h = h
-may_by _ i j o m s h = absurd (cc)
+may_by _ i j o m s h = search rules
 
 whole_by : (k : EnvKind) (i : Instance) (unit : ℤ) (p : Piece) → is_shop_kind k ≡ true → length_of p ≡ unit *ℤ pos (need_at i p.job p.op).time → IsWholeWork k i unit p
 whole_by OpenShop i unit p s h = h
-whole_by FlowShop i unit p s h = h
-whole_by JobShop i unit p s h = h
-whole_by _ i unit p s h = absurd (cc)
+whole_by _ i unit p s h = search rules
 
 sums_by : (k : EnvKind) (i : Instance) (ps : List Piece) (j o : ℕ) (unit : ℤ)
     → is_shop_kind k ≡ true → total (map length_of ps) ≡ unit *ℤ pos (need_at i j o).time → total (map (work_of k i) ps) ≡ unit *ℤ pos (whole_work k i j o)
 sums_by OpenShop i ps j o unit s h = h
-sums_by FlowShop i ps j o unit s h = h
-sums_by JobShop i ps j o unit s h = h
-sums_by _ i ps j o unit s h = absurd (cc)
+sums_by _ i ps j o unit s h = search rules
 
 route_by : (k : EnvKind) (ps : List Piece) → is_shop_kind k ≡ true → (k ≡ OpenShop) ⊎ All (λ p. All (λ q. p.job ≡ q.job → p.op < q.op → IsBefore p q) ps) ps → FollowsRoute k ps
 route_by OpenShop ps s h = tt
-route_by FlowShop ps s (inr h) = h
-route_by JobShop ps s (inr h) = h
-route_by FlowShop ps s (inl e) = absurd (cc)
-route_by JobShop ps s (inl e) = absurd (cc)
-route_by _ ps s h = absurd (cc)
+route_by _ ps s (inr h) = search rules
+route_by _ ps s (inl e) = absurd (cc)
 
 -- the unit is within the limits of an answer
 unit_by : (k : EnvKind) → is_shop_kind k ≡ true → pos 1 ≤ℤ answer_unit k
 unit_by OpenShop s = omega (arith, ints)
-unit_by FlowShop s = omega (arith, ints)
-unit_by JobShop s = omega (arith, ints)
-unit_by _ s = absurd (cc)
-
-not_unrelated : (k : EnvKind) → is_shop_kind k ≡ true → k ≡ Unrelated → ⊥
-not_unrelated k s e = never (sym (ap is_shop_kind e) ∙ s)
-  where
-    never : is_shop_kind Unrelated ≡ true → ⊥
-    never e = absurd (cc)
+unit_by _ s = omega (arith, ints)
 
 -- a shop without precedence and release dates, and the greatest completion time
 pub record IsPlainShop (i : Instance) : Type 0 where
@@ -95,6 +75,9 @@ pub record IsPlainShop (i : Instance) : Type 0 where
   pub arcs : i.arcs ≡ []
   pub release : All (λ j. j.release ≡ 0) i.jobs
   pub some : 1 ≤ length i.jobs
+
+pub is_before : (p q : Piece) → IsTimed p → IsTimed q → finish p ≤ start q → IsBefore p q
+is_before p q t u l = omega (arith, ints, t.to, u.from, l)
 
 -- ---- plans: the pieces of all operations that take time
 pub record IsShopPlan (i : Instance) (ps : List Piece) : Type 0 where
@@ -128,17 +111,7 @@ module _ (i : Instance) (h : IsPlainShop i) (ps : List Piece) (w : IsShopPlan i 
   }
 
   released : All (λ p. (pos 1 *ℤ pos (job_at i p.job).release) ≤ℤ p.from) ps
-  released k d l = by (get_or ps k d).from _ (job_at i (get_or ps k d).job).release (w.timed k d l).from (h.release (get_or ps k d).job no_job (w.job k d l))
-    where
-      by : (x : ℤ) (n r : ℕ) → x ≡ pos n → r ≡ 0 → (pos 1 *ℤ pos r) ≤ℤ x
-      by x n r e z = subst (λ y. (pos 1 *ℤ pos y) ≤ℤ x) (sym z) (omega (arith, ints, e))
-
-  no_arcs : All (λ a. All (λ p. All (λ r. p.job ≡ a.before → r.job ≡ a.after → IsBefore p r) ps) ps) i.arcs
-  no_arcs = subst (λ arcs. All (λ a. All (λ p. All (λ r. p.job ≡ a.before → r.job ≡ a.after → IsBefore p r) ps) ps) arcs)
-      (sym h.arcs) (All-nil (λ (a : Arc). All (λ p. All (λ r. p.job ≡ a.before → r.job ≡ a.after → IsBefore p r) ps) ps))
-
-  before : (p q : Piece) → IsTimed p → IsTimed q → finish p ≤ start q → IsBefore p q
-  before p q t u l = omega (arith, ints, t.to, u.from, l)
+  released k d l = omega (arith, ints, (w.timed k d l).from, h.release (get_or ps k d).job no_job (w.job k d l))
 
   abbrev Follows : Piece → Piece → Type 0
   Follows p q = p.job ≡ q.job → (p.op < q.op) × IsBefore p q
@@ -148,7 +121,7 @@ module _ (i : Instance) (h : IsPlainShop i) (ps : List Piece) (w : IsShopPlan i 
   routed (inl e) = inl e
   routed (inr r) = inr (λ a d l b e m same less. by (get_or ps a d) (get_or ps b e) same less
       (AllPairs-contains Follows ps (get_or ps a d) (get_or ps b e)
-      (λ x y c g k same. (r x y c g k same, before _ _ (w.timed x c (omega arith)) (w.timed y c k) (w.in_order x y c g k same).1))
+      (λ x y c g k same. (r x y c g k same, is_before _ _ (w.timed x c (omega arith)) (w.timed y c k) (w.in_order x y c g k same).1))
       (Contains-get_or ps a d l) (Contains-get_or ps b e m)))
     where
       by : (p q : Piece) → p.job ≡ q.job → p.op < q.op → Follows p q ⊎ ((p ≡ q) ⊎ Follows q p) → IsBefore p q
@@ -163,11 +136,8 @@ module _ (i : Instance) (h : IsPlainShop i) (ps : List Piece) (w : IsShopPlan i 
     sole : (p : Piece) × (mine ≡ p ∷ [])
     sole = by mine refl
       where
-        both : (a b : Bool) → a ≡ true → b ≡ true → (a && b) ≡ true
-        both a b e f = cc
-
         found : Contains mine (w.each j o inside timely).0
-        found = let e = w.each j o inside timely in Contains-filter (λ p. (p.job == j) && (p.op == o)) ps e.0 e.1 (both _ _ (eq-eqb _ _ e.2) (eq-eqb _ _ e.3))
+        found = let e = w.each j o inside timely in Contains-filter (λ p. (p.job == j) && (p.op == o)) ps e.0 e.1 (and_from _ _ (eq-eqb _ _ e.2) (eq-eqb _ _ e.3))
 
         by : (l : List Piece) → mine ≡ l → (p : Piece) × (mine ≡ p ∷ [])
         by [] e = absurd (omega (arith, (subst (λ l. Contains l (w.each j o inside timely).0) e found).1))
@@ -202,9 +172,9 @@ module _ (i : Instance) (h : IsPlainShop i) (ps : List Piece) (w : IsShopPlan i 
     span = λ k d l. let t = w.timed k d l in (omega (arith, ints, t.from), omega (arith, ints, t.from, t.to, t.lasts));
     place = places;
     machine = λ a b d m k e. apart_in_int _ _ (w.timed a d (omega arith)) (w.timed b d k) (w.apart a b d m k e);
-    job = λ a b d m k e. inl (before _ _ (w.timed a d (omega arith)) (w.timed b d k) (w.in_order a b d m k e).1);
+    job = λ a b d m k e. inl (is_before _ _ (w.timed a d (omega arith)) (w.timed b d k) (w.in_order a b d m k e).1);
     release = released;
-    arc = no_arcs;
+    arc = ordered_without_arcs i.arcs ps h.arcs;
     route = route_by (kind_of i.class.env) ps h.kind (routed w.route);
     work = λ j o l op. works j o l (by_has (kind_of i.class.env) i j o h.kind op);
   }
@@ -250,11 +220,8 @@ module _ (i : Instance) (kind : is_shop i.class.env ≡ true) (crit : i.class.cr
     cost_is : cost_of i made ≡ pos end
     cost_is = ≤ℤ_antisym upper (subst (λ x. x ≤ℤ cost_of i made) (*ℤ-one (pos end)) (bound made feasible))
 
-    moments : All (λ p. IsMoment p.from × IsMoment p.to) ps
-    moments k d l = by (get_or ps k d) (timed k d l) (≤ℤ_trans (ended k d l) short)
-      where
-        by : (p : Piece) → IsTimed p → p.to ≤ℤ GREATEST_ANSWER_MOMENT → IsMoment p.from × IsMoment p.to
-        by p t m = ((omega (arith, ints, t.from), omega (arith, ints, t.from, t.to, t.lasts, m)), (omega (arith, ints, t.to), omega (arith, ints, m)))
+    is_answer : IsAnswer i made
+    is_answer = record { few = few; unit = unit_by (kind_of i.class.env) kind; ends = λ k d l. ≤ℤ_trans (ended k d l) short }
 
     pub IsBestPlan-from_feasible : IsBestPlan i end made
     IsBestPlan-from_feasible = record {
@@ -262,17 +229,8 @@ module _ (i : Instance) (kind : is_shop i.class.env ≡ true) (crit : i.class.cr
         feasible = feasible;
         least = λ t f. subst (λ x. (x *ℤ t.unit) ≤ℤ (cost_of i t *ℤ pos 1)) (sym cost_is) (subst (λ x. (pos end *ℤ t.unit) ≤ℤ x) (sym (*ℤ-one (cost_of i t))) (bound t f));
       };
-      within = record {
-        unit = (omega (arith, ints), omega (arith, ints));
-        few = few;
-        moments = moments;
-        scaled = λ u. absurd (not_unrelated (kind_of i.class.env) kind u);
-      };
-      answer = record {
-        few = few;
-        unit = unit_by (kind_of i.class.env) kind;
-        ends = λ k d l. ≤ℤ_trans (ended k d l) short;
-      };
+      within = answer_is_within i made feasible is_answer;
+      answer = is_answer;
       cost = cost_is;
     }
 

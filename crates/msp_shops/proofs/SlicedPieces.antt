@@ -1,8 +1,8 @@
 -- Slices laid one after another: what their pieces are, that they fit together, and how long each row has each column.
 use Rattle.std.proofs.Common.{◌≡◌, ◌≢◌, ℕ, zero, suc, ◌+◌, ◌*◌, ◌<◌, ◌≤◌, ◌⊎◌, inl, inr, Bool, true, false, cond, eqb, ltb, List, [], ◌∷◌, ◌++◌, length, length-append, get_or}
-use Rattle.std.proofs.Common.{drop, map, filter, All, AllPairs, ℤ, pos, ◌+ℤ◌, ◌≤ℤ◌, ◌<ℤ◌, ◌-ℤ◌, refl, sym, ap, ap₂, subst, ◌∙◌, arith}
+use Rattle.std.proofs.Common.{drop, map, filter, All, AllPairs, ℤ, pos, ◌+ℤ◌, ◌≤ℤ◌, ◌<ℤ◌, refl, sym, ap, ap₂, subst, ◌∙◌, arith}
 use Rattle.std.specs.Prelude.{◌==◌, ◌&&◌}
-use Rattle.std.proofs.lemmas.Bool.{cond_both, cases_lt, ltb-true, ltb-false, eq-eqb, ne_eqb}
+use Rattle.std.proofs.lemmas.Bool.{cond_both, cases_lt, ltb-true, ltb-false, eq-eqb, ne_eqb, and_right}
 use Rattle.std.proofs.lemmas.Int.{ints}
 use Rattle.std.proofs.lemmas.List.{map-append, drop_more}
 use Rattle.std.proofs.lemmas.List.Elements.{All-nil, All-cons, All-append, All-head, All-tail, All-drop, filter-append}
@@ -26,10 +26,6 @@ pairs_nil R a b d l m = absurd (omega (arith, m))
 
 pub pairs_one : {X : Type 0} (R : X → X → Type 0) (x : X) → AllPairs R (x ∷ [])
 pairs_one R x a b d l m = absurd (omega (arith, l, m))
-
-and_false : (a b : Bool) → b ≡ false → (a && b) ≡ false
-and_false true b e = e
-and_false false b e = refl
 
 and_true : (a b : Bool) → b ≡ true → (a && b) ≡ a
 and_true true b e = e
@@ -77,18 +73,15 @@ module _ (columns : ℕ) (moment : ℤ) (s : Slice) where
   module _ (c r : ℕ) (inside : c < columns) where
     part_other : (n : ℕ) → n ≢ r → among c r (row_part columns moment s n) ≡ pos 0
     part_other n other = cond_both (ltb (column_of s n) columns) (row_piece moment s n ∷ []) [] (λ ps. among c r ps ≡ pos 0)
-        (λ _. ap (λ v. sum (map length_of (cond v (row_piece moment s n ∷ []) []))) (and_false (column_of s n == c) (n == r) (ne_eqb n r other))) (λ _. refl)
+        (λ _. ap (λ v. sum (map length_of (cond v (row_piece moment s n ∷ []) []))) (and_right (column_of s n == c) (n == r) (ne_eqb n r other))) (λ _. refl)
 
     part_same : among c r (row_part columns moment s r) ≡ time_at r c s
     part_same = cond_both (ltb (column_of s r) columns) (row_piece moment s r ∷ []) [] (λ ps. among c r ps ≡ time_at r c s)
         (λ _. ap (λ v. sum (map length_of (cond v (row_piece moment s r ∷ []) []))) (and_true (column_of s r == c) (r == r) (eq-eqb r r refl)) ∙ whole (eqb (column_of s r) c))
         (λ e. sym (ap (λ v. cond v s.length (pos 0)) (ne_eqb (column_of s r) c (λ z. omega (arith, ltb-false _ _ e, z, inside)))))
       where
-        lasts : (m x : ℤ) → (pos 0 +ℤ ((m +ℤ x) -ℤ m)) ≡ x
-        lasts m x = omega (arith, ints)
-
         whole : (v : Bool) → sum (map length_of (cond v (row_piece moment s r ∷ []) [])) ≡ cond v s.length (pos 0)
-        whole true = lasts moment s.length
+        whole true = omega (arith, ints)
         whole false = refl
 
 -- ---- all slices

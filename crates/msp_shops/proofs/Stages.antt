@@ -3,6 +3,7 @@ use Rattle.std.proofs.Common.{◌≡◌, ◌≢◌, ℕ, ◌+◌, ◌*◌, ◌-�
 use Rattle.std.specs.Prelude.{◌&&◌}
 use Rattle.std.proofs.lemmas.Bool.{eqb-true, eq-eqb, leb-true}
 use Rattle.std.proofs.lemmas.List.Elements.{All-map}
+use Rattle.std.proofs.lemmas.Bool.Decides.{nat_tests}
 use Rattle.msp_class.specs.Sums.{total_below}
 use Rattle.msp_class.proofs.Sums.{cond-le, sum_by-map, sum_by-mono, sum_by-scale, sum_by-distinct_test, total_below-add, total_below-mono, total_below-same}
 use Rattle.msp_instance.specs.declared.Instance.{Instance}
@@ -126,15 +127,12 @@ module _ (i : Instance) (shop : IsTwoMachineShop i) (s : Schedule) (f : Feasible
     of_group m g a (λ t. t.first) (work m) (first_work m g a),
     of_group (1 - m) h b (λ t. t.second) (work m) (λ k d l. omega (arith, second_work (1 - m) h b k d l, ap (λ n. work n (get_or h k d).job) back)),
     total_below-add jobs (λ j. cond (begins_on i m j) (work m j) 0) (λ j. cond (begins_on i (1 - m) j) (work m j) 0),
-    total_below-mono jobs (λ j. cond (begins_on i m j) (work m j) 0 + cond (begins_on i (1 - m) j) (work m j) 0) (work m) (λ j l. one_of (need_at i j 0).machine (work m j) _ _ refl refl),
+    total_below-mono jobs (λ j. cond (begins_on i m j) (work m j) 0 + cond (begins_on i (1 - m) j) (work m j) 0) (work m) (λ j l. one_of (need_at i j 0).machine (work m j)),
     room_on_one job_of start finish (λ _. true) jobs 0 end (pieces m) (jobs_on i shop s f m) (apart_on i shop s f m) (λ k d l _. (omega arith, ends_on m k d l)),
   )
     where
       back : 1 - (1 - m) ≡ m
       back = omega (arith, two)
 
-      one_of : (k n : ℕ) (x y : Bool) → eqb k m ≡ x → eqb k (1 - m) ≡ y → cond x n 0 + cond y n 0 ≤ n
-      one_of k n true true e e' = absurd (omega (arith, two, eqb-true _ _ e, eqb-true _ _ e'))
-      one_of k n true false e e' = omega arith
-      one_of k n false true e e' = omega arith
-      one_of k n false false e e' = omega arith
+      one_of : (k n : ℕ) → cond (eqb k m) n 0 + cond (eqb k (1 - m)) n 0 ≤ n
+      one_of k n = grind (arith, nat_tests)

@@ -15,9 +15,8 @@ use Rattle.msp_pieces.specs.BackToBack.{back_to_back, piece, time_at, schedule_i
 use Rattle.msp_pieces.proofs.lists.BackToBack.{back_to_back-last, end_in, end_in-at}
 use Rattle.msp_pieces.proofs.feasible.OneMachine.{last_end-is}
 use Rattle.msp_pieces.proofs.feasible.BackToBack.{piece_makes}
-use Rattle.msp_route.specs.LastJob.{CostsLess}
 use Rattle.msp_single.specs.Lawler.{lawler_class, IsLawlerOrder}
-use Rattle.msp_pieces.specs.Blocks.{total_time, cost_at, IsCertified}
+use Rattle.msp_pieces.specs.Blocks.{total_time, IsCertified}
 use Rattle.msp_pieces.proofs.bounds.Certified.{ranked, Rises, best_by_certificates}
 use Rattle.msp_route.proofs.PlainJobs.{takes_time}
 use Rattle.msp_single.proofs.LawlerFacts.{IsLawlerInstance, IsLawlerInstance-from_class}
@@ -78,11 +77,8 @@ module _ (i : Instance) (h : IsLawlerInstance i) (order : List ℕ) (o : IsLawle
           λ e. distinct a b d less long (sym (get_or-take (k + 1) order a d (omega (arith, less, short))) ∙ e ∙ get_or-take (k + 1) order b d short);
       begin = λ a d l. omega arith;
       whole = omega arith;
-      least = λ a d l free. at_most (get_or first a d) ((o.last k inside).least a d l free);
+      least = λ a d l free. elim ((o.last k inside).least a d l free) [ inl less ↦ <ℤ_weak less | inr e ↦ ≤ℤ_of_same e.0 ];
     }
-      where
-        at_most : (x : ℕ) → CostsLess i moment (get_or order k 0) x → cost_at i (get_or order k 0) moment ≤ℤ cost_at i x moment
-        at_most x c = elim c [ inl l ↦ <ℤ_weak l | inr e ↦ ≤ℤ_of_same e.0 ]
 
     ends_then : end_of (schedule_in_order i order) (get_or order k 0) ≡ pos moment
     ends_then =

@@ -73,9 +73,6 @@ module _ {X : Type 0} (time number : X → ℕ) (due : X → ℤ) where
     without : (f : X → ℕ) → sum_by f rest + f longest ≡ sum_by f all
     without f = omega (arith, sum_by-remove f all place longest h.within, ap f h.is)
 
-    count_without : length rest + 1 ≡ length all
-    count_without = length-remove all place h.within
-
   -- with a length that none exceeds, room and times fill it up
   slack-all : (m : ℕ) (xs : List X) → All (λ x. time x ≤ m) xs → slack time m xs + sum_by time xs ≡ length xs * m
   slack-all m [] h = omega arith
@@ -169,12 +166,11 @@ module _ {X : Type 0} (time number : X → ℕ) (due : X → ℤ) where
   no_worse-take : (ys xs : List X) (x : X) → IsNoWorse time ys xs → IsNoWorse time (ys ++ x ∷ []) (xs ++ x ∷ [])
   no_worse-take ys xs x h = record {
     count = omega (arith, h.count, length-append xs (x ∷ []), length-append ys (x ∷ []));
-    least = λ m. one (length ys) m (sum_by time ys) (slack time m xs) (time x) (length (ys ++ x ∷ [])) (sum_by time (ys ++ x ∷ [])) (slack time m (xs ++ x ∷ [])) (h.least m)
-        (omega (arith, length-append ys (x ∷ []))) (omega (arith, sum_by-append time ys (x ∷ []), sum_by-cons time x [])) (more xs x m);
+    least = λ m.
+        let size = ap (λ n. n * m) (length-append ys (x ∷ [])) in
+        let sum = sum_by-append time ys (x ∷ []) in
+        omega (arith, h.least m, size, sum, sum_by-cons time x [], more xs x m);
   }
-    where
-      one : (b m s k p b' s' k' : ℕ) → b * m ≤ s + k → b' ≡ b + 1 → s' ≡ s + p → k' ≡ k + (m - p) → b' * m ≤ s' + k'
-      one b m s k p b' s' k' h e f g = omega (arith, h, ap (λ n. n * m) e, f, g)
 
   -- the longest is taken out of a list that takes longer than the part
   no_worse-without : (ys all : List X) (place : ℕ) (longest : X) → IsLongest time number all place longest → length ys < length all → IsNoWorse time ys all → IsNoWorse time ys (remove all place)
@@ -184,7 +180,7 @@ module _ {X : Type 0} (time number : X → ℕ) (due : X → ℤ) where
       rest = remove all place
 
       count : length ys ≤ length rest
-      count = omega (arith, fewer, count_without all place longest l)
+      count = omega (arith, fewer, length-remove all place l.within)
 
       -- at the longest, what is taken out leaves no room
       at_longest : length ys * time longest + sum_by time rest ≤ sum_by time ys + length rest * time longest
@@ -226,10 +222,8 @@ module _ {X : Type 0} (time number : X → ℕ) (due : X → ℤ) where
         let last : pos (0 + sum_by time ys + time x) ≤ℤ due x = (OnTime-back 0 ys (x ∷ []) fits).0 in
         let sum : sum_by time (ys ++ x ∷ []) ≡ 0 + sum_by time ys + time x = omega (arith, sum_by-append time ys (x ∷ []), sum_by-cons time x []) in
         let taken = no_worse-take ys on x h in
-        no_worse-without (ys ++ x ∷ []) (on ++ x ∷ []) place longest l (fewer_than (ys ++ x ∷ []) (on ++ x ∷ []) place longest l (less _ _ _ (due x) sum last over) taken) taken
-      where
-        less : (s t u : ℕ) (d : ℤ) → s ≡ t → pos t ≤ℤ d → d <ℤ pos u → s < u
-        less s t u d e h k = omega (arith, ints, e, h, k)
+        no_worse-without (ys ++ x ∷ []) (on ++ x ∷ []) place longest l
+        (fewer_than (ys ++ x ∷ []) (on ++ x ∷ []) place longest l (omega (arith, ints, sum, last, over)) taken) taken
     step-overrun ys on x longest place false over l fits h =
         subst (λ zs. IsNoWorse time zs (remove (on ++ x ∷ []) place)) (sym (append-nil ys))
         (no_worse-without ys (on ++ x ∷ []) place longest l (omega (arith, h.count, length-append on (x ∷ []))) (no_worse-skip ys on x h))

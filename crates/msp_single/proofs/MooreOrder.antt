@@ -15,9 +15,8 @@ use Rattle.msp_pieces.proofs.changes.Shrunk.{All-from_map}
 use Rattle.msp_single.specs.declared.moore.Task.{Task}
 use Rattle.msp_route.specs.Dates.{IsDueBefore}
 use Rattle.msp_single.specs.Moore.{IsLongest, IsChoice, none, kept, overrun, IsMooreOrder}
-use Rattle.msp_pieces.proofs.lists.Parts.{All-front, All-back}
+use Rattle.msp_pieces.proofs.lists.Parts.{All-front, All-back, AllPairs-back}
 use Rattle.msp_single.proofs.MooreChoice.{accepted_of, keeps, drops, choice-permutation}
-use Rattle.msp_pieces.proofs.lists.Parts.{AllPairs-back}
 use Rattle.msp_single.proofs.MooreSteps.{IsTaskOf, Chooses}
 
 remove-map : {X Y : Type 0} (f : X → Y) (xs : List X) (k : ℕ) → map f (remove xs k) ≡ remove (map f xs) k
@@ -92,11 +91,10 @@ module _ (i : Instance) (ts : List Task) (numbers : map (λ x. x.job) ts ≡ ran
   GoesOrIs x y = ((job_at i x).due <ℤ (job_at i y).due) ⊎ (((job_at i x).due ≡ (job_at i y).due) × (x ≤ y))
 
   by_date : AllPairs DueFirst sorted → AllPairs (IsDueBefore i) (map job sorted)
-  by_date up a b d l k = strict (get_or (map job sorted) a d) (get_or (map job sorted) b d) (OnceBelow-distinct (OnceBelow-from_permutation all_once) a b d l k) (ties a b d l k)
+  by_date up a b d l k =
+      let apart = OnceBelow-distinct (OnceBelow-from_permutation all_once) a b d l k in
+      elim (ties a b d l k) [ inl less ↦ inl less | inr e ↦ inr (e.0, omega (arith, e.1, apart)) ]
     where
-      strict : (x y : ℕ) → x ≢ y → GoesOrIs x y → IsDueBefore i x y
-      strict x y n h = elim h [ inl l ↦ inl l | inr e ↦ inr (e.0, omega (arith, e.1, n)) ]
-
       here : (a b : Task) → IsTaskOf i a → IsTaskOf i b → DueFirst a b → GoesOrIs a.job b.job
       here a b ta tb h = elim h [ inl l ↦ inl (subst₂ (λ x y. x <ℤ y) ta.1 tb.1 l) | inr e ↦ inr (sym ta.1 ∙ e.0 ∙ tb.1, e.1) ]
 
@@ -114,7 +112,7 @@ module _ (i : Instance) (ts : List Task) (numbers : map (λ x. x.job) ts ≡ ran
     sorted = by_date up;
     choice = chosen;
     moved = IsPermutation-map job dropped late swapped;
-    by_number = λ a b d l k. strict (get_or (map job late) a d) (get_or (map job late) b d) (distinct a b d l k) (ties a b d l k);
+    by_number = λ a b d l k. let apart = distinct a b d l k in omega (arith, apart, ties a b d l k);
     whole = e ∙ map-append job accepted late;
   }
     where
@@ -130,6 +128,3 @@ module _ (i : Instance) (ts : List Task) (numbers : map (λ x. x.job) ts ≡ ran
 
       ties : AllPairs (λ a b. a ≤ b) (map job late)
       ties = AllPairs-map (λ a b. a ≤ b) job late by_number
-
-      strict : (x y : ℕ) → x ≢ y → x ≤ y → x < y
-      strict x y n h = omega (arith, h, n)

@@ -1,5 +1,5 @@
 -- The steps of Moore's rule at the numbers as the code passes them.
-use Rattle.std.proofs.Common.{◌≡◌, ℕ, ◌+◌, ◌<◌, ◌≤◌, true, false, ◌⊎◌, inl, inr, List, [], ◌∷◌, ◌++◌, length, get_or, take, sum_by, ℤ, pos, ◌≤ℤ◌, ◌<ℤ◌, All, refl, sym, ap, ◌∙◌}
+use Rattle.std.proofs.Common.{◌≡◌, ℕ, ◌+◌, ◌<◌, ◌≤◌, true, false, ◌⊎◌, inr, List, [], ◌∷◌, ◌++◌, length, get_or, take, sum_by, ℤ, pos, ◌≤ℤ◌, ◌<ℤ◌, All, refl, sym, ap, ◌∙◌}
 use Rattle.std.proofs.Common.{subst, arith, slice_index_or}
 use Rattle.std.specs.Prelude.{int_lt}
 use Rattle.std.specs.List.{remove}
@@ -33,10 +33,7 @@ abbrev pub Outlasts : Task → Task → Type 0
 Outlasts a b = (b.time < a.time) ⊎ ((b.time ≡ a.time) × (a.job ≤ b.job))
 
 outlasts_on : (a b c : Task) → Outlasts a b → Outlasts b c → Outlasts a c
-outlasts_on a b c (inl h) (inl k) = inl (omega (arith, h, k))
-outlasts_on a b c (inl h) (inr k) = inl (omega (arith, h, k.0))
-outlasts_on a b c (inr h) (inl k) = inl (omega (arith, h.0, k))
-outlasts_on a b c (inr h) (inr k) = inr (omega (arith, h.0, k.0), omega (arith, h.1, k.1))
+outlasts_on a b c h k = grind arith
 
 pub longest-take : (xs : List Task) (best place : ℕ) (d : Task) → place < length xs → Outlasts (get_or xs place d) (get_or xs best d)
     → All (Outlasts (get_or xs best d)) (take place xs) → All (Outlasts (get_or xs place d)) (take (place + 1) xs)

@@ -1,5 +1,5 @@
 -- The jobs back to back in Smith's order are a best schedule.
-use Rattle.std.proofs.Common.{◌≡◌, ℕ, ◌*◌, ◌≤◌, inl, inr, List, length, get_or, pos, nat_abs, ◌*ℤ◌, ◌≤ℤ◌, AllPairs, ap, ◌∙◌, arith}
+use Rattle.std.proofs.Common.{◌≡◌, ℕ, inl, inr, List, length, pos, nat_abs, ◌*ℤ◌, ◌≤ℤ◌, AllPairs, ap, ◌∙◌, arith}
 use Rattle.msp_class.specs.declared.class.Crit.TheVariants.{SumWC}
 use Rattle.msp_class.proofs.Sums.{OnceBelow, OnceBelow-from_permutation}
 use Rattle.msp_instance.specs.declared.Instance.{Instance}
@@ -14,7 +14,7 @@ use Rattle.msp_pieces.proofs.lists.BackToBack.{last-weighted_ends_below}
 use Rattle.msp_pieces.proofs.lists.WeightedEnds.{SmithBefore, smith_beats_last}
 use Rattle.msp_pieces.proofs.feasible.OneMachine.{IsPlan-from_feasible, weighted_cost}
 use Rattle.msp_pieces.proofs.feasible.BackToBack.{piece_makes}
-use Rattle.msp_single.specs.Smith.{smith_class, GoesBefore, IsSmithOrder}
+use Rattle.msp_single.specs.Smith.{smith_class, IsSmithOrder}
 use Rattle.msp_route.proofs.Owed.{over_units}
 use Rattle.msp_route.proofs.PlainJobs.{IsPlainFree, IsPlainFree-from}
 use Rattle.msp_route.proofs.BackToBackAnswer.{IsBestRow, timed, short_jobs, free_is_feasible}
@@ -27,10 +27,7 @@ module _ (i : Instance) (h : IsPlainFree i SumWC) (order : List ℕ) (o : IsSmit
   once = OnceBelow-from_permutation o.all
 
   smith_pairs : AllPairs (SmithBefore (time_at i) (weight_at i)) order
-  smith_pairs a b d l k = at_most (get_or order a d) (get_or order b d) (o.sorted a b d l k)
-    where
-      at_most : (x y : ℕ) → GoesBefore i x y → weight_at i y * time_at i x ≤ weight_at i x * time_at i y
-      at_most x y g = elim g [ inl l ↦ omega (arith, l) | inr e ↦ omega (arith, e.0) ]
+  smith_pairs a b d l k = elim (o.sorted a b d l k) [ inl less ↦ omega (arith, less) | inr e ↦ omega (arith, e.0) ]
 
   -- the cost of the schedule in ℕ
   abbrev least_cost : ℕ

@@ -1,24 +1,10 @@
 -- Smith's order of jobs that take time is a strict weak order, so a sort by it puts the greater weight for its time first, and ties by number.
 use Rattle.std.proofs.Common.{◌≡◌, ℕ, ◌*◌, ◌<◌, ◌≤◌, Bool, true, false, ◌⊎◌, inl, inr, List, get_or, AllPairs, arith}
-use Rattle.std.specs.Ordering.{is_lt, nat_cmp, ordering_then}
 use Rattle.std.specs.Cmp.{IsStrictWeakOrder}
 use Rattle.std.specs.List.Sorted.{IsSortedBy}
-use Rattle.std.proofs.lemmas.Bool.Decides.{nat_tests}
 use Rattle.std.proofs.lemmas.List.Sorted.{sorted_far}
 use Rattle.msp_route.proofs.Ratios.{strict_left, strict_right, level}
-
--- the numbers m and n are compared, and then a and b
-abbrev pub less : ℕ → ℕ → ℕ → ℕ → Bool
-less m n a b = is_lt (ordering_then (nat_cmp m n) (nat_cmp a b))
-
-less-yes : (m n a b : ℕ) → less m n a b ≡ true → (m < n) ⊎ ((m ≡ n) × (a < b))
-less-yes m n a b h = grind (arith, nat_tests)
-
-less-no : (m n a b : ℕ) → less m n a b ≡ false → (n < m) ⊎ ((n ≡ m) × (b ≤ a))
-less-no m n a b h = grind (arith, nat_tests)
-
-not_less : (m n a b : ℕ) → (n < m) ⊎ ((n ≡ m) × (b ≤ a)) → less m n a b ≡ false
-not_less m n a b h = grind (arith, nat_tests)
+use Rattle.msp_route.proofs.KeyOrder.{less, less-no, less-yes, not_less}
 
 module _ {X : Type 0} (number time weight : X → ℕ) (takes_time : (x : X) → 0 < time x) where
   abbrev pub smith_less : X → X → Bool
@@ -28,10 +14,8 @@ module _ {X : Type 0} (number time weight : X → ℕ) (takes_time : (x : X) →
   smith_less-order = record { one_way = one_way; chain = chain }
     where
       one_way : (x y : X) → smith_less x y ≡ true → smith_less y x ≡ false
-      one_way x y h = not_less (weight x * time y) (weight y * time x) (number y) (number x) (elim (less-yes (weight y * time x) (weight x * time y) (number x) (number y) h) [
-        | inl a ↦ inl a
-        | inr e ↦ inr (e.0, omega (arith, e.1))
-      ])
+      one_way x y h = not_less (weight x * time y) (weight y * time x) (number y) (number x)
+          (less-yes (weight y * time x) (weight x * time y) (number x) (number y) h)
 
       chain : (x y z : X) → smith_less x y ≡ false → smith_less y z ≡ false → smith_less x z ≡ false
       chain x y z h k = not_less (weight z * time x) (weight x * time z) (number x) (number z) (elim (less-no (weight y * time x) (weight x * time y) (number x) (number y) h) [

@@ -1,15 +1,14 @@
 -- The numbers of the sorted jobs are Smith's order.
-use Rattle.std.proofs.Common.{◌≡◌, ◌≢◌, ℕ, ◌*◌, ◌<◌, ◌≤◌, ◌⊎◌, inl, inr, List, [], ◌∷◌, length, get_or, map, All, AllPairs, IsPermutation, sym, ap₂, subst, arith}
+use Rattle.std.proofs.Common.{◌≡◌, ◌≢◌, ℕ, ◌*◌, ◌<◌, ◌≤◌, ◌⊎◌, inl, inr, List, [], length, get_or, map, All, AllPairs, IsPermutation, sym, ap₂, subst, arith}
 use Rattle.std.specs.List.{range_with_len}
-use Rattle.std.proofs.lemmas.List.Elements.{All-map}
-use Rattle.std.proofs.lemmas.List.Kept.{AllPairs-cons}
 use Rattle.std.proofs.lemmas.List.Sorted.{IsPermutation-map, All-permutation}
-use Rattle.msp_class.proofs.Sums.{AllPairs-head, AllPairs-tail, OnceBelow-from_permutation, OnceBelow-distinct}
+use Rattle.msp_class.proofs.Sums.{OnceBelow-from_permutation, OnceBelow-distinct}
 use Rattle.msp_instance.specs.declared.Instance.{Instance}
 use Rattle.msp_instance.specs.Instance.{job_at, need_at}
 use Rattle.msp_single.specs.declared.smith.Load.{Load}
 use Rattle.msp_single.specs.Smith.{GoesBefore, IsSmithOrder}
 use Rattle.msp_single.proofs.SmithSteps.{IsLoadOf}
+use Rattle.msp_pieces.proofs.changes.Moves.{AllPairs-map}
 
 abbrev pub Sorted : List Load → Type 0
 Sorted ls = AllPairs (λ a b. (b.weight * a.time < a.weight * b.time) ⊎ ((b.weight * a.time ≡ a.weight * b.time) × (a.job ≤ b.job))) ls
@@ -25,11 +24,6 @@ goes_or_is i a b la lb h =
     let left : b.weight * a.time ≡ (job_at i b.job).weight * (need_at i a.job 0).time = ap₂ (λ m n. m * n) lb.1 la.0 in
     let right : a.weight * b.time ≡ (job_at i a.job).weight * (need_at i b.job 0).time = ap₂ (λ m n. m * n) la.1 lb.0 in
     elim h [ inl l ↦ inl (omega (arith, l, left, right)) | inr e ↦ inr (omega (arith, e.0, left, right), e.1) ]
-
-AllPairs-map : {X Y : Type 0} (R : Y → Y → Type 0) (f : X → Y) (xs : List X) → AllPairs (λ a b. R (f a) (f b)) xs → AllPairs R (map f xs)
-AllPairs-map R f [] h = λ i j d a b. absurd (omega (arith, b))
-AllPairs-map R f (x ∷ xs) h = AllPairs-cons R
-    (f x) (map f xs) (All-map (R (f x)) f xs (AllPairs-head (λ a b. R (f a) (f b)) x xs h)) (AllPairs-map R f xs (AllPairs-tail (λ a b. R (f a) (f b)) x xs h))
 
 strict : (i : Instance) (a b : ℕ) → a ≢ b → GoesOrIs i a b → GoesBefore i a b
 strict i a b n h = elim h [ inl l ↦ inl l | inr e ↦ inr (e.0, omega (arith, e.1, n)) ]

@@ -1,13 +1,13 @@
 -- What a feasible schedule of unit jobs on identical machines has: whole moments at which its jobs could begin, no more at a time than there
 -- are machines, and none of them later than the job begins.
-use Rattle.std.proofs.Common.{◌≡◌, ℕ, zero, suc, [], ◌∷◌, ◌+◌, ◌*◌, ◌/◌, ◌-◌, ◌<◌, ◌≤◌, Bool, true, false, cond, eqb, length, get_or, pos, nat_abs, ◌-ℤ◌, ◌*ℤ◌, ◌≤ℤ◌, All, Contains}
+use Rattle.std.proofs.Common.{◌≡◌, ℕ, suc, [], ◌∷◌, ◌+◌, ◌*◌, ◌/◌, ◌-◌, ◌<◌, ◌≤◌, Bool, true, false, cond, eqb, length, get_or, pos, nat_abs, ◌-ℤ◌, ◌*ℤ◌, ◌≤ℤ◌, All, Contains, mul-suc, le_trans, le_of_eq, mul_comm}
 use Rattle.std.proofs.Common.{refl, sym, ap, subst, subst₂, ◌∙◌, arith}
 use Rattle.std.specs.Prelude.{◌==◌, ◌&&◌}
 use Rattle.std.proofs.lemmas.Bool.{eqb-true, eq-eqb}
 use Rattle.std.proofs.lemmas.Int.{ints}
 use Rattle.std.proofs.Math.Nat.{mul-div_cancel_left}
 use native.Mathlib.Nat.{le_of_mul-le-mul_left}
-use Rattle.std.proofs.lemmas.List.Elements.{All-contains, Contains-get_or}
+use Rattle.std.proofs.lemmas.List.Elements.{All-contains, Contains-get_or, All-cons, All-nil}
 use Rattle.msp_class.specs.declared.environments.EnvKind.TheVariants.{Identical}
 use Rattle.msp_class.specs.Env.{kind_of}
 use Rattle.msp_class.specs.Sums.{total_below}
@@ -57,10 +57,7 @@ module _ (i : Instance) (kind : kind_of i.class.env ≡ Identical) (ones : (k : 
     begin j = nat_abs (end_of s j) / unit - 1
 
     begin_is : (j q : ℕ) → end_of s j ≡ pos (unit * q + unit) → begin j ≡ q
-    begin_is j q e = omega (arith, ap (λ x. nat_abs x / unit) e, ap (λ n. n / unit) (whole q), mul-div_cancel_left (suc q) {n = unit} some_unit)
-      where
-        whole : (q : ℕ) → unit * q + unit ≡ unit * suc q
-        whole q = omega arith
+    begin_is j q e = omega (arith, ap (λ x. nat_abs x / unit) e, ap (λ n. n / unit) (sym (mul-suc unit q)), mul-div_cancel_left (suc q) {n = unit} some_unit)
 
     record IsRun (j : ℕ) : Type 0 where
       piece : Piece
@@ -89,12 +86,8 @@ module _ (i : Instance) (kind : kind_of i.class.env ≡ Identical) (ones : (k : 
         same : (q : Piece) (j : ℕ) → of_operation s.pieces j 0 ≡ q ∷ [] → (p : Piece) → Contains s.pieces p → p.job ≡ j → p.op ≡ 0 → p ≡ q
         same q j e p c a b =
             let passes : ((p.job == j) && (p.op == 0)) ≡ true = subst₂ (λ x y. (x && y) ≡ true) (sym (eq-eqb p.job j a)) (sym (eq-eqb p.op 0 b)) refl in
-            let (k, l, is) : Contains (q ∷ []) p = subst (λ ps. Contains ps p) e (Contains-filter (λ p. (p.job == j) && (p.op == 0)) s.pieces p c passes) in
-            sym is ∙ first q p k l
-          where
-            first : (q p : Piece) (k : ℕ) → k < 1 → get_or (q ∷ []) k p ≡ q
-            first q p zero l = refl
-            first q p (suc k) l = absurd (omega (arith, l))
+            let only = All-cons (λ x. x ≡ q) q [] refl (All-nil (λ x. x ≡ q)) in
+            All-contains (λ x. x ≡ q) (q ∷ []) p only (subst (λ ps. Contains ps p) e (Contains-filter (λ p. (p.job == j) && (p.op == 0)) s.pieces p c passes))
 
     released : (j : ℕ) → j < length i.jobs → head_at i j ≤ begin j
     released j b =
@@ -104,17 +97,15 @@ module _ (i : Instance) (kind : kind_of i.class.env ≡ Identical) (ones : (k : 
         (le-pos (subst₂ (λ x y. x ≤ℤ y) (ap (λ u. u *ℤ pos (job_at i r.piece.job).release) unit_is ∙ ap (λ k. pos (unit * (job_at i k).release)) r.of) r.from head)) some_unit
 
     few : (uncut : i.class.cut ≡ false) (x : ℕ) → begin_at (length i.jobs) begin x ≤ i.machines
-    few uncut x = le_of_mul-le-mul_left {k = unit} (by (le-pos (subst (λ z. pos (unit * begin_at (length i.jobs) begin x) ≤ℤ (pos i.machines *ℤ z))
-        (apart (unit * x) unit) (subst₂ (λ u n. (u *ℤ pos n) ≤ℤ (pos i.machines *ℤ (pos (unit * x + unit) -ℤ pos (unit * x)))) unit_is (together test) has)))) some_unit
+    few uncut x = le_of_mul-le-mul_left {k = unit} (le_trans (le-pos (subst (λ z. pos (unit * begin_at (length i.jobs) begin x) ≤ℤ (pos i.machines *ℤ z))
+        (apart (unit * x) unit) (subst₂ (λ u n. (u *ℤ pos n) ≤ℤ (pos i.machines *ℤ (pos (unit * x + unit) -ℤ pos (unit * x)))) unit_is (together test) has)))
+        (le_of_eq (mul_comm i.machines unit))) some_unit
       where
         test : ℕ → Bool
         test j = eqb (begin j) x
 
         apart : (a b : ℕ) → pos (a + b) -ℤ pos a ≡ pos b
         apart a b = omega (arith, ints)
-
-        by : unit * begin_at (length i.jobs) begin x ≤ i.machines * unit → unit * begin_at (length i.jobs) begin x ≤ unit * i.machines
-        by h = omega (arith, h)
 
         from : BeginsFrom (pos (unit * x)) test s
         from k d l e = let p = get_or s.pieces k d in subst (λ z. pos (unit * x) ≤ℤ z) (sym (only uncut p (Contains-get_or s.pieces k d l)))

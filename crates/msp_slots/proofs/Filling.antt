@@ -1,8 +1,8 @@
 -- The slots of the earliest schedule, one after another.
-use Rattle.std.proofs.Common.{◌≡◌, ℕ, suc, ◌+◌, ◌-◌, ◌*◌, ◌<◌, ◌≤◌, ◌⊎◌, inl, inr, Bool, true, false, eqb, All, List, [], ◌∷◌, ◌++◌, length, get_or, refl, sym, ap, subst, ◌∙◌, arith}
+use Rattle.std.proofs.Common.{◌≡◌, ℕ, ◌+◌, ◌-◌, ◌*◌, ◌<◌, ◌≤◌, ◌⊎◌, inl, inr, Bool, true, false, eqb, All, List, [], ◌∷◌, ◌++◌, length, get_or, refl, sym, ap, subst, ◌∙◌, arith, add-one}
 use Rattle.std.specs.List.Sorted.{IsNonDecreasing}
 use Rattle.std.proofs.lemmas.Bool.{cases_lt, eqb-true, eq-eqb, ne_eqb}
-use Rattle.std.proofs.lemmas.List.{length-append, get_or_append_left, get_or-append_right}
+use Rattle.std.proofs.lemmas.List.{length-append, get_or_append_left, get_or_push}
 use Rattle.msp_class.specs.declared.sizes.TheConstants.{GREATEST}
 use Rattle.msp_class.proofs.Sums.{total_below-same, total_below-none}
 use Rattle.msp_slots.specs.declared.earliest.Slot.{Slot}
@@ -17,10 +17,7 @@ begin_at-same : (n : ℕ) (f g : ℕ → ℕ) (x : ℕ) → ((j : ℕ) → j < n
 begin_at-same n f g x h = total_below-same n (λ j. one_if (eqb (f j) x)) (λ j. one_if (eqb (g j) x)) (λ j l. ap (λ y. one_if (eqb y x)) (h j l))
 
 begin_at-next : (k : ℕ) (f : ℕ → ℕ) (x : ℕ) → begin_at (k + 1) f x ≡ begin_at k f x + one_if (eqb (f k) x)
-begin_at-next k f x = ap (λ n. begin_at n f x) (next k)
-  where
-    next : (k : ℕ) → k + 1 ≡ suc k
-    next k = omega arith
+begin_at-next k f x = ap (λ n. begin_at n f x) (add-one k)
 
 -- none begins later than all
 begin_at-none : (k : ℕ) (f : ℕ → ℕ) (moment x : ℕ) → ((j : ℕ) → j < k → f j ≤ moment) → moment < x → begin_at k f x ≡ 0
@@ -35,10 +32,7 @@ module _ (m : ℕ) (heads : List ℕ) (k moment taken : ℕ) (slots : List Slot)
   kept j l = get_or_append_left slots (slot ∷ []) no_slot j (omega (arith, l, h.count))
 
   here : get_or new k no_slot ≡ slot
-  here = get_or-append_right slots (slot ∷ []) k k no_slot h.count (omega arith) ∙ ap (λ i. get_or (slot ∷ []) i no_slot) (same k)
-    where
-      same : (k : ℕ) → k - k ≡ 0
-      same k = omega arith
+  here = get_or_push slots slot no_slot k h.count
 
   kept_start : (j : ℕ) → j < k → start_in new j ≡ start_in slots j
   kept_start j l = ap (λ s. s.start) (kept j l)
@@ -165,7 +159,6 @@ filled_next m heads k moment taken slots new slot some inside low rising h next 
     (sym e) (AreFilled-next m heads k moment taken slots some (low k 0 inside) (λ j l. rising j k 0 (omega (arith, l)) inside) h slot next)
 
 pub filled_all : (m : ℕ) (heads : List ℕ) (k moment taken : ℕ) (slots : List Slot) → length heads ≤ k → k ≤ length heads → AreFilled m heads k moment taken slots → AreSlots m heads slots
-filled_all m heads k moment taken slots a b h = whole (subst (λ n. AreFilled m heads n moment taken slots) (omega (arith, a, b)) h)
-  where
-    whole : AreFilled m heads (length heads) moment taken slots → AreSlots m heads slots
-    whole f = record { count = f.count; seated = f.seated; tight = f.tight; rises = f.rises; machine = f.machine; soon = λ j l. omega (arith, f.early j l, f.soon) }
+filled_all m heads k moment taken slots a b h =
+    let f : AreFilled m heads (length heads) moment taken slots = subst (λ n. AreFilled m heads n moment taken slots) (omega (arith, a, b)) h in
+    record { count = f.count; seated = f.seated; tight = f.tight; rises = f.rises; machine = f.machine; soon = λ j l. omega (arith, f.early j l, f.soon) }

@@ -56,10 +56,7 @@ module _ (i : Instance) (uncut : IsUncut i) (from to machine : ℕ → ℕ) (pie
   ])
 
   in_order : All (λ a. All (λ p. All (λ q. p.job ≡ a.before → q.job ≡ a.after → IsBefore p q) pieces) pieces) i.arcs
-  in_order x c b k d l m g w e f = by (get_or pieces k d) (get_or pieces m g) (h.each k d l) (h.each m g w) (omega (arith, h.forward x c b, ap to e, ap from f))
-    where
-      by : (p q : Piece) → Mine p → Mine q → to p.job ≤ from q.job → IsBefore p q
-      by p q e f less = subst₂ IsBefore (sym e) (sym f) (pos-le less)
+  in_order x c b k d l m g w e f = subst₂ IsBefore (sym (h.each k d l)) (sym (h.each m g w)) (pos-le (omega (arith, h.forward x c b, ap to e, ap from f)))
 
   one_each : AreOneEach i 1 pieces
   one_each = record {
@@ -71,14 +68,11 @@ module _ (i : Instance) (uncut : IsUncut i) (from to machine : ℕ → ℕ) (pie
     apart = λ a b d l k m.
         let la : a < length pieces = omega (arith, l, k) in
         two_apart (get_or pieces a d) (get_or pieces b d) (h.each a d la) (h.each b d k) (job_inside pieces h.jobs a d la) (job_inside pieces h.jobs b d k) (jobs_apart pieces h.jobs a b d l k) m;
-    released = all_pieces (λ p. (pos 1 *ℤ pos (job_at i p.job).release) ≤ℤ p.from) (λ j l. released (job_at i j).release (from j) (h.released j l));
+    released = all_pieces (λ p. (pos 1 *ℤ pos (job_at i p.job).release) ≤ℤ p.from) (λ j l. omega (arith, ints, h.released j l));
     forward = in_order;
     whole = all_pieces (IsWholeWork (kind_of i.class.env) i (pos 1)) h.whole;
     ends = all_pieces (λ p. p.to ≤ℤ pos early_end) (λ j l. pos-le (h.early j l));
   }
-    where
-      released : (r x : ℕ) → r ≤ x → (pos 1 *ℤ pos r) ≤ℤ pos x
-      released r x e = omega (arith, ints, e)
 
   -- the one piece of a job
   mine : (j : ℕ) → j < n → filter (λ p. eqb p.job j) pieces ≡ job_piece from to machine j ∷ []

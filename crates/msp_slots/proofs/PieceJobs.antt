@@ -1,5 +1,5 @@
 -- The jobs of pieces, each of which has one.
-use Rattle.std.proofs.Common.{◌≡◌, ◌≢◌, ℕ, ◌<◌, List, length, get_or, map, All, AllPairs, sym, ◌∙◌, arith}
+use Rattle.std.proofs.Common.{◌≢◌, ℕ, ◌<◌, List, length, get_or, map, All, AllPairs, sym, ◌∙◌, arith}
 use Rattle.std.proofs.lemmas.List.{length-map, get_or-map}
 use Rattle.std.proofs.lemmas.List.Elements.{All-map, All-contains, Contains-get_or}
 use Rattle.msp_class.proofs.Sums.{OnceBelow, OnceBelow-contains, OnceBelow-distinct}

@@ -1,13 +1,14 @@
 -- The law of places. A job's whole number is how many common times are over when it begins; its place is how many lesser numbers are in use.
-use Rattle.std.proofs.Common.{◌≡◌, ◌≢◌, ℕ, zero, suc, ◌+◌, ◌*◌, ◌/◌, ◌<◌, ◌≤◌, ◌⊎◌, inl, inr, Bool, true, false, cond, eqb, ltb, List, [], ◌∷◌, length, get_or, map, fold}
+use Rattle.std.proofs.Common.{◌≡◌, ◌≢◌, ℕ, zero, suc, ◌+◌, ◌*◌, ◌/◌, ◌<◌, ◌≤◌, ◌⊎◌, inl, inr, Bool, true, false, cond, eqb, ltb, List, [], ◌∷◌, length, get_or, map, fold, mul-zero}
 use Rattle.std.proofs.Common.{pos, nat_abs, ◌-ℤ◌, ◌*ℤ◌, ◌≤ℤ◌, ◌<ℤ◌, ℤ, All, AllPairs, Contains, refl, sym, ap, subst, subst₂, ◌∙◌, arith}
 use Rattle.std.specs.Prelude.{◌==◌, ◌&&◌, MatchBool}
 use Rattle.std.specs.Int.{int_max}
-use Rattle.std.proofs.lemmas.Bool.{cases_lt, eqb-true, eq-eqb}
+use Rattle.std.proofs.lemmas.Bool.{eqb-true, eq-eqb}
 use Rattle.std.proofs.lemmas.Bool.Decides.{nat_tests}
 use Rattle.std.proofs.lemmas.Int.{ints}
 use Rattle.std.proofs.lemmas.List.Elements.{All-contains}
 use Rattle.std.proofs.Math.Nat.{mul-div-le, le-div_iff_mul-le, mul-pos}
+use Rattle.std.proofs.Math.Numerals.{suc-eq-add-one}
 use native.Mathlib.Nat.{mul-le-mul_left}
 use Rattle.msp_class.specs.declared.class.Times.{Times}
 use Rattle.msp_class.specs.declared.environments.EnvKind.{EnvKind}
@@ -18,13 +19,13 @@ use Rattle.msp_class.proofs.Sums.{total_below-same, total_below-term, total_belo
 use Rattle.msp_class.proofs.Cases.{same_or_not}
 use Rattle.msp_class.proofs.Sums.{total_below-only, cond-le, AllPairs-contains, Contains-from_filter}
 use Rattle.msp_pieces.proofs.lists.Places.{total_below-within}
-use Rattle.msp_pieces.proofs.lists.Positions.{count_at_most_one}
+use Rattle.msp_pieces.proofs.lists.Positions.{count_at_most_one, total_below-strict}
 use Rattle.msp_class.proofs.IntegerRing.{natural, pos-le, le-pos, zero-le-pos, int_max-right}
 use Rattle.msp_instance.specs.declared.Need.{Need}
 use Rattle.msp_instance.specs.declared.Arc.{Arc}
 use Rattle.msp_instance.specs.declared.Instance.{Instance}
 use Rattle.msp_instance.specs.Instance.{no_need, no_job, job_at, need_at, common_time}
-use Rattle.msp_instance.specs.Conditions.{Limits, MeetsConditions, HasShape, HasTimes, IsJobOf, least_time}
+use Rattle.msp_instance.specs.Conditions.{Limits, MeetsConditions, HasShape, HasTimes, least_time}
 use Rattle.msp_pieces.specs.declared.Piece.{Piece}
 use Rattle.msp_pieces.specs.declared.Schedule.{Schedule}
 use Rattle.msp_pieces.specs.Piece.{no_piece, length_of, pieces_of, IsApart, IsBefore}
@@ -33,7 +34,7 @@ use Rattle.msp_pieces.specs.Cost.{end_of}
 use Rattle.msp_pieces.proofs.feasible.OneMachine.{pieces_of-job, both_true}
 use Rattle.msp_slots.specs.Seating.{one_if, begin_at}
 use Rattle.msp_slots.specs.Places.{ArePlaces, TakeCommonTime, EndAfterPlaces, LawOfPlaces}
-use Rattle.msp_slots.proofs.Seats.{begin_before, before_next}
+use Rattle.msp_slots.proofs.Seats.{begin_before, before_next, neither_less}
 
 -- ---- numbers in use, from 0
 -- whether one of the first n jobs has the number, and how many lesser numbers are in use
@@ -45,13 +46,7 @@ place_of n number j = total_below (number j) (used n number)
 
 used_below : (n : ℕ) (number : ℕ → ℕ) (y : ℕ) → total_below y (used n number) ≤ begin_before n number y
 used_below n number zero = omega arith
-used_below n number (suc y) = omega (arith, used_below n number y, one (begin_at n number y), before_next n number y, ap (begin_before n number) (next y))
-  where
-    one : (a : ℕ) → one_if (ltb 0 a) ≤ a
-    one a = grind (arith, nat_tests)
-
-    next : (y : ℕ) → suc y ≡ y + 1
-    next y = omega arith
+used_below n number (suc y) = grind (arith, nat_tests, used_below n number y, before_next n number y, ap (begin_before n number) (suc-eq-add-one y))
 
 is_used : (n : ℕ) (number : ℕ → ℕ) (j : ℕ) → j < n → used n number (number j) ≡ 1
 is_used n number j l = one (begin_at n number (number j)) (omega (arith, total_below-term n (λ k. one_if (eqb (number k) (number j))) j l, ap one_if (eq-eqb (number j) (number j) refl)))
@@ -67,24 +62,14 @@ module _ (n : ℕ) (number : ℕ → ℕ) where
   place_no_later j = omega (arith, total_below-bound (number j) 1 (used n number) (λ y _. cond-le (ltb 0 (begin_at n number y)) 1))
 
   same_number : (a b : ℕ) → a < n → b < n → place_of n number a ≡ place_of n number b → number a ≡ number b
-  same_number a b k l e = elim (cases_lt (number a) (number b)) [
-    | inl less ↦ absurd (omega (arith, place_rises a b k less, e))
-    | inr more ↦ elim (cases_lt (number b) (number a)) [ inl less ↦ absurd (omega (arith, place_rises b a l less, e)) | inr last ↦ omega (arith, more, last) ]
-  ]
+  same_number a b k l e = neither_less (λ h. omega (arith, e, place_rises a b k h)) (λ h. omega (arith, e, place_rises b a l h))
 
   -- one job less than all has a lesser number
-  not_all : (x : ℕ) (k : ℕ) → begin_before k number x ≤ k
-  not_all x k = omega (arith, total_below-bound k 1 (λ j. one_if (ltb (number j) x)) (λ j _. cond-le (ltb (number j) x) 1))
-
   less_than_all : (x j k : ℕ) → j < k → x ≤ number j → begin_before k number x < k
-  less_than_all x j zero l h = absurd (omega (arith, l))
-  less_than_all x j (suc k) l h = elim (cases_lt j k) [
-    | inl less ↦ omega (arith, less_than_all x j k less h, cond-le (ltb (number k) x) 1)
-    | inr more ↦ let e : k ≡ j = omega (arith, l, more) in omega (arith, not_all x k, none (number k) (omega (arith, ap number e, h)))
-  ]
-    where
-      none : (a : ℕ) → x ≤ a → one_if (ltb a x) ≡ 0
-      none a b = grind (arith, nat_tests)
+  less_than_all x j k l h =
+      let last : one_if (ltb (number j) x) < 1 = grind (arith, nat_tests) in
+      let less = total_below-strict k (λ j. one_if (ltb (number j) x)) (λ _. 1) j l (λ c _. cond-le (ltb (number c) x) 1) last in
+      omega (arith, less, total_below-constant k 1)
 
   place_early : (j : ℕ) → j < n → place_of n number j < n
   place_early j l = omega (arith, used_below n number (number j), less_than_all (number j) j n l (omega arith))
@@ -98,10 +83,7 @@ both_passed true b e = (refl, e)
 both_passed false b e = absurd (cc)
 
 spread : (m v : ℕ) (t : Bool) → (t ≡ true → v < m) → one_if t ≡ total_below m (λ y. one_if (cond t (eqb v y) false))
-spread m v false inside = sym (total_below-constant m 0 ∙ none m)
-  where
-    none : (m : ℕ) → m * 0 ≡ 0
-    none m = omega arith
+spread m v false inside = sym (total_below-constant m 0 ∙ mul-zero m)
 spread m v true inside = sym (total_below-only m (λ _. 1) v (inside refl))
 
 -- those that pass have different values below m
@@ -124,10 +106,7 @@ injected n m test value inside once =
 -- ---- the pieces of a schedule
 -- the numbers of pieces that are apart
 floor_apart : (d a b : ℕ) → 1 ≤ d → a + d ≤ b → a / d < b / d
-floor_apart d a b some h = omega (arith, (le-div_iff_mul-le {k = d} {x = a / d + 1} {y = b} some).1 (grow (a / d) (mul-div-le a d)))
-  where
-    grow : (q : ℕ) → d * q ≤ a → (q + 1) * d ≤ b
-    grow q l = omega (arith, l, h)
+floor_apart d a b some h = omega (arith, (le-div_iff_mul-le {k = d} {x = a / d + 1} {y = b} some).1 (omega (arith, mul-div-le a d, h)))
 
 -- two pieces of a list are related one way or the other
 pair_of : (R : Piece → Piece → Type 0) (ps : List Piece) (p q : Piece) → AllPairs R ps → Contains ps p → Contains ps q → p.job ≢ q.job → R p q ⊎ R q p
@@ -157,40 +136,25 @@ whole_length : (k : EnvKind) (i : Instance) (unit : ℤ) (time : ℕ) (p : Piece
     → IsWholeWork k i unit p → length_of p ≡ unit *ℤ pos time
 whole_length k i unit time p (inl e) op inside shape times w =
     subst (λ k. IsWholeWork k i unit p) e w ∙ ap (λ t. unit *ℤ pos t)
-    (ap (λ o. (need_at i p.job o).time) op ∙ times 0 no_need (one (length (job_at i p.job).needs) (subst (λ k. HasShape k i.class.env i.machines (job_at i p.job).needs) e shape).0))
-  where
-    one : (n : ℕ) → n ≡ 1 → 0 < n
-    one n e = omega (arith, e)
+    (ap (λ o. (need_at i p.job o).time) op ∙ times 0 no_need (omega (arith, (subst (λ k. HasShape k i.class.env i.machines (job_at i p.job).needs) e shape).0)))
 whole_length k i unit time p (inr e) op inside shape times w =
     subst (λ k. IsWholeWork k i unit p) e w
-    ∙ ap (λ t. unit *ℤ pos t) (times p.machine no_need (fits (length (job_at i p.job).needs) (subst (λ k. HasShape k i.class.env i.machines (job_at i p.job).needs) e shape).0))
-  where
-    fits : (n : ℕ) → n ≡ i.machines → p.machine < n
-    fits n e = omega (arith, e, inside)
+    ∙ ap (λ t. unit *ℤ pos t) (times p.machine no_need (omega (arith, inside, (subst (λ k. HasShape k i.class.env i.machines (job_at i p.job).needs) e shape).0)))
 
 pub least_one : (k : EnvKind) (i : Instance) (t : Times) (g : ℕ) (needs : List Need)
     → IsEither k → 1 ≤ i.machines → HasShape k i.class.env i.machines needs → HasTimes (least_time k t) g needs → 1 ≤ (get_or needs 0 no_need).time
 least_one k i t g needs (inl e) some shape times =
     subst (λ k. HasTimes (least_time k t) g needs → 1 ≤ (get_or needs 0 no_need).time)
-    (sym e) (λ h. (h 0 no_need (one (length needs) (subst (λ k. HasShape k i.class.env i.machines needs) e shape).0)).0) times
-  where
-    one : (n : ℕ) → n ≡ 1 → 0 < n
-    one n e = omega (arith, e)
+    (sym e) (λ h. (h 0 no_need (omega (arith, (subst (λ k. HasShape k i.class.env i.machines needs) e shape).0))).0) times
 least_one k i t g needs (inr e) some shape times =
     subst (λ k. HasTimes (least_time k t) g needs → 1 ≤ (get_or needs 0 no_need).time)
-    (sym e) (λ h. (h 0 no_need (fits (length needs) (subst (λ k. HasShape k i.class.env i.machines needs) e shape).0)).0) times
-  where
-    fits : (n : ℕ) → n ≡ i.machines → 0 < n
-    fits n e = omega (arith, e, some)
+    (sym e) (λ h. (h 0 no_need (omega (arith, some, (subst (λ k. HasShape k i.class.env i.machines needs) e shape).0))).0) times
 
 when_false : (A B : Type 0) (t : Bool) → t ≡ false → MatchBool t A B → B
 when_false A B t e h = subst (λ t. MatchBool t A B) e h
 
 ends_at : (from to unit : ℤ) (a u t : ℕ) → from ≡ pos a → unit ≡ pos u → to -ℤ from ≡ unit *ℤ pos t → to ≡ pos (a + u * t)
-ends_at from to unit a u t e f h = by (u * t) (h ∙ ap (λ x. x *ℤ pos t) f)
-  where
-    by : (w : ℕ) → to -ℤ from ≡ pos w → to ≡ pos (a + w)
-    by w k = omega (arith, ints, e, k)
+ends_at from to unit a u t e f h = let k : to -ℤ from ≡ pos (u * t) = h ∙ ap (λ x. x *ℤ pos t) f in omega (arith, ints, e, k)
 
 -- a job that begins when so many times are over ends when one more is
 late : (p q u t a : ℕ) → p ≤ q → u * t * q ≤ a → u * (t * (p + 1)) ≤ a + u * t
@@ -205,9 +169,6 @@ module _ (l : Limits) (i : Instance) (s : Schedule) (kind : IsEither (kind_of i.
 
   unit_is : s.unit ≡ pos unit
   unit_is = natural s.unit (omega (arith, ints, f.unit))
-
-  some_unit : 1 ≤ unit
-  some_unit = le-pos (subst (λ x. pos 1 ≤ℤ x) unit_is f.unit)
 
   some_time : 1 ≤ common_time i
   some_time = let first = (c.jobs 0 no_job (omega (arith, c.some))).needs in least_one (kind_of i.class.env) i i.class.times _ (job_at i 0).needs kind c.machines.0 first.shape first.times
@@ -254,20 +215,17 @@ module _ (l : Limits) (i : Instance) (s : Schedule) (kind : IsEither (kind_of i.
   long = unit * common_time i
 
   long_some : 1 ≤ long
-  long_some = mul-pos some_unit some_time
+  long_some = mul-pos (le-pos (subst (λ x. pos 1 ≤ℤ x) unit_is f.unit)) some_time
 
   from_is : (j : ℕ) → j < n → (mine j).from ≡ pos (begin j)
   from_is j b = natural (mine j).from (All-contains (λ p. (pos 0 ≤ℤ p.from) × (p.from <ℤ p.to)) s.pieces (mine j) f.span (here j b).0).0
 
   to_is : (j : ℕ) → j < n → (mine j).to ≡ pos (begin j + long)
   to_is j b =
-      let shape = (All-job c.jobs (mine j).job (placed j b).job).needs.shape in
+      let shape = (c.jobs (mine j).job no_job (placed j b).job).needs.shape in
       ends_at (mine j).from (mine j).to s.unit (begin j) unit (common_time i) (from_is j b) unit_is
       (whole_length (kind_of i.class.env) i s.unit (common_time i) (mine j) kind
       (All-contains (λ p. p.op ≡ 0) s.pieces (mine j) operations (here j b).0) (inside j b) shape (times (mine j).job (placed j b).job) (is_mine j b).whole)
-    where
-      All-job : All (IsJobOf l i) i.jobs → (k : ℕ) → k < n → IsJobOf l i (job_at i k)
-      All-job h k b = h k no_job b
 
   ends_is : (j : ℕ) → j < n → end_of s j ≡ pos (begin j + long)
   ends_is j b =

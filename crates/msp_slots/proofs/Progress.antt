@@ -1,5 +1,5 @@
 -- One slot more: what the pieces and the jobs that are left keep.
-use Rattle.std.proofs.Common.{◌≡◌, ◌≢◌, ℕ, zero, suc, ◌+◌, ◌-◌, ◌<◌, ◌≤◌, ◌⊎◌, inl, inr, Bool, true, false, cond, List, [], ◌∷◌, ◌++◌, length, get_or, map, All, AllPairs, Contains}
+use Rattle.std.proofs.Common.{◌≡◌, ◌≢◌, ℕ, zero, suc, ◌+◌, ◌-◌, ◌<◌, ◌≤◌, ◌⊎◌, inl, inr, Bool, true, false, cond, List, [], ◌∷◌, ◌++◌, length, get_or, map, All, AllPairs, Contains, zero-add}
 use Rattle.std.proofs.Common.{IsPermutation, refl, sym, ap, ap₂, subst, subst₂, ◌∙◌, arith, append_assoc}
 use Rattle.std.specs.Prelude.{◌==◌, ◌&&◌}
 use Rattle.std.specs.List.{list_any, range_with_len}
@@ -194,10 +194,7 @@ module _ (i : Instance) (order : List ℕ) (t : IsOrdered i) (moment : ℕ) (pie
 
   new_at : (P : Piece → Type 0) → ((k : ℕ) → k < length taken → P (piece_at moment k (get_or taken k 0))) → All P made_now
   new_at P h k d l = let b : k < length taken = omega (arith, l, length-seats moment 0 taken) in
-      subst P (ap (λ m. piece_at moment m (get_or taken k 0)) (zero_more k) ∙ sym (seats-at moment 0 taken k d 0 b)) (h k b)
-    where
-      zero_more : (k : ℕ) → k ≡ 0 + k
-      zero_more k = omega arith
+      subst P (ap (λ m. piece_at moment m (get_or taken k 0)) (sym (zero-add k)) ∙ sym (seats-at moment 0 taken k d 0 b)) (h k b)
 
   taken_at : (k : ℕ) → k < length taken → Contains taken (get_or taken k 0)
   taken_at k l = Contains-get_or taken k 0 l

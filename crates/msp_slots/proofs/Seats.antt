@@ -1,8 +1,9 @@
 -- Unit jobs in slots: where each job may begin at its release date, and no more begin at a time than there are machines, the slots of the
 -- earliest schedule suffice. Stated of numbers: job j is released at `release j` and begins at `begin j`.
-use Rattle.std.proofs.Common.{◌≡◌, ◌≢◌, ℕ, zero, suc, ◌+◌, ◌-◌, ◌*◌, ◌<◌, ◌≤◌, ◌⊎◌, inl, inr, Bool, true, false, cond, eqb, ltb, leb, refl, sym, ap, subst, ◌∙◌, arith}
+use Rattle.std.proofs.Common.{◌≡◌, ◌≢◌, ℕ, zero, suc, ◌+◌, ◌-◌, ◌*◌, ◌<◌, ◌≤◌, ◌⊎◌, inl, inr, Bool, true, false, cond, eqb, ltb, leb, refl, sym, ap, subst, ◌∙◌, arith, below_more}
 use Rattle.std.proofs.lemmas.Bool.{cases_lt, eqb-true, eqb-false, eq-eqb, ne_eqb}
 use Rattle.std.proofs.lemmas.Bool.Decides.{nat_tests}
+use Rattle.std.proofs.Math.Numerals.{suc-eq-add-one}
 use Rattle.msp_pieces.proofs.lists.Places.{total_below-within}
 use Rattle.msp_pieces.proofs.lists.Positions.{count_at_most_one}
 use Rattle.msp_slots.specs.Seating.{one_if, begin_at, IsSeated, IsTight, Rises}
@@ -17,12 +18,9 @@ either_below (suc n) P Q h = elim (h n (omega arith)) [
   | inl p ↦ inl (n, omega arith, p)
   | inr q ↦ elim (either_below n P Q (λ j l. h j (omega (arith, l)))) [
     | inl found ↦ inl (found.0, omega (arith, found.1), found.2)
-    | inr all ↦ inr (λ j l. by j l (all j) q)
+    | inr all ↦ inr (λ j l. below_more Q n all q j (omega (arith, l)))
   ]
 ]
-  where
-    by : (j : ℕ) → j < suc n → (j < n → Q j) → Q n → Q j
-    by j l below last = elim (cases_lt j n) [ inl less ↦ below less | inr more ↦ let e : n ≡ j = omega (arith, l, more) in subst Q e last ]
 
 -- a lesser total has a lesser term
 pub total_below-less : (n : ℕ) (f g : ℕ → ℕ) → total_below n f < total_below n g → (j : ℕ) × (j < n) × (f j < g j)
@@ -54,25 +52,16 @@ abbrev pub released_by : ℕ → (ℕ → ℕ) → ℕ → ℕ
 released_by n release x = total_below n (λ j. one_if (leb (release j) x))
 
 before_start : (n : ℕ) (begin : ℕ → ℕ) → begin_before n begin 0 ≡ 0
-before_start n begin = total_below-none n (λ j. one_if (ltb (begin j) 0)) (λ j l. none (begin j))
-  where
-    none : (a : ℕ) → one_if (ltb a 0) ≡ 0
-    none a = grind (arith, nat_tests)
+before_start n begin = total_below-none n (λ j. one_if (ltb (begin j) 0)) (λ j l. grind (arith, nat_tests))
 
 pub before_next : (n : ℕ) (begin : ℕ → ℕ) (x : ℕ) → begin_before n begin (x + 1) ≡ begin_before n begin x + begin_at n begin x
-before_next n begin x = total_below-same n (λ j. one_if (ltb (begin j) (x + 1))) (λ j. one_if (ltb (begin j) x) + one_if (eqb (begin j) x)) (λ j l. one (begin j))
-    ∙ total_below-add n (λ j. one_if (ltb (begin j) x)) (λ j. one_if (eqb (begin j) x))
-  where
-    one : (a : ℕ) → one_if (ltb a (x + 1)) ≡ one_if (ltb a x) + one_if (eqb a x)
-    one a = grind (arith, nat_tests)
+before_next n begin x = total_below-same n (λ j. one_if (ltb (begin j) (x + 1))) (λ j. one_if (ltb (begin j) x) + one_if (eqb (begin j) x))
+    (λ j l. grind (arith, nat_tests)) ∙ total_below-add n (λ j. one_if (ltb (begin j) x)) (λ j. one_if (eqb (begin j) x))
 
 before_mono : (n : ℕ) (begin : ℕ → ℕ) (x y : ℕ) → x ≤ y → begin_before n begin x ≤ begin_before n begin y
-before_mono n begin x y h = total_below-mono n (λ j. one_if (ltb (begin j) x)) (λ j. one_if (ltb (begin j) y)) (λ j l. one (begin j))
-  where
-    one : (a : ℕ) → one_if (ltb a x) ≤ one_if (ltb a y)
-    one a = grind (arith, nat_tests)
+before_mono n begin x y h = total_below-mono n (λ j. one_if (ltb (begin j) x)) (λ j. one_if (ltb (begin j) y)) (λ j l. grind (arith, nat_tests))
 
-before_most : (n : ℕ) (begin : ℕ → ℕ) (x : ℕ) → begin_before n begin x ≤ n
+pub before_most : (n : ℕ) (begin : ℕ → ℕ) (x : ℕ) → begin_before n begin x ≤ n
 before_most n begin x = omega (arith, total_below-bound n 1 (λ j. one_if (ltb (begin j) x)) (λ j l. cond-le (ltb (begin j) x) 1))
 
 -- ---- tight: how many begin before a moment is determined by the release dates
@@ -92,10 +81,7 @@ before_step n m release begin h tight x = (
 )
   where
     early : begin_before n begin (x + 1) ≤ released_by n release x
-    early = total_below-mono n (λ j. one_if (ltb (begin j) (x + 1))) (λ j. one_if (leb (release j) x)) (λ j l. one (release j) (begin j) (h.released j l))
-      where
-        one : (r b : ℕ) → r ≤ b → one_if (ltb b (x + 1)) ≤ one_if (leb r x)
-        one r b l = grind (arith, nat_tests)
+    early = total_below-mono n (λ j. one_if (ltb (begin j) (x + 1))) (λ j. one_if (leb (release j) x)) (λ j l. grind (arith, nat_tests, h.released j l))
 
     waits : (r b : ℕ) → one_if (ltb b (x + 1)) < one_if (leb r x) → (r ≤ x) × (x < b)
     waits r b l = (grind (arith, nat_tests), grind (arith, nat_tests))
@@ -106,14 +92,11 @@ before_same n m release begin heads start a b c d same zero = before_start n beg
 before_same n m release begin heads start a b c d same (suc x) =
     let (u, v, w) = before_step n m release begin a b x in
     let (p, q, r) = before_step n m heads start c d x in
-    ap (begin_before n begin) (next x)
+    ap (begin_before n begin) (suc-eq-add-one x)
     ∙ both (begin_before n begin x) (begin_before n start x) (begin_before n begin (x + 1)) (begin_before n start (x + 1))
     (released_by n release x) (released_by n heads x) (before_same n m release begin heads start a b c d same x) (same x) u v w p q r
-    ∙ sym (ap (begin_before n start) (next x))
+    ∙ sym (ap (begin_before n start) (suc-eq-add-one x))
   where
-    next : (x : ℕ) → suc x ≡ x + 1
-    next x = omega arith
-
     both : (k l k' l' r r' : ℕ) → k ≡ l → r ≡ r' → k' ≤ r → k' ≤ k + m → (k' ≡ r) ⊎ (k' ≡ k + m) → l' ≤ r' → l' ≤ l + m → (l' ≡ r') ⊎ (l' ≡ l + m) → k' ≡ l'
     both k l k' l' r r' e f g h s i j t = grind arith
 
@@ -149,11 +132,7 @@ module _ (n m : ℕ) (release begin : ℕ → ℕ) (h : IsSeated n m release beg
           omega (arith, c, here)
 
       fits : (z b a c : ℕ) → a + one_if (eqb b z) ≡ c + one_if (eqb x z) → c ≤ m → (z ≡ x → c < m) → a ≤ m
-      fits z b a c e f g = by_test (eqb x z) refl
-        where
-          by_test : (t : Bool) → eqb x z ≡ t → a ≤ m
-          by_test true s = omega (arith, e, g (sym (eqb-true x z s)), ap (λ t. one_if t) s)
-          by_test false s = omega (arith, e, f, ap (λ t. one_if t) s)
+      fits z b a c e f g = grind (arith, nat_tests)
 
 module _ (n m : ℕ) (release begin : ℕ → ℕ) where
   abbrev Waits : ℕ → Type 0
@@ -213,6 +192,9 @@ seat_early n begin j l = omega (arith, before_next n begin (begin j), at_more be
 pub seat_inside : (n : ℕ) (begin : ℕ → ℕ) (j : ℕ) → j < n → seat_of n begin j < n
 seat_inside n begin j l = omega (arith, seat_early n begin j l, before_most n begin (begin j + 1))
 
+pub neither_less : {x y : ℕ} → (x < y → ⊥) → (y < x → ⊥) → x ≡ y
+neither_less {x} {y} f g = elim (cases_lt x y) [ inl l ↦ absurd (f l) | inr m ↦ elim (cases_lt y x) [ inl l ↦ absurd (g l) | inr k ↦ omega (arith, m, k) ] ]
+
 seat_later : (n : ℕ) (begin : ℕ → ℕ) (i j : ℕ) → i < n → begin i < begin j → seat_of n begin i < seat_of n begin j
 seat_later n begin i j l b = omega (arith, seat_early n begin i l, before_mono n begin (begin i + 1) (begin j) (omega (arith, b)))
 
@@ -220,18 +202,9 @@ seat_next : (n : ℕ) (begin : ℕ → ℕ) (i j : ℕ) → i < j → begin i �
 seat_next n begin i j l e = omega (arith, at_more begin i j (begin j) l e, ap (begin_before n begin) e, ap (begin_at i begin) e)
 
 pub seat_once : (n : ℕ) (begin : ℕ → ℕ) (i j : ℕ) → i < n → j < n → seat_of n begin i ≡ seat_of n begin j → i ≡ j
-seat_once n begin i j a b e = elim (cases_lt (begin i) (begin j)) [
-  | inl less ↦ absurd (omega (arith, seat_later n begin i j a less, e))
-  | inr more ↦ elim (cases_lt (begin j) (begin i)) [
-    | inl less ↦ absurd (omega (arith, seat_later n begin j i b less, e))
-    | inr not ↦
-        let same : begin i ≡ begin j = omega (arith, more, not) in
-        elim (cases_lt i j) [
-          | inl less ↦ absurd (omega (arith, seat_next n begin i j less same, e))
-          | inr last ↦ elim (cases_lt j i) [ inl less ↦ absurd (omega (arith, seat_next n begin j i less (sym same), e)) | inr done ↦ omega (arith, last, done) ]
-        ]
-  ]
-]
+seat_once n begin i j a b e =
+    let same : begin i ≡ begin j = neither_less (λ l. omega (arith, e, seat_later n begin i j a l)) (λ l. omega (arith, e, seat_later n begin j i b l)) in
+    neither_less (λ l. omega (arith, e, seat_next n begin i j l same)) (λ l. omega (arith, e, seat_next n begin j i l (sym same)))
 
 -- in a rising list as many numbers below x as stand before the first that is not
 rising_from : (n : ℕ) (start : ℕ → ℕ) (k x : ℕ) → Rises n start → k < n → begin_before n start x ≤ k → x ≤ start k
@@ -239,25 +212,19 @@ rising_from n start k x rises l h = elim (cases_lt (start k) x) [
   | inr more ↦ more
   | inl less ↦
       let all : total_below (suc k) (λ j. one_if (ltb (start j) x)) ≡ suc k * 1 =
-      total_below-same (suc k) (λ j. one_if (ltb (start j) x)) (λ _. 1) (λ j b. one (start j) (omega (arith, rises j k (omega (arith, b)) l, less))) ∙ total_below-constant (suc k) 1 in
+      total_below-same (suc k) (λ j. one_if (ltb (start j) x)) (λ _. 1) (λ j b. grind (arith, nat_tests, rises j k (omega (arith, b)) l, less)) ∙ total_below-constant (suc k) 1 in
       absurd (omega (arith, all, total_below-within (λ j. one_if (ltb (start j) x)) (suc k) n (omega (arith, l)), h))
 ]
-  where
-    one : (a : ℕ) → a < x → one_if (ltb a x) ≡ 1
-    one a b = grind (arith, nat_tests)
 
 rising_before : (n : ℕ) (start : ℕ → ℕ) (k x : ℕ) → Rises n start → k < n → k < begin_before n start x → start k < x
 rising_before n start k x rises l h = elim (cases_lt (start k) x) [
   | inl less ↦ less
   | inr more ↦
       let rest : total_below (n - k) (λ i. one_if (ltb (start (k + i)) x)) ≡ 0 =
-      total_below-none (n - k) (λ i. one_if (ltb (start (k + i)) x)) (λ i b. none (start (k + i)) (omega (arith, rises k (k + i) (omega arith) (omega (arith, b)), more))) in
+      total_below-none (n - k) (λ i. one_if (ltb (start (k + i)) x)) (λ i b. grind (arith, nat_tests, rises k (k + i) (omega arith) (omega (arith, b)), more)) in
       let whole : n ≡ k + (n - k) = omega (arith, l) in
       absurd (omega (arith, rest, ap (λ z. begin_before z start x) whole, total_below-split k (n - k) (λ j. one_if (ltb (start j) x)), before_most k start x, h))
 ]
-  where
-    none : (a : ℕ) → x ≤ a → one_if (ltb a x) ≡ 0
-    none a b = grind (arith, nat_tests)
 
 -- each job has a slot of its own, which begins no earlier than its release date and no later than the job did
 pub record HasSeats (n : ℕ) (release begin start seat : ℕ → ℕ) : Type 0 where

@@ -1,7 +1,6 @@
 -- The slots of the earliest schedule are on machines of the instance, no two of them are at one place, and for any whole moments at which jobs
 -- may begin there is a slot for each job that begins no later.
-use Rattle.std.proofs.Common.{◌≡◌, ℕ, ◌<◌, leb, inl, inr, List, length, map, IsPermutation, refl, sym, ap, subst, ◌∙◌, arith}
-use Rattle.std.proofs.lemmas.Bool.{cases_lt}
+use Rattle.std.proofs.Common.{◌≡◌, ℕ, ◌<◌, leb, List, length, map, IsPermutation, refl, sym, ap, subst, ◌∙◌, arith}
 use Rattle.std.proofs.lemmas.List.{length-map}
 use Rattle.std.proofs.lemmas.List.Sorted.{length_permutation}
 use Rattle.msp_class.specs.Sums.{total_below}
@@ -12,7 +11,7 @@ use Rattle.msp_pieces.proofs.lists.Places.{sum_by-places}
 use Rattle.msp_slots.specs.declared.earliest.Slot.{Slot}
 use Rattle.msp_slots.specs.Seating.{one_if, begin_at, IsSeated, IsTight, Rises}
 use Rattle.msp_slots.specs.Earliest.{start_in, machine_in, head_in, AreSlots}
-use Rattle.msp_slots.proofs.Seats.{HasSeats, released_by, law_of_seats, at_more}
+use Rattle.msp_slots.proofs.Seats.{HasSeats, released_by, law_of_seats, at_more, neither_less}
 use Rattle.msp_slots.proofs.Begins.{head_at}
 
 module _ (m : ℕ) (heads : List ℕ) (slots : List Slot) (h : AreSlots m heads slots) where
@@ -23,13 +22,9 @@ module _ (m : ℕ) (heads : List ℕ) (slots : List Slot) (h : AreSlots m heads 
   slot_inside k b = omega (arith, h.machine k b, at_more start k (length heads) (start k) b refl, h.seated.few (start k))
 
   pub same_slot : (a b : ℕ) → a < length heads → b < length heads → start a ≡ start b → machine_in slots a ≡ machine_in slots b → a ≡ b
-  same_slot a b u v s e = elim (cases_lt a b) [
-    | inl less ↦ absurd (omega (arith, at_more start a b (start b) less s, h.machine a u, h.machine b v, e, ap (begin_at a start) s))
-    | inr more ↦ elim (cases_lt b a) [
-      | inl less ↦ absurd (omega (arith, at_more start b a (start a) less (sym s), h.machine a u, h.machine b v, e, ap (begin_at b start) s))
-      | inr last ↦ omega (arith, more, last)
-    ]
-  ]
+  same_slot a b u v s e = neither_less
+      (λ l. omega (arith, at_more start a b (start b) l s, h.machine a u, h.machine b v, e, ap (begin_at a start) s))
+      (λ l. omega (arith, at_more start b a (start a) l (sym s), h.machine a u, h.machine b v, e, ap (begin_at b start) s))
 
 -- ---- the release dates in order
 pub heads_many : (i : Instance) (heads : List ℕ) → IsPermutation (map (λ j. j.release) i.jobs) heads → length heads ≡ length i.jobs

@@ -4,7 +4,7 @@ use Rattle.std.proofs.Common.{Contains, IsPermutation, refl, sym, ap, ap₂, sub
 use Rattle.std.specs.Prelude.{◌==◌, ◌||◌}
 use Rattle.std.specs.List.{list_any}
 use Rattle.std.proofs.lemmas.Bool.{false≢true, ltb-true}
-use Rattle.std.proofs.lemmas.List.{take_more, take_all, length-append, length-take, get_or_append_left, get_or-append_right, get_or_default}
+use Rattle.std.proofs.lemmas.List.{take_more, take_all, length-append, length-take, get_or_append_left, get_or_default, get_or_push}
 use Rattle.std.proofs.lemmas.List.Elements.{All-head, All-tail, All-push, All-contains, Contains-get_or, Contains-append_left, Contains-append_right}
 use Rattle.std.proofs.lemmas.List.Quantifiers.{all_pairs_push}
 use Rattle.std.proofs.lemmas.List.Sorted.{list_any-IsPermutation, All-permutation, Contains-permutation, IsPermutation-refl, IsPermutation-sym, IsPermutation-trans}
@@ -29,11 +29,8 @@ stands-last xs a j (k, l, e) = (
   omega (arith, length-append xs (j ∷ [])),
   get_or_append_left xs (j ∷ []) 0 k l ∙ get_or_default xs k 0 a l
       ∙ e,
-  get_or-append_right xs (j ∷ []) (length xs) (length xs) 0 refl (omega arith) ∙ ap (λ i. get_or (j ∷ []) i 0) (same (length xs)),
+  get_or_push xs j 0 (length xs) refl,
 )
-  where
-    same : (k : ℕ) → k - k ≡ 0
-    same k = omega arith
 
 -- ---- one more job
 pub IsSlot-none : (blocked : ℕ → Bool) (machines : ℕ) → IsSlot [] blocked machines [] []
@@ -63,9 +60,6 @@ module _ (jobs : List ℕ) (blocked : ℕ → Bool) (machines : ℕ) (taken rest
   all_taken_ahead : All (λ f. Before f j) taken
   all_taken_ahead k d l = ahead (get_or taken k d) (Contains-append_left taken rest (get_or taken k d) (Contains-get_or taken k d l))
 
-  all_rest_ahead : All (λ f. Before f j) rest
-  all_rest_ahead k d l = ahead (get_or rest k d) (Contains-append_right taken rest (get_or rest k d) (Contains-get_or rest k d l))
-
   pub IsSlot-take : length taken < machines → blocked j ≡ false → IsSlot (jobs ++ j ∷ []) blocked machines (taken ++ j ∷ []) rest
   IsSlot-take room open_ = record {
     all = all;
@@ -87,7 +81,8 @@ module _ (jobs : List ℕ) (blocked : ℕ → Bool) (machines : ℕ) (taken rest
     free = h.free;
     few = h.few;
     taken_order = wider taken h.taken_order;
-    rest_order = all_pairs_push Before rest j (wider rest h.rest_order) all_rest_ahead;
+    rest_order = all_pairs_push Before rest j (wider rest h.rest_order)
+        (λ k d l. ahead (get_or rest k d) (Contains-append_right taken rest (get_or rest k d) (Contains-get_or rest k d l)));
     kept = All-push Kept rest j old (elim why [ inl full ↦ inr (omega (arith, full, h.few), all_taken_ahead) | inr shut ↦ inl shut ]);
   }
     where

@@ -1,5 +1,5 @@
 -- Jobs of one unit of time, each with one piece: what makes the schedule feasible and keeps it in bounds, and when its jobs end.
-use Rattle.std.proofs.Common.{◌≡◌, ◌≢◌, ℕ, ◌+◌, ◌<◌, ◌≤◌, ◌⊎◌, inl, inr, Bool, false, List, [], ◌∷◌, length, map, pos, ◌-ℤ◌, ◌*ℤ◌, All}
+use Rattle.std.proofs.Common.{◌≡◌, ◌≢◌, ℕ, ◌+◌, ◌<◌, ◌≤◌, ◌⊎◌, inl, inr, Bool, false, List, [], ◌∷◌, length, map, pos, All}
 use Rattle.std.proofs.Common.{refl, sym, ap, subst, ◌∙◌, arith}
 use Rattle.std.specs.List.{range_with_len}
 use Rattle.std.proofs.lemmas.Bool.{cases_lt}
@@ -59,9 +59,6 @@ pub record IsInUnits (i : Instance) (begin : ℕ → ℕ) (pieces : List Piece) 
 pub in_units : (i : Instance) → HasUnitJobs i → (begin machine : ℕ → ℕ) (pieces : List Piece) → AreUnitPieces i begin machine pieces → IsInUnits i begin pieces
 in_units i u begin machine pieces h = record { runs = runs; within = one_each_is_within i runs.uncut 1 pieces runs.one_each (omega arith) (λ _. omega (arith, ints)) }
   where
-    unit_work : (x time : ℕ) → time ≡ 1 → (pos (x + 1) -ℤ pos x) ≡ pos 1 *ℤ pos time
-    unit_work x time e = omega (arith, ints, e)
-
     next : (x y : ℕ) → x ≢ y → (x + 1 ≤ y) ⊎ (y + 1 ≤ x)
     next x y ne = elim (cases_lt x y) [ inl less ↦ inl (omega (arith, less)) | inr more ↦ inr (omega (arith, more, ne)) ]
 
@@ -74,7 +71,7 @@ in_units i u begin machine pieces h = record { runs = runs; within = one_each_is
       apart = λ j k l m ne e. next (begin j) (begin k) (λ same. ne (h.apart j k l m same e));
       released = h.released;
       forward = λ k d l. omega (arith, h.forward k d l);
-      whole = λ j l. subst (λ k. IsWholeWork k i (pos 1) (piece_at (begin j) (machine j) j)) (sym u.kind) (unit_work (begin j) (need_at i j 0).time (u.ones j l));
+      whole = λ j l. subst (λ k. IsWholeWork k i (pos 1) (piece_at (begin j) (machine j) j)) (sym u.kind) (omega (arith, ints, u.ones j l));
       early = λ j l. omega (arith, h.early j l);
     })
 

@@ -1,12 +1,12 @@
 -- The jobs come one after another by release date: the loop over them.
-use Rattle.std.proofs.Common.{◌≡◌, ℕ, ◌+◌, ◌*◌, ◌<◌, ◌≤◌, ◌⊎◌, inl, inr, Bool, true, false, cond, eqb, List, [], ◌∷◌, ◌++◌, length, get_or, map, take, drop, All, AllPairs}
+use Rattle.std.proofs.Common.{◌≡◌, ℕ, ◌+◌, ◌*◌, ◌<◌, ◌≤◌, ◌⊎◌, inl, inr, cond, eqb, List, [], ◌∷◌, ◌++◌, length, get_or, map, take, drop, All, AllPairs}
 use Rattle.std.proofs.Common.{IsPermutation, sum_by, count_by, refl, sym, ap, ◌∙◌, subst, arith}
 use Rattle.std.specs.Prelude.{◌==◌}
 use Rattle.std.specs.List.{range_with_len}
-use Rattle.std.proofs.lemmas.Bool.{cases_lt, eqb-true, eq-eqb}
+use Rattle.std.proofs.lemmas.Bool.{cases_lt, cond_both, eqb-true, eq-eqb}
 use Rattle.std.proofs.lemmas.List.{take_more, take_all, take-append-drop, length-map, length-drop, get_or-map, get_or-drop, get_or_default, get_or_past}
 use Rattle.msp_class.specs.declared.sizes.TheConstants.{MOST_JOBS, GREATEST}
-use Rattle.msp_class.proofs.Sums.{total_below-same, total_below-only, sum_by-append, sum_by-cons, sum_by-none, sum_by-mono, sum_by-constant, sum_by-OnceBelow, length-OnceBelow}
+use Rattle.msp_class.proofs.Sums.{total_below-same, total_below-only, sum_by-append, sum_by-take_more, sum_by-none, sum_by-mono, sum_by-constant, sum_by-OnceBelow, length-OnceBelow}
 use Rattle.msp_class.proofs.Sums.{eqb_comm, cond-yes, OnceBelow, OnceBelow-from_permutation}
 use Rattle.msp_instance.specs.declared.Instance.{Instance}
 use Rattle.msp_instance.specs.Instance.{job_at, no_job}
@@ -58,43 +58,25 @@ module _ (i : Instance) (h : IsShortestInstance i) (order : List ℕ)
 
   -- each job that is released before the next one has come
   come : (k : ℕ) → k < length order → HaveCome i (take k order) (release (at k))
-  come k l j small early = by _ _ _ _ (parts f k) (sum_by-none f (drop k order) later) (brought-all i order once j small)
+  come k l j small early = omega (arith, parts f k, sum_by-none f (drop k order) later, brought-all i order once j small)
     where
       f : ℕ → ℕ
       f x = cond (x == j) (time_at i x) 0
 
-      by : (w x y p : ℕ) → w ≡ x + y → y ≡ 0 → w ≡ p → x ≡ p
-      by w x y p e z g = omega (arith, e, z, g)
-
-      none : (a : ℕ) → release (at k) ≤ release a → (b : Bool) → (a == j) ≡ b → cond b (time_at i a) 0 ≡ 0
-      none a r true e = absurd (omega (arith, early, r, ap release (eqb-true a j e)))
-      none a r false e = refl
-
-      after : (m : ℕ) → m < length (drop k order) → k + m < length order
-      after m q = omega (arith, q, length-drop k order)
-
-      not_before : (m : ℕ) → m < length (drop k order) → release (at k) ≤ release (at (k + m))
-      not_before m q = elim (cases_lt 0 m) [
-        | inl g ↦ sorted k (k + m) 0 (omega (arith, g)) (after m q)
-        | inr g ↦ let z : k + m ≡ k = omega (arith, g) in
-            subst (λ x. release (at k) ≤ release (at x)) (sym z) (omega arith)
-      ]
-
       later : All (λ a. f a ≡ 0) (drop k order)
       later m e q =
-          let is : get_or (drop k order) m e ≡ at (k + m) = get_or-drop k order m e ∙ get_or_default order (k + m) e 0 (after m q) in
-          subst (λ a. f a ≡ 0) (sym is) (none (at (k + m)) (not_before m q) (at (k + m) == j) refl)
+          let a = get_or (drop k order) m e in
+          let after : k + m < length order = omega (arith, q, length-drop k order) in
+          let is : a ≡ at (k + m) = get_or-drop k order m e ∙ get_or_default order (k + m) e 0 after in
+          let not_before : release (at k) ≤ release a = rw is (grind (arith, sorted k (k + m) 0, after)) in
+          cond_both (a == j) _ 0 (λ n. n ≡ 0) (λ t. omega (arith, early, not_before, ap release (eqb-true a j t))) (λ _. refl)
 
   -- the next one has not come
   not_yet : (k : ℕ) → k < length order → count_by (λ y. y == at k) (take k order) ≡ 0
   not_yet k l =
       let a = at k in
       let f : ℕ → ℕ = λ y. cond (y == a) 1 0 in
-      by _ _ _ _ (once.once a (inside k l)) (parts f (k + 1)) (ap (sum_by f) (take_more order k 0 l) ∙ sum_by-append f (take k order) (a ∷ []))
-      (sum_by-cons f a [] ∙ ap (λ n. n + 0) (cond-yes 1 (eq-eqb a a refl)))
-    where
-      by : (w x y z : ℕ) {v : ℕ} → w ≡ 1 → w ≡ x + y → x ≡ v + z → z ≡ 1 + 0 → v ≡ 0
-      by w x y z e f g q = omega (arith, e, f, g, q)
+      omega (arith, once.once a (inside k l), parts f (k + 1), sum_by-take_more f order k 0 l, cond-yes 1 (eq-eqb a a refl))
 
   module _ (k : ℕ) (a : Arrival) (l : k < length order) (release_is : a.release ≡ (job_at i (get_or order k 0)).release)
       (job_is : a.task.job ≡ get_or order k 0) (left_is : a.task.left ≡ time_at i (get_or order k 0)) where

@@ -1,8 +1,8 @@
--- Sums of numbers by how many of them are at most each moment, and sums that grow term by term.
-use Rattle.std.proofs.Common.{◌≡◌, ℕ, zero, suc, ◌+◌, ◌*◌, ◌<◌, ◌≤◌, Bool, true, false, cond, leb, refl, sym, ap, ◌∙◌, arith}
-use Rattle.std.proofs.lemmas.Bool.{leb-true, leb-false}
+-- Sums of numbers by how many of them are at most each moment.
+use Rattle.std.proofs.Common.{◌≡◌, ℕ, zero, suc, ◌+◌, ◌*◌, ◌<◌, ◌≤◌, inl, inr, cond, leb, sym, ap, ◌∙◌, arith}
+use Rattle.std.proofs.lemmas.Bool.{cases_lt, le-leb, lt-leb}
 use Rattle.msp_class.specs.Sums.{total_below}
-use Rattle.msp_class.proofs.Sums.{total_below-mono, total_below-same, total_below-add, total_below-constant, total_below-term, total_below-exchange}
+use Rattle.msp_class.proofs.Sums.{cond-yes, cond-no, total_below-mono, total_below-same, total_below-add, total_below-none, total_below-constant, total_below-term, total_below-exchange}
 
 -- how many of the values of f below n are at most c
 abbrev pub at_most : ℕ → (ℕ → ℕ) → ℕ → ℕ
@@ -11,19 +11,10 @@ at_most n f c = total_below n (λ j. cond (leb (f j) c) 1 0)
 -- a number is what its bound leaves of the moments from it on
 number_by_moments : (x h : ℕ) → x ≤ h → total_below h (λ c. cond (leb x c) 1 0) + x ≡ h
 number_by_moments x zero l = omega (arith, l)
-number_by_moments x (suc h) l = by (leb x h) refl (number_by_moments x h)
-  where
-    none : (h : ℕ) → h < x → total_below h (λ c. cond (leb x c) 1 0) ≡ 0
-    none zero m = refl
-    none (suc h) m = by (leb x h) refl (none h)
-      where
-        by : (b : Bool) → leb x h ≡ b → (h < x → total_below h (λ c. cond (leb x c) 1 0) ≡ 0) → total_below h (λ c. cond (leb x c) 1 0) + cond b 1 0 ≡ 0
-        by true e later = absurd (omega (arith, m, leb-true x h e))
-        by false e later = omega (arith, later (omega (arith, m)))
-
-    by : (b : Bool) → leb x h ≡ b → (x ≤ h → total_below h (λ c. cond (leb x c) 1 0) + x ≡ h) → total_below h (λ c. cond (leb x c) 1 0) + cond b 1 0 + x ≡ suc h
-    by true e later = omega (arith, later (leb-true x h e))
-    by false e later = let m = leb-false x h e in omega (arith, l, m, none h m)
+number_by_moments x (suc h) l = elim (cases_lt h x) [
+  | inl m ↦ omega (arith, l, m, total_below-none (suc h) (λ c. cond (leb x c) 1 0) (λ c b. cond-no 1 (lt-leb x c (omega (arith, m, b)))))
+  | inr m ↦ omega (arith, number_by_moments x h m, cond-yes 1 (le-leb x h m))
+]
 
 total_by_moments : (n h : ℕ) (f : ℕ → ℕ) → ((j : ℕ) → j < n → f j ≤ h) → total_below h (at_most n f) + total_below n f ≡ n * h
 total_by_moments n h f l =
@@ -36,15 +27,6 @@ total_by_moments n h f l =
 pub total_from_counts : (n : ℕ) (f g : ℕ → ℕ) → ((c : ℕ) → at_most n g c ≤ at_most n f c) → total_below n f ≤ total_below n g
 total_from_counts n f g h =
     let top = total_below n f + total_below n g in
-    by _ _ (total_below n f) (total_below n g) _
-    (total_by_moments n top f (λ j l. omega (arith, total_below-term n f j l)))
-    (total_by_moments n top g (λ j l. omega (arith, total_below-term n g j l)))
-    (total_below-mono top (at_most n g) (at_most n f) (λ c l. h c))
-  where
-    by : (a b x y z : ℕ) → a + x ≡ z → b + y ≡ z → b ≤ a → x ≤ y
-    by a b x y z e f l = omega (arith, e, f, l)
-
--- two sums keep their order where no term of the lesser grows by more than that of the greater
-pub total_below-carried : (n : ℕ) (l r l' r' : ℕ → ℕ) → ((j : ℕ) → j < n → l' j + r j ≤ r' j + l j) → total_below n l ≤ total_below n r → total_below n l' ≤ total_below n r'
-total_below-carried n l r l' r' h k =
-    omega (arith, k, total_below-mono n (λ j. l' j + r j) (λ j. r' j + l j) h, total_below-add n l' r, total_below-add n r' l)
+    let low = total_by_moments n top f (λ j l. omega (arith, total_below-term n f j l)) in
+    let high = total_by_moments n top g (λ j l. omega (arith, total_below-term n g j l)) in
+    omega (arith, low, high, total_below-mono top (at_most n g) (at_most n f) (λ c l. h c))

@@ -1,5 +1,5 @@
 -- One job more, by rising head: it begins at the end of the piece before it, or at its head where that is later.
-use Rattle.std.proofs.Common.{◌≡◌, ℕ, zero, suc, ◌+◌, ◌*◌, ◌<◌, ◌≤◌, inl, inr, max, List, [], ◌∷◌, ◌++◌, length, get_or, map, take, All, AllPairs, IsPermutation, refl, sym, ap, subst, ◌∙◌, arith}
+use Rattle.std.proofs.Common.{◌≡◌, ℕ, zero, suc, ◌+◌, ◌*◌, ◌<◌, ◌≤◌, inl, inr, max, List, [], ◌∷◌, ◌++◌, length, get_or, map, take, All, AllPairs, IsPermutation, refl, sym, ap, subst, ◌∙◌, add-one, arith}
 use Rattle.std.specs.List.{range_with_len}
 use Rattle.std.proofs.lemmas.Bool.{cases_lt}
 use Rattle.std.proofs.lemmas.List.{length-map, length-take-le, map-append, get_or_append_left, get_or_push, take_more, take_all}
@@ -31,12 +31,9 @@ pub have_length : (i : Instance) (heads order : List ℕ) (k moment : ℕ) (piec
 have_length i heads order k moment pieces h = sym (length-map pieces (λ p. p.job)) ∙ ap length h.jobs ∙ length-take-le k order h.within
 
 -- a piece more changes none of those before
-number_kept : (old : List Piece) (p : Piece) (m : ℕ) → m < length old → piece_number (old ++ p ∷ []) m ≡ piece_number old m
-number_kept old p m l = get_or_append_left old (p ∷ []) no_piece m l
-
 before_kept : (old : List Piece) (p : Piece) (m : ℕ) → m ≤ length old → end_before (old ++ p ∷ []) m ≡ end_before old m
 before_kept old p zero l = refl
-before_kept old p (suc m) l = ap finish (number_kept old p m (omega (arith, l)))
+before_kept old p (suc m) l = ap finish (get_or_append_left old (p ∷ []) no_piece m (omega (arith, l)))
 
 module _ (i : Instance) (heads order : List ℕ) (k moment : ℕ) (old : List Piece) (h : HaveRun i heads order k moment old) (some : k < length order)
     (job from to : ℕ) (is : job ≡ get_or order k 0) (begins : from ≡ max moment (head_in heads job))
@@ -56,21 +53,12 @@ module _ (i : Instance) (heads order : List ℕ) (k moment : ℕ) (old : List Pi
   early_now : (m : ℕ) → m < k + 1 → start (piece_number new m) ≡ max (end_before new m) (head_in heads (piece_number new m).job)
   early_now m l = elim (cases_lt m k) [
     | inl less ↦
-        let same = number_kept old last m (omega (arith, less, many)) in
-        ap start same ∙ h.early m less ∙ ap (λ x. max x (head_in heads (piece_number old m).job)) (sym (before_kept old last m (omega (arith, less, many))))
-        ∙ ap (λ p. max (end_before new m) (head_in heads p.job)) (sym same)
+        let inside : m < length old = omega (arith, less, many) in
+        rw (get_or_append_left old (last ∷ []) no_piece m inside, before_kept old last m (omega (arith, inside))) (h.early m less)
     | inr more ↦
         let e : m ≡ k = omega (arith, l, more) in
-        let at = ap (piece_number new) e ∙ here in
-        ap start at ∙ begins ∙ ap (λ x. max x (head_in heads job)) (h.now ∙ sym (before_kept old last k (omega (arith, many))) ∙ ap (end_before new) (sym e))
-        ∙ ap (λ p. max (end_before new m) (head_in heads p.job)) (sym at)
+        rw (e, here, before_kept old last k (omega (arith, many)), sym h.now) begins
   ]
-
-  now_is : to ≡ end_before new (k + 1)
-  now_is = by k here
-    where
-      by : (k : ℕ) → piece_number new k ≡ last → to ≡ end_before new (k + 1)
-      by k at = let e : suc k ≡ k + 1 = omega arith in ap finish (sym at) ∙ ap (end_before new) e
 
   pub HaveRun-next : HaveRun i heads order (k + 1) to new
   HaveRun-next = record {
@@ -78,7 +66,7 @@ module _ (i : Instance) (heads order : List ℕ) (k moment : ℕ) (old : List Pi
     jobs = map-append (λ p. p.job) old (last ∷ []) ∙ ap (λ l. l ++ job ∷ []) h.jobs ∙ ap (λ j. take k order ++ j ∷ []) is ∙ sym (take_more order k 0 some);
     whole = All-push (λ p. p ≡ piece p.job (start p) (start p + time_at i p.job)) old last h.whole (ap (piece job from) ends);
     early = early_now;
-    now = now_is;
+    now = ap finish (sym here) ∙ ap (end_before new) (sym (add-one k));
     soon = omega (arith, ends, begins, low, short, h.soon);
   }
 

@@ -1,6 +1,5 @@
 pub mod Counts
 pub mod Lower
-pub mod Lists
 pub mod Laying
 pub mod Steps
 pub mod Queue
@@ -9,6 +8,5 @@ pub mod Arrivals
 pub mod Best
 pub mod EqualInstances
 pub mod SortedEnds
-pub mod HeadEnds
 pub mod HeadSteps
-pub mod HeadBest
+pub mod HeadEnds

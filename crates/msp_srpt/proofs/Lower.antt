@@ -1,48 +1,46 @@
--- Why no schedule on one machine has a lesser sum of ends than one that keeps the rule of shortest remaining time. Numbers alone: the
--- jobs are those below n, released at `r`, with the times `p`; `run t j` says how long job j runs before the moment t under the rule. The
--- other schedule is any list of pieces that are apart, in parts of a unit.
-use Rattle.std.proofs.Common.{◌≡◌, ℕ, zero, suc, ◌+◌, ◌*◌, ◌-◌, ◌<◌, ◌≤◌, ◌⊎◌, inl, inr, Bool, true, false, cond, eqb, leb, List, get_or, filter, All, AllPairs, Contains, sum_by}
-use Rattle.std.proofs.Common.{refl, sym, ap, ◌∙◌, subst, subst₂, arith}
-use Rattle.std.proofs.Math.Nat.{mul-le-mul_left}
-use Rattle.std.proofs.lemmas.Bool.{leb-true, leb-false, eqb-true, eq-eqb, cases_lt}
+-- Why no schedule on one machine has a lesser sum of ends than one that keeps the rule of shortest remaining time. The jobs are those below
+-- n, released at `r`, with the times `p`; `run t j` says how long job j runs before the moment t under the rule. The other schedule is any
+-- list of pieces that are apart, in parts of a unit.
+use Rattle.std.proofs.Common.{◌≡◌, ℕ, zero, suc, ◌+◌, ◌*◌, ◌-◌, ◌/◌, ◌<◌, ◌≤◌, ◌⊎◌, inl, inr, Bool, true, false, cond, eqb, leb, List, length, filter, All, AllPairs}
+use Rattle.std.proofs.Common.{sum_by, refl, sym, ap, ◌∙◌, subst, arith}
+use Rattle.std.proofs.Math.Nat.{lt_of_mul-lt-mul_left, mul-le-mul_left, mul-pos}
+use Rattle.std.proofs.lemmas.Bool.{cases_Bool, le-leb, leb-true, leb-false, eqb-true, eq-eqb, cases_lt}
 use Rattle.std.proofs.lemmas.List.Elements.{All-filter, All-contains, filter_passes}
 use Rattle.msp_class.specs.Sums.{total_below}
-use Rattle.msp_class.proofs.Sums.{total_below-mono, total_below-add, total_below-scale, total_below-only, total_below-none, cond-le, sum_by-same, sum_by-add, sum_by-by_key_filter, sum_by-agree}
+use Rattle.msp_class.proofs.Quotients.{block_and_rest, rest_small}
+use Rattle.msp_class.proofs.Sums.{total_below-mono, total_below-add, total_below-scale, total_below-only, total_below-none, cond-le, cond-no, cond-yes, sum_by-same, sum_by-add, sum_by-by_key_filter, sum_by-agree}
 use Rattle.msp_pieces.specs.Intervals.{IsApart, size_of, work_of}
-use Rattle.msp_pieces.proofs.lists.Intervals.{overlap_of, overlap-add, overlap-inside, packing, last_of, last_of-bound, piece_of}
-use Rattle.msp_srpt.proofs.Counts.{at_most, total_from_counts, total_below-carried}
-
--- ---- what the rule says, in numbers
-pub record IsDue (n : ℕ) (r p now : ℕ → ℕ) (t j : ℕ) : Type 0 where
-  pub inside : j < n
-  pub released : r j ≤ t
-  pub left : 0 < p j - now j
-
-pub data Keeps (n : ℕ) (r p now next : ℕ → ℕ) (t : ℕ) : Type 0 where
-  rests : ((j : ℕ) → ¬ IsDue n r p now t j) → ((j : ℕ) → next j ≡ now j) → Keeps n r p now next t
-  serves : (k : ℕ) → IsDue n r p now t k → ((j : ℕ) → IsDue n r p now t j → p k - now k ≤ p j - now j) → ((j : ℕ) → next j ≡ now j + cond (eqb k j) 1 0) → Keeps n r p now next t
+use Rattle.msp_pieces.proofs.lists.Intervals.{overlap_of, overlap-add, packing, last_of, last_of-bound, piece_of}
+use Rattle.msp_instance.specs.declared.Instance.{Instance}
+use Rattle.msp_instance.specs.Instance.{job_at}
+use Rattle.msp_pieces.specs.BackToBack.{time_at}
+use Rattle.msp_srpt.specs.Shortest.{left_of, KeepsRule, idle, runs}
+use Rattle.msp_srpt.proofs.Counts.{at_most, total_from_counts}
 
 -- the step of the bound where the least remaining time h is greater than m: b jobs of the other schedule, z jobs complete, y and u what is
 -- still to be done before and after the step
 least_left : (d m h b z y u : ℕ) → m < h → d * (h * b) ≤ y + d * (h * z) → y ≤ u + d → d * (m * b) ≤ u + d * (m * z)
 least_left d m h b z y u l e f = elim (cases_lt z b) [
-  | inl g ↦
-      let x = b - suc z in
-      let w = h - suc m in
-      let is : b ≡ suc z + x = omega (arith, g) in
-      let of : h ≡ suc m + w = omega (arith, l) in
-      let e' : d * ((suc m + w) * (suc z + x)) ≤ y + d * ((suc m + w) * z) = subst (λ v. d * (v * (suc z + x)) ≤ y + d * (v * z)) of (subst (λ v. d * (h * v) ≤ y + d * (h * z)) is e) in
-      subst (λ v. d * (m * v) ≤ u + d * (m * z)) (sym is) (more d m z x w y u e' f)
+  | inl g ↦ more (b - suc z) (h - suc m) (omega (arith, g)) (omega (arith, l))
   | inr g ↦ omega (arith, mul-le-mul_left d (mul-le-mul_left m g))
 ]
   where
-    more : (d m z x w y u : ℕ) → d * ((suc m + w) * (suc z + x)) ≤ y + d * ((suc m + w) * z) → y ≤ u + d → d * (m * (suc z + x)) ≤ u + d * (m * z)
-    more d m z x w y u e f = omega (arith, e, f)
+    more : (x w : ℕ) → b ≡ suc z + x → h ≡ suc m + w → d * (m * b) ≤ u + d * (m * z)
+    more x w p q = rw p (omega (arith, rw (p, q) at e, f))
 
-module _ (n : ℕ) (r p : ℕ → ℕ) (run : ℕ → ℕ → ℕ)
-    (positive : (j : ℕ) → j < n → 0 < p j) (unborn : (t j : ℕ) → j < n → t ≤ r j → run t j ≡ 0) (keeps : (t : ℕ) → Keeps n r p (run t) (run (t + 1)) t) where
+module _ (i : Instance) (run : ℕ → ℕ → ℕ) (positive : (j : ℕ) → j < length i.jobs → 0 < time_at i j)
+    (unborn : (t j : ℕ) → t ≤ (job_at i j).release → run t j ≡ 0) (keeps : (t : ℕ) → KeepsRule i (run t) (run (t + 1)) t) where
+  abbrev n : ℕ
+  n = length i.jobs
+
+  abbrev r : ℕ → ℕ
+  r j = (job_at i j).release
+
+  abbrev p : ℕ → ℕ
+  p = time_at i
+
   abbrev left : ℕ → ℕ → ℕ
-  left t j = p j - run t j
+  left t = left_of i (run t)
 
   -- ---- the other schedule
   module _ {X : Type 0} (job from to : X → ℕ) (xs : List X) (d : ℕ) (some : 0 < d) (jobs : All (λ q. job q < n) xs) (apart : AllPairs (IsApart from to) xs)
@@ -65,33 +63,19 @@ module _ (n : ℕ) (r p : ℕ → ℕ) (run : ℕ → ℕ → ℕ)
     -- a job that is not released before t and ends by c fills [t, c) with all its work
     fills-whole : (t c j : ℕ) → j < n → t ≤ r j → last j ≤ c → fills (d * t) c j ≡ d * p j
     fills-whole t c j l h k =
-        sum_by-same (overlap_of from to (d * t) c) (size_of from to) mine (λ a e m. let s = inside a e m in overlap-inside s.0 s.1) ∙ work j l
-      where
-        mine : List X
-        mine = filter (λ q. eqb (job q) j) xs
-
-        inside : All (λ q. (d * t ≤ from q) × (to q ≤ c)) mine
-        inside a e m =
-            let q = get_or mine a e in
-            let is : job q ≡ j = eqb-true (job q) j (filter_passes (λ q. eqb (job q) j) xs a e m) in
-            let begins : d * r (job q) ≤ from q = All-filter (λ q. eqb (job q) j) (λ q. d * r (job q) ≤ from q) xs released a e m in
-            let ends : to q ≤ last (job q) = All-filter (λ q. eqb (job q) j) (λ q. to q ≤ last (job q)) xs (last_of-bound job to xs) a e m in
-            (omega (arith, mul-le-mul_left d h, ap (λ i. d * r i) is, begins), omega (arith, ends, ap last is, k))
+        sum_by-same (overlap_of from to (d * t) c) (size_of from to) (filter (λ q. eqb (job q) j) xs) (λ a e m.
+        let is = eqb-true _ j (filter_passes (λ q. eqb (job q) j) xs a e m) in
+        let begins = All-filter (λ q. eqb (job q) j) (λ q. d * r (job q) ≤ from q) xs released a e m in
+        let ends = All-filter (λ q. eqb (job q) j) (λ q. to q ≤ last (job q)) xs (last_of-bound job to xs) a e m in
+        omega (arith, mul-le-mul_left d h, ap (λ i. d * r i) is, begins, ends, ap last is, k)) ∙ work j l
 
     -- a job that ends by c is released before it
     ends_after : (j : ℕ) → j < n → d * r j < last j
     ends_after j l =
-        let (q, c, e, f) = piece_of job from to xs j (omega (arith, work j l, mul_positive d (p j) some (positive j l))) in
-        by q c e f
-      where
-        mul_positive : (a b : ℕ) → 0 < a → 0 < b → 0 < a * b
-        mul_positive a b h k = grind arith
-
-        by : (q : X) → Contains xs q → job q ≡ j → from q < to q → d * r j < last j
-        by q c e f =
-            let begins = All-contains (λ q. d * r (job q) ≤ from q) xs q released c in
-            let ends = All-contains (λ q. to q ≤ last (job q)) xs q (last_of-bound job to xs) c in
-            omega (arith, begins, ends, f, ap (λ i. d * r i) e, ap last e)
+        let (q, c, e, f) = piece_of job from to xs j (omega (arith, work j l, mul-pos some (positive j l))) in
+        let begins = All-contains (λ q. d * r (job q) ≤ from q) xs q released c in
+        let ends = All-contains (λ q. to q ≤ last (job q)) xs q (last_of-bound job to xs) c in
+        omega (arith, begins, ends, f, ap (λ i. d * r i) e, ap last e)
 
     -- ---- up to a moment c of the other schedule
     module _ (c : ℕ) where
@@ -115,8 +99,9 @@ module _ (n : ℕ) (r p : ℕ → ℕ) (run : ℕ → ℕ → ℕ)
       -- ---- jobs come that are not released before t
       comes : (a b : ℕ → Bool) (t : ℕ) → ((j : ℕ) → j < n → (a j ≡ b j) ⊎ ((a j ≡ false) × (b j ≡ true) × (t ≤ r j))) → Bound a t → Bound b t
       comes a b t h k m =
-          by (d * (m * count b)) (still b t) (d * short b t m) (left_is b) (right_is b)
-          (total_below-carried n (lower a) (upper a) (lower b) (upper b) term (subst₂ (λ x y. x ≤ y) (left_is a) (right_is a) (k m)))
+          let terms = total_below-mono n (λ j. lower b j + upper a j) (λ j. upper b j + lower a j) term in
+          let sums = total_below-add n (lower b) (upper a) in
+          omega (arith, k m, left_is a, left_is b, right_is a, right_is b, terms, sums, total_below-add n (upper b) (lower a))
         where
           lower : (ℕ → Bool) → ℕ → ℕ
           lower a j = d * (m * cond (a j) (cond (over j) 1 0) 0)
@@ -131,25 +116,18 @@ module _ (n : ℕ) (r p : ℕ → ℕ) (run : ℕ → ℕ → ℕ)
           right_is a = sym (total_below-add n (λ j. cond (a j) (cond (over j) (fills (d * t) c j) 0) 0) (λ j. d * cond (a j) (m - left t j) 0)
               ∙ ap (λ s. still a t + s) (total_below-scale n d (λ j. cond (a j) (m - left t j) 0)))
 
-          by : (x y z : ℕ) {u v : ℕ} → x ≡ u → y + z ≡ v → u ≤ v → x ≤ y + z
-          by x y z e f l = omega (arith, e, f, l)
-
           -- a job that comes needs all its time
           new : (j : ℕ) → j < n → t ≤ r j → (o : Bool) → over j ≡ o → d * (m * cond o 1 0) ≤ cond o (fills (d * t) c j) 0 + d * (m - left t j)
           new j l s true e =
-              let all : left t j ≡ p j = omega (arith, unborn t j l s) in
+              let all : left t j ≡ p j = omega (arith, unborn t j s) in
               let enough : m ≤ p j + (m - p j) = omega arith in
               omega (arith, fills-whole t c j l s (leb-true (last j) c e), mul-le-mul_left d enough, ap (λ x. d * (m - x)) all)
           new j l s false e = omega arith
 
           term : (j : ℕ) → j < n → lower b j + upper a j ≤ upper b j + lower a j
           term j l = elim (h j l) [
-            | inl e ↦ subst (λ x. d * (m * cond x (cond (over j) 1 0) 0) + upper a j ≤ (cond x (cond (over j) (fills (d * t) c j) 0) 0 + d * cond x (m - left t j) 0) + lower a j) e (omega arith)
-            | inr e ↦
-                let fresh = new j l e.2 (over j) refl in
-                let P : Bool → Bool → Type 0 = λ x y. d * (m * cond y (cond (over j) 1 0) 0) + (cond x (cond (over j) (fills (d * t) c j) 0) 0 + d * cond x (m - left t j) 0)
-                ≤ (cond y (cond (over j) (fills (d * t) c j) 0) 0 + d * cond y (m - left t j) 0) + d * (m * cond x (cond (over j) 1 0) 0) in
-                subst₂ P (sym e.0) (sym e.1) (omega (arith, fresh))
+            | inl e ↦ rw e (omega arith)
+            | inr e ↦ rw (e.0, e.1) (omega (arith, new j l e.2 (over j) refl))
           ]
 
       -- ---- one step of the rule
@@ -163,36 +141,25 @@ module _ (n : ℕ) (r p : ℕ → ℕ) (run : ℕ → ℕ → ℕ)
           where
             one : (x y : Bool) (f g h : ℕ) → f ≡ g + h → cond x (cond y f 0) 0 ≤ cond x (cond y h 0) 0 + g
             one true true f g h e = omega (arith, e)
-            one true false f g h e = omega arith
-            one false y f g h e = omega arith
+            one _ _ f g h e = omega arith
 
         -- how many that pass the test are complete
         abbrev complete : ℕ
         complete = total_below n (λ j. cond (a j) (cond (leb (left t j) 0) 1 0) 0)
 
-        complete-left : (j : ℕ) → leb (left t j) 0 ≡ true → left t j ≡ 0
-        complete-left j e = omega (arith, leb-true (left t j) 0 e)
-
-        steps_by : Keeps n r p (run t) (run (t + 1)) t → Bound a (t + 1)
-        steps_by (rests none same) m =
+        steps_by : KeepsRule i (run t) (run (t + 1)) t → Bound a (t + 1)
+        steps_by (idle none same) m =
             let all : m * count a ≤ short a (t + 1) m = subst (λ s. s ≤ short a (t + 1) m) (total_below-scale n m (λ j. cond (a j) (cond (over j) 1 0) 0))
             (total_below-mono n (λ j. m * cond (a j) (cond (over j) 1 0) 0) (λ j. cond (a j) (m - left (t + 1) j) 0) (λ j l. one j l (a j) refl)) in
             omega (arith, mul-le-mul_left d all)
           where
-            nothing : (j : ℕ) → j < n → a j ≡ true → left (t + 1) j ≡ 0
-            nothing j l e = elim (cases_lt 0 (left t j)) [
-              | inl g ↦ absurd (none j (record { inside = l; released = by_then j l e; left = g }))
-              | inr g ↦ ap (λ x. p j - x) (same j) ∙ omega (arith, g)
-            ]
-
             one : (j : ℕ) → j < n → (x : Bool) → a j ≡ x → m * cond x (cond (over j) 1 0) 0 ≤ cond x (m - left (t + 1) j) 0
-            one j l true e = let z = nothing j l e in two (over j) (left (t + 1) j) z
-              where
-                two : (y : Bool) (w : ℕ) → w ≡ 0 → m * cond y 1 0 ≤ m - w
-                two true w z = omega (arith, z)
-                two false w z = omega arith
+            one j l true e = elim (cases_lt 0 (left t j)) [
+              | inl g ↦ absurd (none j (record { inside = l; released = by_then j l e; left = g }))
+              | inr g ↦ omega (arith, g, same j, mul-le-mul_left m (cond-le (over j) 1))
+            ]
             one j l false e = omega arith
-        steps_by (serves k due first one_more) m = elim (cases_lt m h) [ inl g ↦ below g | inr g ↦ above g ]
+        steps_by (runs k due first one_more) m = elim (cases_lt m h) [ inl g ↦ below g | inr g ↦ above g ]
           where
             h : ℕ
             h = left t k
@@ -201,13 +168,10 @@ module _ (n : ℕ) (r p : ℕ → ℕ) (run : ℕ → ℕ → ℕ)
             in_test = already k due.inside due.released
 
             other : (j : ℕ) → eqb k j ≡ false → left (t + 1) j ≡ left t j
-            other j e = ap (λ x. p j - x) (one_more j ∙ ap (λ b. run t j + cond b 1 0) e ∙ omega arith)
+            other j e = omega (arith, one_more j, cond-no 1 e)
 
             that : left (t + 1) k + 1 ≡ left t k
-            that = by (run t k) (run (t + 1) k) (p k) (one_more k ∙ ap (λ b. run t k + cond b 1 0) (eq-eqb k k refl)) due.left
-              where
-                by : (x y q : ℕ) → y ≡ x + 1 → 0 < q - x → (q - y) + 1 ≡ q - x
-                by x y q e l = omega (arith, e, l)
+            that = omega (arith, one_more k, cond-yes 1 (eq-eqb k k refl), due.left)
 
             -- m is at least the remaining time of the job that runs: it comes one nearer
             above : h ≤ m → d * (m * count a) ≤ still a (t + 1) + d * short a (t + 1) m
@@ -218,8 +182,7 @@ module _ (n : ℕ) (r p : ℕ → ℕ) (run : ℕ → ℕ → ℕ)
                 omega (arith, bound m, steps, mul-le-mul_left d grows)
               where
                 term : (j : ℕ) (b : Bool) → eqb k j ≡ b → cond (a j) (m - left t j) 0 + cond b 1 0 ≤ cond (a j) (m - left (t + 1) j) 0
-                term j true e = subst (λ i. cond (a i) (m - left t i) 0 + 1 ≤ cond (a i) (m - left (t + 1) i) 0)
-                    (eqb-true k j e) (subst (λ x. cond x (m - left t k) 0 + 1 ≤ cond x (m - left (t + 1) k) 0) (sym in_test) (omega (arith, that, g)))
+                term j true e = rw (sym (eqb-true k j e), in_test) (omega (arith, that, g))
                 term j false e = omega (arith, ap (λ x. cond (a j) (m - x) 0) (other j e))
 
             -- m is less than each remaining time but 0
@@ -232,17 +195,12 @@ module _ (n : ℕ) (r p : ℕ → ℕ) (run : ℕ → ℕ → ℕ)
                 omega (arith, least_left d m h (count a) complete (still a t) (still a (t + 1)) g (omega (arith, bound h, mul-le-mul_left d few)) steps, mul-le-mul_left d many)
               where
                 at_h : (j : ℕ) → j < n → (x : Bool) → a j ≡ x → (y : Bool) → leb (left t j) 0 ≡ y → cond x (h - left t j) 0 ≤ h * cond x (cond y 1 0) 0
-                at_h j l true e true f = omega arith
                 at_h j l true e false f = omega (arith, first j (record { inside = l; released = by_then j l e; left = leb-false (left t j) 0 f }))
-                at_h j l false e y f = omega arith
+                at_h j l _ e _ f = omega arith
 
                 at_m : (j : ℕ) (x y : Bool) → leb (left t j) 0 ≡ y → m * cond x (cond y 1 0) 0 ≤ cond x (m - left (t + 1) j) 0
-                at_m j true true f = by (left (t + 1) j) (run t j) (run (t + 1) j) (p j) refl (complete-left j f) (one_more j)
-                  where
-                    by : (w x y q : ℕ) → w ≡ q - y → q - x ≡ 0 → y ≡ x + cond (eqb k j) 1 0 → m * 1 ≤ m - w
-                    by w x y q e z s = omega (arith, e, z, s)
-                at_m j true false f = omega arith
-                at_m j false y f = omega arith
+                at_m j true true f = omega (arith, leb-true (left t j) 0 f, one_more j)
+                at_m j _ _ f = omega arith
 
       -- ---- from the start on
       abbrev by_now : ℕ → ℕ → Bool
@@ -250,29 +208,18 @@ module _ (n : ℕ) (r p : ℕ → ℕ) (run : ℕ → ℕ → ℕ)
 
       bound_at : (t : ℕ) → d * t ≤ c → Bound (by_now t) t
       bound_at zero l =
-          comes (λ _. false) (by_now 0) 0 (λ j m. starts (by_now 0 j) refl) (λ m. omega (arith, ap (λ s. d * (m * s)) (total_below-none n (λ j. cond false (cond (over j) 1 0) 0) (λ j k. refl))))
-        where
-          starts : {j : ℕ} (b : Bool) → by_now 0 j ≡ b → (false ≡ by_now 0 j) ⊎ ((false ≡ false) × (by_now 0 j ≡ true) × (0 ≤ r j))
-          starts true e = inr (refl, e, omega arith)
-          starts false e = inl (sym e)
+          comes (λ _. false) (by_now 0) 0 (λ j m. elim (cases_Bool (by_now 0 j)) [ inl e ↦ inr (refl, e, omega arith) | inr e ↦ inl (sym e) ])
+          (λ m. omega (arith, ap (λ s. d * (m * s)) (total_below-none n (λ j. cond false (cond (over j) 1 0) 0) (λ j k. refl))))
       bound_at (suc t) l =
           let same : suc t ≡ t + 1 = omega arith in
           subst (λ u. Bound (by_now u) u) (sym same)
           (comes (by_now t) (by_now (t + 1)) (t + 1) (λ j m. later j (by_now t j) refl (by_now (t + 1) j) refl)
-          (steps_by (by_now t) t (λ j m e. leb-true (r j) t e) (λ j m k. leb-yes (r j) t k) (subst (λ u. d * u ≤ c) same l) (bound_at t (omega (arith, l))) (keeps t)))
+          (steps_by (by_now t) t (λ j m e. leb-true (r j) t e) (λ j m k. le-leb (r j) t k) (subst (λ u. d * u ≤ c) same l) (bound_at t (omega (arith, l))) (keeps t)))
         where
-          leb-yes : (x y : ℕ) → x ≤ y → leb x y ≡ true
-          leb-yes x y h = by (leb x y) refl
-            where
-              by : (b : Bool) → leb x y ≡ b → leb x y ≡ true
-              by true e = e
-              by false e = absurd (omega (arith, h, leb-false x y e))
-
           later : (j : ℕ) (x : Bool) → by_now t j ≡ x → (y : Bool) → by_now (t + 1) j ≡ y → (by_now t j ≡ by_now (t + 1) j) ⊎ ((by_now t j ≡ false) × (by_now (t + 1) j ≡ true) × (t + 1 ≤ r j))
-          later j true e true f = inl (e ∙ sym f)
           later j true e false f = absurd (omega (arith, leb-true (r j) t e, leb-false (r j) (t + 1) f))
           later j false e true f = inr (e, f, omega (arith, leb-false (r j) t e))
-          later j false e false f = inl (e ∙ sym f)
+          later j _ e _ f = inl (e ∙ sym f)
 
       -- no more jobs are over by c than are complete by the last moment of the rule that is not after c
       over_by : (end : ℕ → ℕ) → ((t j : ℕ) → j < n → left t j ≡ 0 → end j ≤ t) → (t : ℕ) → d * t ≤ c → c < d * (t + 1) → at_most n last c ≤ at_most n (λ j. d * end j) c
@@ -293,33 +240,22 @@ module _ (n : ℕ) (r p : ℕ → ℕ) (run : ℕ → ℕ → ℕ)
           fewer : (b k y : ℕ) → d * b ≤ y + d * k → y < d → b ≤ k
           fewer b k y e f = elim (cases_lt k b) [ inl g ↦ let g' : suc k ≤ b = omega (arith, g) in absurd (omega (arith, e, f, mul-le-mul_left d g')) | inr g ↦ g ]
 
-          smaller : (x y : ℕ) → d * x < d * y → x < y
-          smaller x y e = elim (cases_lt x y) [ inl g ↦ g | inr g ↦ absurd (omega (arith, e, mul-le-mul_left d g)) ]
-
           released_by : (j : ℕ) → j < n → (x : Bool) → over j ≡ x → (y : Bool) → by_now t j ≡ y → cond x 1 0 ≤ cond y (cond x 1 0) 0
-          released_by j k true e true f = omega arith
-          released_by j k true e false f = absurd (omega (arith, leb-false (r j) t f, smaller (r j) (t + 1) (omega (arith, ends_after j k, leb-true (last j) c e, m))))
-          released_by j k false e true f = omega arith
-          released_by j k false e false f = omega arith
+          released_by j k true e false f =
+              let early : d * r j < d * (t + 1) = omega (arith, ends_after j k, leb-true (last j) c e, m) in
+              omega (arith, leb-false (r j) t f, lt_of_mul-lt-mul_left d early)
+          released_by j k _ e _ f = omega arith
 
           ended : (j : ℕ) → j < n → (x y : Bool) → leb (d * end j) c ≡ y → cond x (1 - left t j) 0 ≤ cond y 1 0
-          ended j k true true e = omega arith
           ended j k true false e = elim (cases_lt 0 (left t j)) [
             | inl g ↦ omega (arith, g)
             | inr g ↦ absurd (omega (arith, leb-false (d * end j) c e, mul-le-mul_left d (complete t j k (omega (arith, g))), l))
           ]
-          ended j k false y e = omega arith
-
-    -- the last moment of the rule that is not after c
-    moment_of : (c : ℕ) → (t : ℕ) × (d * t ≤ c) × (c < d * (t + 1))
-    moment_of zero = (0, omega arith, omega (arith, some))
-    moment_of (suc c) = let (t, l, m) = moment_of c in by t l m
-      where
-        by : (t : ℕ) → d * t ≤ c → c < d * (t + 1) → (t : ℕ) × (d * t ≤ suc c) × (suc c < d * (t + 1))
-        by t l m = elim (cases_lt (suc c) (d * (t + 1))) [ inl g ↦ (t, omega (arith, l), g) | inr g ↦ (t + 1, omega (arith, g), omega (arith, m, some)) ]
+          ended j k _ _ e = omega arith
 
     -- the ends under the rule have no greater sum
     pub ends_below : (end : ℕ → ℕ) → ((t j : ℕ) → j < n → left t j ≡ 0 → end j ≤ t) → d * total_below n end ≤ total_below n last
     ends_below end complete =
         subst (λ s. s ≤ total_below n last) (total_below-scale n d end)
-        (total_from_counts n (λ j. d * end j) last (λ c. let (t, l, m) = moment_of c in over_by c end complete t l m))
+        (total_from_counts n (λ j. d * end j) last (λ c.
+        over_by c end complete (c / d) (omega (arith, block_and_rest d c)) (omega (arith, block_and_rest d c, rest_small d c some))))

@@ -1,11 +1,11 @@
 -- The queue of tasks, and the steps of the rule as the code takes them.
-use Rattle.std.proofs.Common.{◌≡◌, ℕ, ◌+◌, ◌-◌, ◌<◌, ◌≤◌, ◌⊎◌, false, List, [], ◌∷◌, length, All, IsPermutation, refl, sym, ◌∙◌, subst, arith}
+use Rattle.std.proofs.Common.{◌≡◌, ℕ, ◌+◌, ◌-◌, ◌<◌, ◌≤◌, false, List, [], ◌∷◌, length, All, IsPermutation, refl, sym, ◌∙◌, subst, arith}
 use Rattle.std.specs.Ordering.{is_lt, nat_cmp, ordering_then}
 use Rattle.std.specs.declared.cmp.Reverse.{Reverse}
 use Rattle.std.specs.BinaryHeap.{IsUpperBound}
 use Rattle.std.proofs.lemmas.Bool.Decides.{nat_tests}
 use Rattle.std.proofs.lemmas.List.Elements.{All-nil, All-cons, All-head, All-tail}
-use Rattle.std.proofs.lemmas.List.Sorted.{IsPermutation-map, All-permutation}
+use Rattle.std.proofs.lemmas.List.Sorted.{All-permutation}
 use Rattle.msp_instance.specs.Instance.{job_at}
 use Rattle.msp_pieces.specs.declared.Piece.{Piece}
 use Rattle.msp_srpt.specs.declared.shortest.Task.{Task}
@@ -14,17 +14,11 @@ use Rattle.msp_srpt.proofs.Steps.{IsUnderWay-permuted, IsUnderWay-idle, IsUnderW
 
 -- ---- what is not greater runs no later
 precedes : (a b : Task) → is_lt (ordering_then (nat_cmp b.left a.left) (nat_cmp b.job a.job)) ≡ false → Precedes a b
-precedes a b h = by a.left b.left a.job b.job h
-  where
-    by : (x y j k : ℕ) → is_lt (ordering_then (nat_cmp y x) (nat_cmp k j)) ≡ false → (x < y) ⊎ ((x ≡ y) × (j ≤ k))
-    by x y j k h = grind (arith, nat_tests)
+precedes a b h = grind (arith, nat_tests)
 
 pub precedes_all : (a : Reverse Task) (xs : List (Reverse Task)) → IsUpperBound (λ x y. ordering_then (nat_cmp y.0.left x.0.left) (nat_cmp y.0.job x.0.job)) a xs → All (Precedes a.0) (tasks_in xs)
 precedes_all a [] h = All-nil (Precedes a.0)
 precedes_all a (x ∷ xs) h = All-cons (Precedes a.0) x.0 (tasks_in xs) (precedes a.0 x.0 h.0) (precedes_all a xs h.1)
-
-pub tasks-moved : (xs ys : List (Reverse Task)) → IsPermutation xs ys → IsPermutation (tasks_in xs) (tasks_in ys)
-tasks-moved xs ys p = IsPermutation-map (λ x. x.0) xs ys p
 
 -- ---- all tasks still need time
 abbrev pub StillNeed : List Task → Type 0

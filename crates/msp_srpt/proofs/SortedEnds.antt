@@ -1,29 +1,22 @@
 -- Numbers in rising order by how many of them are at most a moment, and the sorted ends of a schedule.
-use Rattle.std.proofs.Common.{◌≡◌, ℕ, zero, suc, ◌<◌, ◌≤◌, inl, inr, cond, leb, List, length, map, ℤ, pos, nat_abs, ◌≤ℤ◌, All, sym, ap, subst, subst₂, ◌∙◌, arith}
+use Rattle.std.proofs.Common.{◌≡◌, ℕ, zero, suc, ◌<◌, ◌≤◌, inl, inr, cond, leb, List, length, get_or, map, ℤ, pos, nat_abs, ◌≤ℤ◌, All, sym, ap, subst₂, ◌∙◌, arith}
 use Rattle.std.specs.List.{range_with_len}
 use Rattle.std.proofs.lemmas.Bool.{cases_lt, le-leb, lt-leb}
-use Rattle.std.proofs.lemmas.List.FromFn.{length-map-range_with_len, get_or-map-range_with_len}
+use Rattle.std.proofs.lemmas.List.Elements.{All-map}
+use Rattle.std.proofs.lemmas.List.FromFn.{length-map-range_with_len}
 use Rattle.std.proofs.lemmas.List.Sorted.{All-permutation, length_permutation}
-use Rattle.msp_class.proofs.IntegerRing.{natural, le-pos, zero-le-pos}
+use Rattle.msp_class.proofs.IntegerRing.{natural, le-pos}
 use Rattle.msp_class.specs.Sums.{total_below}
 use Rattle.msp_class.proofs.Sums.{cond-le, cond-yes, cond-no, sum_by-IsPermutation, sum_by-map, total_below-bound, total_below-same, total_below-constant, total_below-range}
 use Rattle.msp_instance.specs.declared.Instance.{Instance}
 use Rattle.msp_pieces.specs.declared.Schedule.{Schedule}
 use Rattle.msp_pieces.specs.Cost.{end_of}
-use Rattle.msp_pieces.proofs.lists.Places.{sum_by-places}
+use Rattle.msp_pieces.proofs.feasible.LastEnds.{last_end-natural}
+use Rattle.msp_pieces.proofs.lists.Places.{sum_by-places, total_below-within}
 use Rattle.msp_srpt.specs.EqualHeads.{AreSortedEnds, end_number}
 use Rattle.msp_srpt.proofs.Counts.{at_most}
 
 -- ---- places that count 0 or 1
-abbrev counted : ℕ → ℕ → ℕ
-counted x c = cond (leb x c) 1 0
-
-pub count-yes : (x c : ℕ) → x ≤ c → counted x c ≡ 1
-count-yes x c l = cond-yes 1 (le-leb x c l)
-
-count-no : (x c : ℕ) → c < x → counted x c ≡ 0
-count-no x c l = cond-no 1 (lt-leb x c l)
-
 -- where none counts from place m on, at most m do
 pub few : (n m : ℕ) (f : ℕ → ℕ) → ((p : ℕ) → f p ≤ 1) → ((p : ℕ) → m ≤ p → p < n → f p ≡ 0) → total_below n f ≤ m
 few zero m f one none = omega arith
@@ -34,11 +27,9 @@ few (suc n) m f one none = elim (cases_lt n m) [
 
 -- where all up to place k do, more than k do
 pub many : (n k : ℕ) (f : ℕ → ℕ) → k < n → ((p : ℕ) → p ≤ k → f p ≡ 1) → k < total_below n f
-many zero k f l h = absurd (omega (arith, l))
-many (suc n) k f l h = elim (cases_lt k n) [
-  | inl b ↦ omega (arith, many n k f b h)
-  | inr b ↦ omega (arith, b, l, h n (omega (arith, b)), total_below-same n f (λ _. 1) (λ p m. h p (omega (arith, m, b))), total_below-constant n 1)
-]
+many n k f l h =
+    let first = total_below-same (suc k) f (λ _. 1) (λ p m. h p (omega (arith, m))) in
+    omega (arith, total_below-within f (suc k) n l, first, total_below-constant (suc k) 1)
 
 -- ---- numbers in rising order
 abbrev pub Rises : ℕ → (ℕ → ℕ) → Type 0
@@ -47,12 +38,15 @@ Rises n x = (p q : ℕ) → p ≤ q → q < n → x p ≤ x q
 -- the number at place k is at most a moment where more than k of them are, and the reverse
 pub low_from_count : (n : ℕ) (x : ℕ → ℕ) → Rises n x → (k c : ℕ) → k < n → k < at_most n x c → x k ≤ c
 low_from_count n x rises k c l h = elim (cases_lt c (x k)) [
-  | inl more ↦ absurd (omega (arith, h, few n k (λ p. cond (leb (x p) c) 1 0) (λ p. cond-le (leb (x p) c) 1) (λ p b m. count-no (x p) c (omega (arith, more, rises k p b m)))))
+  | inl more ↦
+      let none : (p : ℕ) → k ≤ p → p < n → cond {A = ℕ} (leb (x p) c) 1 0 ≡ 0 = λ p b m. cond-no 1 (lt-leb (x p) c (omega (arith, rises k p b m))) in
+      omega (arith, h, few n k (λ p. cond (leb (x p) c) 1 0) (λ p. cond-le (leb (x p) c) 1) none)
   | inr less ↦ less
 ]
 
 pub count_from_low : (n : ℕ) (x : ℕ → ℕ) → Rises n x → (k c : ℕ) → k < n → x k ≤ c → k < at_most n x c
-count_from_low n x rises k c l h = many n k (λ p. cond (leb (x p) c) 1 0) l (λ p b. count-yes (x p) c (omega (arith, h, rises p k b l)))
+count_from_low n x rises k c l h =
+    many n k (λ p. cond (leb (x p) c) 1 0) l (λ p b. cond-yes 1 (le-leb (x p) c (omega (arith, h, rises p k b l))))
 
 -- ---- the sorted ends
 -- they rise, and as many of them are at most a moment as jobs end by it
@@ -71,9 +65,8 @@ module _ (i : Instance) (s : Schedule) (end : ℕ → ℕ) (is : (j : ℕ) → j
   as_many = length_permutation (map (end_of s) (range_with_len 0 n)) ends h.0 ∙ length-map-range_with_len (end_of s) 0 n
 
   from_zero : All (λ x. pos 0 ≤ℤ x) ends
-  from_zero = All-permutation (λ x. pos 0 ≤ℤ x) (map (end_of s) (range_with_len 0 n)) ends h.0 (λ k d l.
-      let b : k < n = omega (arith, l, length-map-range_with_len (end_of s) 0 n) in
-      subst (λ x. pos 0 ≤ℤ x) (sym (get_or-map-range_with_len (end_of s) 0 n k k d b (omega arith) ∙ is k b)) (zero-le-pos (end k)))
+  from_zero = All-permutation (λ x. pos 0 ≤ℤ x) (map (end_of s) (range_with_len 0 n)) ends h.0
+      (All-map (λ x. pos 0 ≤ℤ x) (end_of s) (range_with_len 0 n) (λ k d l. last_end-natural s.pieces (get_or _ k d)))
 
   pub number_at : (k : ℕ) → k < n → end_number ends k ≡ pos (sorted k)
   number_at k l = natural (end_number ends k) (from_zero k (pos 0) (omega (arith, l, as_many)))
@@ -84,7 +77,8 @@ module _ (i : Instance) (s : Schedule) (end : ℕ → ℕ) (is : (j : ℕ) → j
   pub AreCounted-from_sorted : AreCounted n end sorted
   AreCounted-from_sorted = record {
     rises = λ p q b l. elim (cases_lt p q) [
-      | inl less ↦ le_pos (number_at p (omega (arith, l, b))) (number_at q l) (h.1 p q (pos 0) less (omega (arith, l, as_many)))
+      | inl less ↦ le-pos (subst₂ (λ u v. u ≤ℤ v) (number_at p (omega (arith, l, b)))
+          (number_at q l) (h.1 p q (pos 0) less (omega (arith, l, as_many))))
       | inr more ↦ let e : p ≡ q = omega (arith, b, more) in omega (arith, ap sorted e)
     ];
     counts = λ c.
@@ -95,6 +89,3 @@ module _ (i : Instance) (s : Schedule) (end : ℕ → ℕ) (is : (j : ℕ) → j
         ∙ total_below-range n (λ j. one c (end_of s j))
         ∙ total_below-same n (λ j. one c (end_of s j)) (λ j. cond (leb (end j) c) 1 0) (λ j l. ap (one c) (is j l));
   }
-    where
-      le_pos : {x y : ℤ} {a b : ℕ} → x ≡ pos a → y ≡ pos b → x ≤ℤ y → a ≤ b
-      le_pos {x} {y} {a} {b} e f l = le-pos (subst₂ (λ u v. u ≤ℤ v) e f l)

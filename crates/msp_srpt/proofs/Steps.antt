@@ -1,12 +1,13 @@
 -- The steps of the rule: a job comes, the first task runs, none waits.
-use Rattle.std.proofs.Common.{◌≡◌, ℕ, ◌+◌, ◌*◌, ◌-◌, ◌<◌, ◌≤◌, ◌⊎◌, inl, inr, min, Bool, true, false, cond, List, [], ◌∷◌, ◌++◌, length, get_or, All, Contains, IsPermutation, sum_by}
-use Rattle.std.proofs.Common.{count_by, refl, sym, ap, ◌∙◌, subst, arith}
+use Rattle.std.proofs.Common.{◌≡◌, ℕ, ◌+◌, ◌*◌, ◌-◌, ◌<◌, ◌≤◌, ◌⊎◌, inl, inr, min, Bool, true, false, cond, List, [], ◌∷◌, ◌++◌, length, All, Contains, IsPermutation, sum_by}
+use Rattle.std.proofs.Common.{count_by, refl, sym, ap, ap₂, ◌∙◌, subst, subst₂, arith}
+use Rattle.std.proofs.Math.Path.{fun_ext}
 use Rattle.std.specs.Prelude.{◌==◌}
-use Rattle.std.proofs.lemmas.Bool.{cases_lt, eqb-true, eq-eqb}
+use Rattle.std.proofs.lemmas.Bool.{cases_lt, eqb-true, eq-eqb, true_from_ne_false}
 use Rattle.std.proofs.lemmas.List.Elements.{All-cons, All-head, All-tail, All-contains}
 use Rattle.std.proofs.lemmas.List.Sorted.{All-permutation, length_permutation}
 use Rattle.msp_class.specs.declared.sizes.TheConstants.{GREATEST}
-use Rattle.msp_class.proofs.Sums.{sum_by-append, sum_by-cons, sum_by-none, sum_by-some, sum_by-contains, sum_by-IsPermutation, cond-yes, cond-no}
+use Rattle.msp_class.proofs.Sums.{sum_by-append, sum_by-cons, sum_by-some, sum_by-contains, sum_by-IsPermutation, cond-zero, cond-yes, cond-no}
 use Rattle.msp_instance.specs.declared.Instance.{Instance}
 use Rattle.msp_instance.specs.Instance.{job_at}
 use Rattle.msp_pieces.specs.declared.Piece.{Piece}
@@ -14,26 +15,7 @@ use Rattle.msp_pieces.specs.BackToBack.{time_at}
 use Rattle.msp_srpt.specs.declared.shortest.Task.{Task}
 use Rattle.msp_srpt.specs.Shortest.{run_before, left_of, IsWaiting, IsAhead, KeepsRule, idle, runs}
 use Rattle.msp_srpt.specs.Running.{Precedes, HasRun, HaveCome, IsUnderWay, waiting, brought}
-use Rattle.msp_srpt.proofs.Lists.{sum_by-zero}
 use Rattle.msp_srpt.proofs.Laying.{run-settled}
-
--- ---- the rule reads only how long the jobs have run
-pub KeepsRule-same : (i : Instance) (now next now' next' : ℕ → ℕ) (u : ℕ) → ((j : ℕ) → now' j ≡ now j) → ((j : ℕ) → next' j ≡ next j) → KeepsRule i now next u → KeepsRule i now' next' u
-KeepsRule-same i now next now' next' u n m k = by k
-  where
-    to : (j : ℕ) → IsWaiting i now' u j → IsWaiting i now u j
-    to j w = record { inside = w.inside; released = w.released; left = omega (arith, n j, w.left) }
-
-    back : (j : ℕ) → IsWaiting i now u j → IsWaiting i now' u j
-    back j w = record { inside = w.inside; released = w.released; left = omega (arith, n j, w.left) }
-
-    ahead : (k j : ℕ) → IsAhead i now k j → IsAhead i now' k j
-    ahead k j (inl l) = inl (omega (arith, n k, n j, l))
-    ahead k j (inr e) = inr (omega (arith, n k, n j, e.0), e.1)
-
-    by : KeepsRule i now next u → KeepsRule i now' next' u
-    by (idle none same) = idle (λ j w. none j (to j w)) (λ j. m j ∙ same j ∙ sym (n j))
-    by (runs k w first more) = runs k (back k w) (λ j v. ahead k j (first j (to j v))) (λ j. m j ∙ more j ∙ ap (λ x. x + cond (k == j) 1 0) (sym (n j)))
 
 -- ---- tasks
 waiting-cons : (x : Task) (xs : List Task) (j : ℕ) → waiting (x ∷ xs) j ≡ cond (x.job == j) x.left 0 + waiting xs j
@@ -51,25 +33,21 @@ lefts xs = sum_by (λ x. x.left) xs
 lefts-cons : (x : Task) (xs : List Task) → lefts (x ∷ xs) ≡ x.left + lefts xs
 lefts-cons x xs = sum_by-cons (λ (y : Task). y.left) x xs
 
--- no task of a job that is not counted
-waiting-none : (xs : List Task) (j : ℕ) → counted xs j ≡ 0 → waiting xs j ≡ 0
-waiting-none xs j e = sum_by-none (λ x. cond (x.job == j) x.left 0)
-    xs (λ k d l. by ((get_or xs k d).job == j) (get_or xs k d).left (omega (arith, sum_by-zero (λ (x : Task). cond (x.job == j) 1 0) xs e k d l)))
-  where
-    by : (b : Bool) (n : ℕ) → cond b 1 0 ≤ 0 → cond b n 0 ≡ 0
-    by true n z = absurd (omega (arith, z))
-    by false n z = refl
-
 -- a job that waits has a task which needs no more
 task_of : (xs : List Task) (j : ℕ) → 0 < waiting xs j → (x : Task) × Contains xs x × (x.job ≡ j) × (x.left ≤ waiting xs j)
 task_of xs j l =
     let (x, c, p) = sum_by-some (λ (x : Task). cond (x.job == j) x.left 0) xs l in
-    let small = sum_by-contains (λ (x : Task). cond (x.job == j) x.left 0) xs x c in
-    by x c (x.job == j) refl p small
-  where
-    by : (x : Task) → Contains xs x → (b : Bool) → (x.job == j) ≡ b → 0 < cond b x.left 0 → cond b x.left 0 ≤ waiting xs j → (x : Task) × Contains xs x × (x.job ≡ j) × (x.left ≤ waiting xs j)
-    by x c true e p s = (x, c, eqb-true x.job j e, s)
-    by x c false e p s = absurd (omega (arith, p))
+    let same : x.job ≡ j = eqb-true x.job j (true_from_ne_false (x.job == j) (λ e. omega (arith, p, cond-no x.left e))) in
+    (x, c, same, omega (arith, sum_by-contains (λ (x : Task). cond (x.job == j) x.left 0) xs x c, cond-yes x.left (eq-eqb x.job j same)))
+
+-- no task of a job that is not counted
+waiting-none : (xs : List Task) (j : ℕ) → counted xs j ≡ 0 → waiting xs j ≡ 0
+waiting-none xs j e = elim (cases_lt 0 (waiting xs j)) [
+  | inl l ↦
+      let (x, c, same, less) = task_of xs j l in
+      absurd (omega (arith, e, sum_by-contains (λ (x : Task). cond (x.job == j) 1 0) xs x c, cond-yes 1 (eq-eqb x.job j same)))
+  | inr none ↦ omega (arith, none)
+]
 
 -- the order of the tasks is of no account
 pub IsUnderWay-permuted : (i : Instance) (seen : List ℕ) (t : ℕ) (ps : List Piece) (xs ys : List Task) → IsPermutation xs ys → IsUnderWay i seen t ps xs → IsUnderWay i seen t ps ys
@@ -108,11 +86,7 @@ module _ (i : Instance) (seen : List ℕ) (t v : ℕ) (ps : List Piece) (later :
   settled w j l = run-settled ps t w j u.laid.early l
 
   none_waits : (w : ℕ) → t ≤ w → w < v → (j : ℕ) → ¬ IsWaiting i (run_before ps w) w j
-  none_waits w l m j q =
-      by (run_before ps w j) (run_before ps t j) (brought i seen j) (time_at i j) (settled w j l) (u.share j) (come j q.inside (omega (arith, q.released, m))) q.left
-    where
-      by : (x y b p : ℕ) → x ≡ y → y + 0 ≡ b → b ≡ p → 0 < p - x → ⊥
-      by x y b p e f g l = omega (arith, e, f, g, l)
+  none_waits w l m j q = absurd (omega (arith, settled w j l, u.share j, come j q.inside (omega (arith, q.released, m)), q.left))
 
   pub IsUnderWay-idle : IsUnderWay i seen v ps []
   IsUnderWay-idle = record {
@@ -169,18 +143,10 @@ module _ (i : Instance) (seen : List ℕ) (t until : ℕ) (old new : List Piece)
   mine = All-head (λ y. (y.job < length i.jobs) × ((job_at i y.job).release ≤ t) × (0 < y.left)) x xs u.tasks
 
   run-early : (v j : ℕ) → v ≤ t → run_before new v j ≡ run_before old v j
-  run-early v j l = run.more v j ∙ by (a == j) (run_before old v j)
-    where
-      by : (b : Bool) (n : ℕ) → n + cond b (min (t + d) v - t) 0 ≡ n
-      by true n = omega (arith, l)
-      by false n = omega arith
+  run-early v j l = omega (arith, run.more v j, cond-zero (a == j) {n = min (t + d) v - t} (omega (arith, l)))
 
   run-then : (v j : ℕ) → t ≤ v → v ≤ t + d → run_before new v j ≡ run_before old t j + cond (a == j) (v - t) 0
-  run-then v j l m = run.more v j ∙ by (a == j) (run_before old v j) (run_before old t j) (run-settled old t v j u.laid.early l)
-    where
-      by : (b : Bool) (n k : ℕ) → n ≡ k → n + cond b (min (t + d) v - t) 0 ≡ k + cond b (v - t) 0
-      by true n k e = omega (arith, l, m, e)
-      by false n k e = omega (arith, e)
+  run-then v j l m = run.more v j ∙ ap₂ (λ n x. n + cond (a == j) (x - t) 0) (run-settled old t v j u.laid.early l) (omega (arith, m))
 
   -- no other task is one of this job
   alone : waiting xs a ≡ 0
@@ -189,23 +155,16 @@ module _ (i : Instance) (seen : List ℕ) (t until : ℕ) (old new : List Piece)
   module _ (v : ℕ) (from : t ≤ v) (before : v < t + d) where
     left-mine : left_of i (run_before new v) a ≡ x.left - (v - t)
     left-mine =
-        by (run_before new v a) (run_before old t a) (waiting (x ∷ xs) a) (brought i seen a) (time_at i a)
-        (run-then v a from (omega (arith, before)) ∙ ap (λ b. run_before old t a + cond b (v - t) 0) (eq-eqb a a refl))
-        (waiting-cons x xs a ∙ ap (λ b. cond b x.left 0 + waiting xs a) (eq-eqb a a refl) ∙ ap (λ n. x.left + n) alone)
-        (u.share a) (come a mine.0 (omega (arith, mine.1, in_time, some)))
-      where
-        by : (r o w b p : ℕ) → r ≡ o + (v - t) → w ≡ x.left + 0 → o + w ≡ b → b ≡ p → p - r ≡ x.left - (v - t)
-        by r o w b p e f g h = omega (arith, e, f, g, h)
+        let runs = run-then v a from (omega (arith, before)) in
+        let due = come a mine.0 (omega (arith, mine.1, in_time, some)) in
+        let one = eq-eqb a a refl in
+        omega (arith, runs, cond-yes (v - t) one, waiting-cons x xs a, cond-yes x.left one, alone, u.share a, due)
 
     left-other : (j : ℕ) → (a == j) ≡ false → j < length i.jobs → (job_at i j).release ≤ v → left_of i (run_before new v) j ≡ waiting xs j
     left-other j ne inside released =
-        by (run_before new v j) (run_before old t j) (waiting (x ∷ xs) j) (waiting xs j) (brought i seen j) (time_at i j)
-        (run-then v j from (omega (arith, before)) ∙ ap (λ b. run_before old t j + cond b (v - t) 0) ne)
-        (waiting-cons x xs j ∙ ap (λ b. cond b x.left 0 + waiting xs j) ne)
-        (u.share j) (come j inside (omega (arith, released, before, in_time)))
-      where
-        by : (r o w z b p : ℕ) → r ≡ o + 0 → w ≡ 0 + z → o + w ≡ b → b ≡ p → p - r ≡ z
-        by r o w z b p e f g h = omega (arith, e, f, g, h)
+        let runs = run-then v j from (omega (arith, before)) in
+        let due = come j inside (omega (arith, released, before, in_time)) in
+        omega (arith, runs, cond-no (v - t) ne, waiting-cons x xs j, cond-no x.left ne, u.share j, due)
 
     ahead : (j : ℕ) → IsWaiting i (run_before new v) v j → IsAhead i (run_before new v) a j
     ahead j w = by (a == j) refl
@@ -224,11 +183,12 @@ module _ (i : Instance) (seen : List ℕ) (t until : ℕ) (old new : List Piece)
 
     keeps : KeepsRule i (run_before new v) (run_before new (v + 1)) v
     keeps = runs a (record { inside = mine.0; released = omega (arith, mine.1, from); left = omega (arith, left-mine, part, before) }) ahead
-        (λ j. run-then (v + 1) j (omega (arith, from)) (omega (arith, before)) ∙ by j (a == j) (run_before old t j) ∙ ap (λ n. n + cond (a == j) 1 0) (sym (run-then v j from (omega (arith, before)))))
+        (λ j. let now = run-then v j from (omega (arith, before)) in
+        omega (arith, run-then (v + 1) j (omega (arith, from)) (omega (arith, before)), now, next (a == j)))
       where
-        by : (j : ℕ) (b : Bool) (n : ℕ) → n + cond b ((v + 1) - t) 0 ≡ (n + cond b (v - t) 0) + cond b 1 0
-        by j true n = omega (arith, from)
-        by j false n = omega arith
+        next : (b : Bool) → cond b ((v + 1) - t) 0 ≡ cond b (v - t) 0 + cond b 1 0
+        next true = omega (arith, from)
+        next false = refl
 
   -- what is left of the tasks
   served : (ys : List Task) → ((j : ℕ) → waiting ys j + cond (a == j) d 0 ≡ waiting (x ∷ xs) j) → ((j : ℕ) → counted ys j ≤ counted (x ∷ xs) j) → lefts ys + d ≡ lefts (x ∷ xs)
@@ -236,43 +196,35 @@ module _ (i : Instance) (seen : List ℕ) (t until : ℕ) (old new : List Piece)
   served ys wait count sum all = record {
     laid = run.laid;
     kept = λ v l. elim (cases_lt v t) [
-      | inl g ↦ KeepsRule-same i _ _ (run_before new v) (run_before new (v + 1)) v (λ j. run-early v j (omega (arith, g))) (λ j. run-early (v + 1) j (omega (arith, g))) (u.kept v g)
+      | inl g ↦ subst₂ (λ x y. KeepsRule i x y v) (fun_ext (λ j. sym (run-early v j (omega (arith, g)))))
+          (fun_ext (λ j. sym (run-early (v + 1) j (omega (arith, g))))) (u.kept v g)
       | inr g ↦ keeps v g l
     ];
-    share = λ j. by (run_before new (t + d) j) (run_before old t j) (waiting ys j) (cond (a == j) ((t + d) - t) 0)
-        (cond (a == j) d 0) (waiting (x ∷ xs) j) (brought i seen j) (run-then (t + d) j (omega arith) (omega arith)) (same (a == j)) (wait j) (u.share j);
+    share = λ j.
+        let whole : (t + d) - t ≡ d = omega arith in
+        omega (arith, run-then (t + d) j (omega arith) (omega arith), ap (λ n. cond (a == j) n 0) whole, wait j, u.share j);
     tasks = λ k e l. let h = all k e l in (h.0, omega (arith, h.1), h.2);
     once = λ j. omega (arith, count j, u.once j);
     distinct = u.distinct;
     soon = λ l. omega (arith, sum, u.soon (omega arith));
   }
-    where
-      same : (b : Bool) → cond b ((t + d) - t) 0 ≡ cond b d 0
-      same true = omega arith
-      same false = refl
-
-      by : (r o y c c' w b : ℕ) → r ≡ o + c → c ≡ c' → y + c' ≡ w → o + w ≡ b → r + y ≡ b
-      by r o y c c' w b e f g h = omega (arith, e, f, g, h)
 
   -- all of it
   pub IsUnderWay-complete : d ≡ x.left → IsUnderWay i seen (t + d) new xs
   IsUnderWay-complete whole =
-      served xs (λ j. by j (a == j) (waiting xs j) (waiting-cons x xs j)) (λ j. omega (arith, counted-cons x xs j)) (omega (arith, lefts-cons x xs, whole))
+      served xs (λ j. omega (arith, waiting-cons x xs j, ap (λ n. cond (a == j) n 0) whole))
+      (λ j. omega (arith, counted-cons x xs j)) (omega (arith, lefts-cons x xs, whole))
       (All-tail (λ y. (y.job < length i.jobs) × ((job_at i y.job).release ≤ t) × (0 < y.left)) x xs u.tasks)
-    where
-      by : (j : ℕ) (b : Bool) (n : ℕ) {w : ℕ} → w ≡ cond b x.left 0 + n → n + cond b d 0 ≡ w
-      by j true n e = omega (arith, e, whole)
-      by j false n e = omega (arith, e)
 
   -- a part of it
   pub IsUnderWay-cut : d < x.left → IsUnderWay i seen (t + d) new (record { left = x.left - d; job = x.job } ∷ xs)
   IsUnderWay-cut less =
       let y : Task = record { left = x.left - d; job = x.job } in
-      served (y ∷ xs) (λ j. by j (a == j) (waiting xs j) (waiting-cons y xs j) (waiting-cons x xs j))
+      served (y ∷ xs) (λ j. omega (arith, waiting-cons y xs j, waiting-cons x xs j, parts (a == j)))
       (λ j. omega (arith, counted-cons x xs j, counted-cons y xs j)) (omega (arith, lefts-cons x xs, lefts-cons y xs, less))
       (All-cons (λ y. (y.job < length i.jobs) × ((job_at i y.job).release ≤ t) × (0 < y.left))
       y xs (mine.0, mine.1, omega (arith, less)) (All-tail (λ y. (y.job < length i.jobs) × ((job_at i y.job).release ≤ t) × (0 < y.left)) x xs u.tasks))
     where
-      by : (j : ℕ) (b : Bool) (n : ℕ) {v w : ℕ} → v ≡ cond b (x.left - d) 0 + n → w ≡ cond b x.left 0 + n → v + cond b d 0 ≡ w
-      by j true n e f = omega (arith, e, f, less)
-      by j false n e f = omega (arith, e, f)
+      parts : (b : Bool) → cond b (x.left - d) 0 + cond b d 0 ≡ cond b x.left 0
+      parts true = omega (arith, less)
+      parts false = refl

@@ -30,15 +30,16 @@ together-none : (es : List ℕ) → All (λ e. e ≡ 0) es → together es ≡ 0
 together-none [] h = refl
 together-none (e ∷ es) h = omega (arith, All-head (λ e. e ≡ 0) e es h, together-none es (All-tail (λ e. e ≡ 0) e es h))
 
-pub IsBelow-more : (k : ℕ) (xs : List ℕ) → IsBelow k xs → IsBelow (suc k) xs
-IsBelow-more k [] h = tt
-IsBelow-more k (x ∷ xs) h = (omega (arith, h.0), h.1)
+pub IsBelow-up : (a b : ℕ) (xs : List ℕ) → a ≤ b → IsBelow a xs → IsBelow b xs
+IsBelow-up a b [] l h = tt
+IsBelow-up a b (x ∷ xs) l h = (omega (arith, h.0, l), h.1)
 
 -- ---- what backs the ends
 module _ (p D : ℕ → ℕ) where
   AreBacked-more : (k l : ℕ) (es : List ℕ) → AreBacked p D k l es → AreBacked p D (suc k) l es
   AreBacked-more k l [] h = tt
-  AreBacked-more k l (e ∷ es) h = let (set, below, enough) = h.0 in ((set, IsBelow-more k set below, enough), AreBacked-more k (suc l) es h.1)
+  AreBacked-more k l (e ∷ es) h =
+      let (set, below, enough) = h.0 in ((set, IsBelow-up k (suc k) set (omega arith) below, enough), AreBacked-more k (suc l) es h.1)
 
   -- job k joins a set that is one place higher, or at the front
   raised : (k l : ℕ) (es fs : List ℕ) → together fs + D k ≡ together es + p k → IsBacked p D k l es → IsBacked p D (suc k) (suc l) fs

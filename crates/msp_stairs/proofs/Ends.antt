@@ -1,14 +1,11 @@
 -- A schedule that meets the limits: no jobs take longer than their m greatest deadlines.
-use Rattle.std.proofs.Common.{◌≡◌, ℕ, ◌+◌, ◌*◌, ◌-◌, ◌<◌, ◌≤◌, inl, inr, List, [], ◌∷◌, ◌++◌, length, get_or, map, take, All, AllPairs, pos, ℤ}
-use Rattle.std.proofs.Common.{nat_abs, ◌+ℤ◌, ◌*ℤ◌, ◌≤ℤ◌, ◌<ℤ◌, sum_by, refl, sym, ap, subst, subst₂, ◌∙◌, arith}
-use Rattle.std.specs.Int.{int_min}
-use Rattle.std.proofs.lemmas.Bool.{cases_lt}
-use Rattle.std.proofs.lemmas.Int.{ints, clamps}
-use Rattle.std.proofs.lemmas.List.Elements.{All-nil, All-cons, All-head, All-tail}
-use Rattle.std.proofs.lemmas.List.Sums.{sum_by-cons}
-use Rattle.std.proofs.Math.Nat.{mul-le-mul_left}
-use Rattle.msp_class.proofs.IntegerRing.{natural, le-pos, ≤ℤ_trans, ≤ℤ_total, *ℤ-add, *ℤ-mono, *ℤ_comm, *ℤ_exchange}
-use Rattle.msp_class.proofs.Sums.{OnceBelow}
+use Rattle.std.proofs.Common.{◌≡◌, ℕ, ◌+◌, ◌*◌, ◌/◌, ◌<◌, ◌≤◌, inl, inr, List, ◌++◌, length, get_or, take, All, AllPairs, pos, ℤ}
+use Rattle.std.proofs.Common.{nat_abs, ◌+ℤ◌, ◌*ℤ◌, ◌≤ℤ◌, sum_by, sym, ap, subst, ◌∙◌, arith}
+use Rattle.std.proofs.lemmas.Bool.{cases_lt, cond_both}
+use Rattle.std.proofs.lemmas.Int.{ints}
+use Rattle.std.proofs.Math.Nat.{mul-le-mul_left, mul-div-le}
+use Rattle.msp_class.proofs.IntegerRing.{natural, le-pos, ≤ℤ_trans, *ℤ-add, *ℤ-mono, *ℤ_comm, *ℤ_exchange}
+use Rattle.msp_class.proofs.Sums.{OnceBelow, sum_by-scale, sum_by-map, sum_by-mono}
 use Rattle.msp_instance.specs.declared.Instance.{Instance}
 use Rattle.msp_instance.specs.Instance.{job_at}
 use Rattle.msp_pieces.specs.declared.Schedule.{Schedule}
@@ -22,33 +19,12 @@ use Rattle.msp_pieces.proofs.lists.Parts.{All-front}
 use Rattle.msp_stairs.specs.Stairs.{stairs_class, makespan, AreDueLast}
 use Rattle.msp_stairs.specs.Bounds.{at, ended_by, work_at, last_moment, deadline}
 use Rattle.msp_stairs.specs.Steps.{of_all, of_first, IsBelow, IsTooLate}
-use Rattle.msp_stairs.proofs.Forced.{ends_by, alone, of_first-is, one_late, deadline-late, last, others, all_times, divided, due_last}
+use Rattle.msp_stairs.proofs.Forced.{ends_by, alone, of_first-is, one_late, deadline-late, last, others, all_times, divided, due_last, of_all-is}
 use Rattle.msp_stairs.proofs.Makespan.{end_of-makespan}
 use Rattle.msp_stairs.proofs.Room.{room_by_limits}
-
--- ---- lists
--- the greatest value: what holds of 0 and of all values holds of it
-greatest_value : (f : ℕ → ℕ) (xs : List ℕ) → (b : ℕ) × All (λ x. f x ≤ b) xs × ((P : ℕ → Type 0) → P 0 → All (λ x. P (f x)) xs → P b)
-greatest_value f [] = (0, All-nil (λ x. f x ≤ 0), (λ P none all. none))
-greatest_value f (x ∷ xs) =
-    let (b, bounds, reached) = greatest_value f xs in
-    elim (cases_lt (f x) b) [
-      | inl less ↦ (b, All-cons (λ x. f x ≤ b) x xs (omega (arith, less)) bounds, (λ P none all. reached P none (All-tail (λ x. P (f x)) x xs all)))
-      | inr more ↦ (f x, All-cons (λ y. f y ≤ f x) x xs (omega arith) (λ n d l. omega (arith, more, bounds n d l)), (λ P none all. All-head (λ x. P (f x)) x xs all))
-    ]
-
-sum-scaled : (m u : ℕ) (f g : ℕ → ℕ) (xs : List ℕ) → All (λ x. m * f x ≤ u * g x) xs → m * sum_by f xs ≤ u * sum_by g xs
-sum-scaled m u f g [] h = omega arith
-sum-scaled m u f g (x ∷ xs) h =
-    by (f x) (sum_by f xs) (g x) (sum_by g xs) _ _ (sum_by-cons f x xs) (sum_by-cons g x xs)
-    (All-head (λ x. m * f x ≤ u * g x) x xs h) (sum-scaled m u f g xs (All-tail (λ x. m * f x ≤ u * g x) x xs h))
-  where
-    by : (a s b t p q : ℕ) → p ≡ a + s → q ≡ b + t → m * a ≤ u * b → m * s ≤ u * t → m * p ≤ u * q
-    by a s b t p q e g h k = omega (arith, ap (λ x. m * x) e, ap (λ x. u * x) g, h, k)
-
-of_all-map : (f g : ℕ → ℕ) (xs : List ℕ) → sum_by f (map g xs) ≡ of_all (λ x. f (g x)) xs
-of_all-map f g [] = refl
-of_all-map f g (x ∷ xs) = sum_by-cons f (g x) (map g xs) ∙ ap (λ n. f (g x) + n) (of_all-map f g xs)
+use Rattle.std.specs.Prelude.{int_lt}
+use Rattle.std.proofs.lemmas.Nat.{le-div}
+use Rattle.msp_pieces.proofs.lists.Intervals.{greatest_by, greatest_by-least, greatest_by-bound}
 
 -- ---- a schedule that meets the deadlines, each over the number of machines
 module _ (i : Instance) (h : IsOfClass i stairs_class) (t : Schedule) (f : Feasible i t)
@@ -69,13 +45,16 @@ module _ (i : Instance) (h : IsOfClass i stairs_class) (t : Schedule) (f : Feasi
   job_kept x l over =
       let j = at order x in
       let inside : j < length i.jobs = once.within x 0 l in
-      never unit m (time_at i j) (end_at t j) (due j) some_unit (alone i h t f j inside) (kept j inside) over
-    where
-      never : (u m p e d : ℕ) → 1 ≤ u → u * p ≤ e → m * e ≤ u * d → d < m * p → ⊥
-      never u m p e d some long short over =
-          let more : u * (d + 1) ≤ u * (m * p) = mul-le-mul_left u (omega (arith, over)) in
-          let rest : m * (u * p) ≤ m * e = mul-le-mul_left m long in
-          omega (arith, some, more, rest, short)
+      let more : unit * (due j + 1) ≤ unit * (m * time_at i j) = mul-le-mul_left unit (omega (arith, over)) in
+      let rest : m * (unit * time_at i j) ≤ m * end_at t j = mul-le-mul_left m (alone i h t f j inside) in
+      omega (arith, some_unit, more, rest, kept j inside)
+
+  -- the moment by which a job has to end, over the unit
+  abbrev limit : ℕ → ℕ
+  limit j = unit * due j / m
+
+  within : (j k : ℕ) → j < length i.jobs → due j ≤ due k → end_at t j ≤ limit k
+  within j k l e = le-div (end_at t j) (unit * due k) m (omega (arith, h.machine)) (omega (arith, kept j l, mul-le-mul_left unit e))
 
   -- of more jobs those that are due last end by their deadlines, and the others by all of these
   module _ (set : List ℕ) (below : IsBelow (length order) set) (many : m ≤ length set) where
@@ -85,57 +64,33 @@ module _ (i : Instance) (h : IsOfClass i stairs_class) (t : Schedule) (f : Feasi
     abbrev back : List ℕ
     back = others i order once rising set
 
-    divided_ends : All (λ a. All (λ b. m * end_at t b ≤ unit * due a) back) front
-    divided_ends = divided i order once rising set below many (λ a b. m * end_at t b ≤ unit * due a) (λ x y l b.
-        let more : unit * due (at order y) ≤ unit * due (at order x) = mul-le-mul_left unit (rises y x (omega (arith, l)) b) in
-        omega (arith, more, kept (at order y) (once.within y 0 (omega (arith, l, b)))))
+    divided_ends : All (λ a. All (λ b. end_at t b ≤ limit a) back) front
+    divided_ends = divided i order once rising set below many (λ a b. end_at t b ≤ limit a)
+        (λ x y l b. within (at order y) (at order x) (once.within y 0 (omega (arith, l, b))) (rises y x (omega (arith, l)) b))
 
     set_kept : of_first (λ x. due (at order x)) m set < of_all (λ x. work_at i (at order x)) set → ⊥
-    set_kept over = by (greatest_value (end_at t) back)
+    set_kept over = omega (arith, some_unit, more, mul-le-mul_left m room, scaled, ap (λ x. unit * x) (all_times i order once rising set below many))
       where
         a : AreDueLast i front back
         a = due_last i order once rising set below many
 
-        first_kept : All (λ j. m * end_at t j ≤ unit * due j) front
-        first_kept k d l = kept (get_or front k d) (All-front (λ j. j < length i.jobs) front back a.jobs k d l)
+        room : unit * sum_by (time_at i) (front ++ back) ≤ sum_by limit front
+        room = room_by_limits i h.kind t f limit front back (greatest_by (end_at t) back) a.many a.jobs a.once (λ k d l. (
+          within (get_or front k d) (get_or front k d) (All-front (λ j. j < length i.jobs) front back a.jobs k d l) (omega arith),
+          greatest_by-least (end_at t) (limit (get_or front k d)) back (divided_ends k d l),
+        )) (greatest_by-bound (end_at t) back)
+
+        scaled : m * sum_by limit front ≤ unit * sum_by due front
+        scaled =
+            let each = sum_by-mono (λ j. m * limit j) (λ j. unit * due j) front (λ k d l. mul-div-le (unit * due (get_or front k d)) m) in
+            omega (arith, each, sum_by-scale m limit front, sum_by-scale unit due front)
 
         dates : sum_by due front ≡ of_first (λ x. due (at order x)) m set
-        dates = of_all-map due (at order) (take m set) ∙ sym (of_first-is (λ x. due (at order x)) m set)
+        dates = sum_by-map due (at order) (take m set)
+            ∙ sym (of_all-is (λ x. due (at order x)) (take m set)) ∙ sym (of_first-is (λ x. due (at order x)) m set)
 
-        never : (u m s l d w : ℕ) → 1 ≤ u → u * s ≤ l → m * l ≤ u * d → w ≡ m * s → d < w → ⊥
-        never u m s l d w some room short e over =
-            let more : u * (d + 1) ≤ u * w = mul-le-mul_left u (omega (arith, over)) in
-            let rest : m * (u * s) ≤ m * l = mul-le-mul_left m room in
-            omega (arith, some, more, rest, short, ap (λ x. u * x) e)
-
-        by : (b : ℕ) × All (λ j. end_at t j ≤ b) back × ((P : ℕ → Type 0) → P 0 → All (λ j. P (end_at t j)) back → P b) → ⊥
-        by (moment, early, reached) =
-            never unit m (sum_by (time_at i) (front ++ back)) (sum_by limit front) (sum_by due front) _ some_unit
-            (room_by_limits i h.kind t f limit front back moment a.many a.jobs a.once (λ k d l. later (end_at t (get_or front k d)) moment) early)
-            (sum-scaled m unit limit due front limits_kept) (all_times i order once rising set below many)
-            (subst (λ x. x < of_all (λ x. work_at i (at order x)) set) (sym dates) over)
-          where
-            limit : ℕ → ℕ
-            limit j = end_at t j + (moment - end_at t j)
-
-            later : (e b : ℕ) → (e ≤ e + (b - e)) × (b ≤ e + (b - e))
-            later e b = (omega arith, omega arith)
-
-            limits_kept : All (λ j. m * limit j ≤ unit * due j) front
-            limits_kept k d l = one m (end_at t (get_or front k d)) moment (unit * due (get_or front k d)) (first_kept k d l)
-                (reached (λ b. m * b ≤ unit * due (get_or front k d)) (omega arith) (divided_ends k d l))
-              where
-                one : (m e b c : ℕ) → m * e ≤ c → m * b ≤ c → m * (e + (b - e)) ≤ c
-                one m e b c x y = elim (cases_lt e b) [
-                  | inl less ↦ subst (λ z. m * z ≤ c) (gap less) y
-                  | inr more ↦ subst (λ z. m * z ≤ c) (none more) x
-                ]
-                  where
-                    gap : e < b → b ≡ e + (b - e)
-                    gap l = omega (arith, l)
-
-                    none : b ≤ e → e ≡ e + (b - e)
-                    none l = omega (arith, l)
+        more : unit * (sum_by due front + 1) ≤ unit * of_all (λ x. work_at i (at order x)) set
+        more = mul-le-mul_left unit (omega (arith, over, dates))
 
   pub all_kept : (set : List ℕ) → IsBelow (length order) set → of_first (λ x. due (at order x)) m set < of_all (λ x. work_at i (at order x)) set → ⊥
   all_kept set below over = elim (cases_lt (length set) m) [
@@ -144,18 +99,6 @@ module _ (i : Instance) (h : IsOfClass i stairs_class) (t : Schedule) (f : Feasi
   ]
 
 -- ---- a schedule within the lateness that ends by the moment
-int_min-either : (P : ℤ → Type 0) (a b : ℤ) → P a → P b → P (int_min a b)
-int_min-either P a b x y = elim (≤ℤ_total a b) [
-  | inl first ↦ subst P (sym (left first)) x
-  | inr second ↦ subst P (sym (right second)) y
-]
-  where
-    left : a ≤ℤ b → int_min a b ≡ a
-    left l = omega (arith, ints, clamps)
-
-    right : b <ℤ a → int_min a b ≡ b
-    right l = omega (arith, ints, clamps)
-
 module _ (i : Instance) (h : IsOfClass i stairs_class) (t : Schedule) (f : Feasible i t) (late end : ℤ)
     (in_time : (pos i.machines *ℤ cost_of i t) ≤ℤ (late *ℤ t.unit)) (ended : (pos i.machines *ℤ makespan t) ≤ℤ (end *ℤ t.unit)) where
   unit_is : t.unit ≡ pos (nat_abs t.unit)
@@ -163,15 +106,11 @@ module _ (i : Instance) (h : IsOfClass i stairs_class) (t : Schedule) (f : Feasi
 
   -- m times the end of a job is within the lateness, over the unit
   by_date : (j : ℕ) → j < length i.jobs → (pos i.machines *ℤ end_of t j) ≤ℤ (t.unit *ℤ ((pos i.machines *ℤ (job_at i j).due) +ℤ late))
-  by_date j l = ≤ℤ_trans (*ℤ-mono i.machines (ends_by i h t f j l))
-      (moved (pos i.machines) t.unit (job_at i j).due (cost_of i t) (subst (λ x. (pos i.machines *ℤ cost_of i t) ≤ℤ x) (*ℤ_comm late t.unit) in_time))
-    where
-      moved : (m u d c : ℤ) → (m *ℤ c) ≤ℤ (u *ℤ late) → (m *ℤ ((u *ℤ d) +ℤ c)) ≤ℤ (u *ℤ ((m *ℤ d) +ℤ late))
-      moved m u d c k = subst₂ (λ x y. x ≤ℤ y) (sym (*ℤ-add m (u *ℤ d) c)) (sym (*ℤ-add u (m *ℤ d) late ∙ ap (λ x. x +ℤ (u *ℤ late)) (*ℤ_exchange u m d)))
-          (more (m *ℤ (u *ℤ d)) (m *ℤ c) (u *ℤ late) k)
-        where
-          more : (a b c : ℤ) → b ≤ℤ c → (a +ℤ b) ≤ℤ (a +ℤ c)
-          more a b c h = omega (arith, ints, h)
+  by_date j l =
+      let whole = *ℤ-add (pos i.machines) (t.unit *ℤ (job_at i j).due) (cost_of i t) in
+      let date = *ℤ-add t.unit (pos i.machines *ℤ (job_at i j).due) late in
+      let turned = *ℤ_exchange t.unit (pos i.machines) (job_at i j).due in
+      omega (arith, ints, whole, date, turned, *ℤ-mono i.machines (ends_by i h t f j l), *ℤ_comm late t.unit, in_time)
 
   by_end : (j : ℕ) → (pos i.machines *ℤ end_of t j) ≤ℤ (t.unit *ℤ end)
   by_end j = ≤ℤ_trans (*ℤ-mono i.machines (end_of-makespan t j)) (subst (λ x. (pos i.machines *ℤ makespan t) ≤ℤ x) (*ℤ_comm end t.unit) ended)
@@ -179,7 +118,8 @@ module _ (i : Instance) (h : IsOfClass i stairs_class) (t : Schedule) (f : Feasi
   deadline_kept : (j : ℕ) → j < length i.jobs → i.machines * end_at t j ≤ nat_abs t.unit * deadline i (ended_by late end) j
   deadline_kept j l = le-pos (subst (λ x. (pos i.machines *ℤ x) ≤ℤ (pos (nat_abs t.unit) *ℤ pos (deadline i (ended_by late end) j))) (natural (end_of t j) (last_end-natural t.pieces j)) (≤ℤ_trans
       (subst (λ u. (pos i.machines *ℤ end_of t j) ≤ℤ (u *ℤ last_moment i (ended_by late end) j)) unit_is
-      (int_min-either (λ x. (pos i.machines *ℤ end_of t j) ≤ℤ (t.unit *ℤ x)) ((pos i.machines *ℤ (job_at i j).due) +ℤ late) end (by_date j l) (by_end j)))
+      (cond_both (int_lt end ((pos i.machines *ℤ (job_at i j).due) +ℤ late)) end ((pos i.machines *ℤ (job_at i j).due) +ℤ late)
+      (λ x. (pos i.machines *ℤ end_of t j) ≤ℤ (t.unit *ℤ x)) (λ _. by_end j) (λ _. by_date j l)))
       (*ℤ-mono (nat_abs t.unit) (deadline-late i (ended_by late end) j))))
 
   pub never_late : (order : List ℕ) → OnceBelow (length i.jobs) order → AllPairs (λ a b. (job_at i a).due ≤ℤ (job_at i b).due) order

@@ -1,17 +1,16 @@
 -- Forced lateness: no schedule has less, and where a job fits on no machine, it is above the bound.
 use Rattle.std.proofs.Common.{◌≡◌, ◌≢◌, ℕ, zero, suc, ◌+◌, ◌*◌, ◌-◌, ◌<◌, ◌≤◌, inl, inr, List, [], ◌∷◌, ◌++◌, length, get_or, map, take, drop, All, AllPairs, Contains, pos, ℤ}
 use Rattle.std.proofs.Common.{nat_abs, ◌+ℤ◌, ◌-ℤ◌, ◌*ℤ◌, ◌≤ℤ◌, ◌<ℤ◌, sum_by, refl, sym, ap, ap₂, subst, subst₂, ◌∙◌, arith}
-use Rattle.std.specs.Int.{int_max}
-use Rattle.std.proofs.lemmas.Bool.{cases_lt}
-use Rattle.std.proofs.lemmas.Int.{ints}
+use Rattle.std.proofs.lemmas.Bool.{cases_lt, ltb-false}
+use Rattle.std.proofs.lemmas.Int.{ints, clamps}
 use Rattle.std.proofs.lemmas.List.{length-map, map-append, take-append-drop, length-take-le}
-use Rattle.std.proofs.lemmas.List.Elements.{All-nil, All-cons, All-drop, All-map, All-contains}
+use Rattle.std.proofs.lemmas.List.Elements.{All-nil, All-cons, All-drop, All-map, All-contains, Contains-get_or, All-from_get_or}
 use Rattle.std.proofs.lemmas.List.Kept.{AllPairs-cons}
 use Rattle.std.proofs.lemmas.List.Sums.{sum_by-cons}
 use Rattle.msp_class.specs.Crit.{is_greatest}
-use Rattle.msp_class.proofs.IntegerRing.{natural, le-pos, pos-lt, ≤ℤ_trans, ≤ℤ-<ℤ, ≤ℤ_of_same, ≤ℤ-int_max_left, ≤ℤ-int_max_right, *ℤ-add, *ℤ-sub, *ℤ-mono, *ℤ-cancel_lt, *ℤ_assoc}
-use Rattle.msp_class.proofs.IntegerRing.{*ℤ_comm, *ℤ-zero, zero-*ℤ}
-use Rattle.msp_class.proofs.Sums.{OnceBelow, OnceBelow-distinct}
+use Rattle.msp_class.proofs.IntegerRing.{natural, le-pos, ≤ℤ_trans, ≤ℤ_of_same, *ℤ-add, *ℤ-sub, *ℤ-mono, *ℤ-cancel_lt, *ℤ_assoc, +ℤ_mono}
+use Rattle.msp_class.proofs.IntegerRing.{*ℤ_comm, *ℤ-zero, zero-*ℤ, ≤ℤ_refl, *ℤ-mono_nonneg}
+use Rattle.msp_class.proofs.Sums.{OnceBelow, OnceBelow-distinct, sum_by-scale, sum_by-map}
 use Rattle.msp_instance.specs.declared.Instance.{Instance}
 use Rattle.msp_instance.specs.Instance.{job_at}
 use Rattle.msp_pieces.specs.declared.Schedule.{Schedule}
@@ -29,21 +28,17 @@ use Rattle.msp_stairs.specs.Bounds.{at, no_later, work_at, last_moment, deadline
 use Rattle.msp_stairs.specs.Steps.{of_all, of_first, IsBelow, IsTooLate}
 use Rattle.msp_pieces.proofs.bounds.Room.{end_at}
 use Rattle.msp_stairs.proofs.Room.{room_for, room_by_limits}
+use Rattle.std.proofs.lemmas.List.MinMax.{IsFirstBest-from_best_of, IsStrictWeakOrder-by_number}
 
 -- ---- lists
 -- one of a list has the least value
-least_among : (f : ℕ → ℕ) (x : ℕ) (xs : List ℕ) → (a : ℕ) × Contains (x ∷ xs) a × All (λ b. f a ≤ f b) (x ∷ xs)
-least_among f x [] = (x, (0, omega arith, refl), All-cons (λ b. f x ≤ f b) x [] (omega arith) (All-nil (λ b. f x ≤ f b)))
-least_among f x (y ∷ ys) =
-    let (a, (k, l, e), least) = least_among f y ys in
-    elim (cases_lt (f x) (f a)) [
-      | inl less ↦ (x, (0, omega arith, refl), All-cons (λ b. f x ≤ f b) x (y ∷ ys) (omega arith) (λ n d m. omega (arith, less, least n d m)))
-      | inr more ↦ (a, (suc k, omega (arith, l), e), All-cons (λ b. f a ≤ f b) x (y ∷ ys) more least)
-    ]
-
 some_least : (f : ℕ → ℕ) (xs : List ℕ) → 1 ≤ length xs → (a : ℕ) × Contains xs a × All (λ b. f a ≤ f b) xs
 some_least f [] l = absurd (omega (arith, l))
-some_least f (x ∷ xs) l = least_among f x xs
+some_least f (x ∷ xs) l =
+    let (b, best, _) = IsFirstBest-from_best_of (IsStrictWeakOrder-by_number f) x xs in
+    let a = get_or (x ∷ xs) b x in
+    let least = All-from_get_or (λ c. f a ≤ f c) (x ∷ xs) x (λ k m. ltb-false (f (get_or (x ∷ xs) k x)) (f a) (best.1 k x m)) in
+    (a, Contains-get_or (x ∷ xs) b x best.0, least)
 
 suc-*ℤ : (n : ℕ) (c : ℤ) → pos (suc n) *ℤ c ≡ (pos n *ℤ c) +ℤ c
 suc-*ℤ n c = omega (arith, ints)
@@ -67,10 +62,7 @@ module _ (i : Instance) (h : IsOfClass i stairs_class) (t : Schedule) (f : Feasi
   limit j = nat_abs (limit_of j)
 
   pub ends_by : (j : ℕ) → j < n → end_of t j ≤ℤ limit_of j
-  ends_by j l = moved (end_of t j) (t.unit *ℤ due j) cost (subst (λ x. job_cost x t.unit (job_at i j) (end_of t j) ≤ℤ cost) h.crit (cost_of-bound i t (ap is_greatest h.crit) j l))
-    where
-      moved : (x y z : ℤ) → (x -ℤ y) ≤ℤ z → x ≤ℤ (y +ℤ z)
-      moved x y z h = omega (arith, ints, h)
+  ends_by j l = omega (arith, ints, subst (λ x. job_cost x t.unit (job_at i j) (end_of t j) ≤ℤ cost) h.crit (cost_of-bound i t (ap is_greatest h.crit) j l))
 
   limit_is : (j : ℕ) → j < n → limit_of j ≡ pos (limit j)
   limit_is j l = natural (limit_of j) (≤ℤ_trans (last_end-natural t.pieces j) (ends_by j l))
@@ -85,20 +77,20 @@ module _ (i : Instance) (h : IsOfClass i stairs_class) (t : Schedule) (f : Feasi
   limits_are : (xs : List ℕ) → All (λ x. x < n) xs → pos (sum_by limit xs) ≡ (t.unit *ℤ dates_together i xs) +ℤ (pos (length xs) *ℤ cost)
   limits_are [] w = sym (ap₂ (λ x y. x +ℤ y) (*ℤ-zero t.unit) (zero-*ℤ cost))
   limits_are (x ∷ xs) w =
-      added (sum_by limit (x ∷ xs)) (limit x) (sum_by limit xs) (t.unit *ℤ due x) cost (t.unit *ℤ dates_together i xs)
-      (pos (length xs) *ℤ cost) _ _ (sum_by-cons limit x xs) (limit_is x (w 0 0 (omega arith))) (limits_are xs (λ k d l. w (suc k) d (omega (arith, l))))
-      (*ℤ-add t.unit (due x) (dates_together i xs)) (suc-*ℤ (length xs) cost)
-    where
-      added : (s a b : ℕ) (ux c ud lc u l : ℤ) → s ≡ a + b → (ux +ℤ c) ≡ pos a → pos b ≡ ud +ℤ lc → u ≡ ux +ℤ ud → l ≡ lc +ℤ c → pos s ≡ u +ℤ l
-      added s a b ux c ud lc u l e f g p q = omega (arith, ints, e, f, g, p, q)
+      let rest = limits_are xs (λ k d l. w (suc k) d (omega (arith, l))) in
+      let dates = *ℤ-add t.unit (due x) (dates_together i xs) in
+      omega (arith, ints, sum_by-cons limit x xs, limit_is x (w 0 0 (omega arith)), rest, dates, suc-*ℤ (length xs) cost)
+
+  over_unit : (w l : ℕ) (d c : ℤ) → nat_abs t.unit * w ≤ l → pos l ≡ (t.unit *ℤ d) +ℤ c → ((pos w -ℤ d) *ℤ t.unit) ≤ℤ c
+  over_unit w l d c room are = subst (λ z. z ≤ℤ c) (sym (*ℤ_comm (pos w -ℤ d) t.unit ∙ *ℤ-sub t.unit (pos w) d))
+      (omega (arith, ints, room, are, ap (λ u. u *ℤ pos w) unit_is))
 
   of_set : (last others : List ℕ) → AreDueLast i last others → ((pos (sum_by (time_at i) (last ++ others)) -ℤ dates_together i last) *ℤ t.unit) ≤ℤ (pos i.machines *ℤ cost)
   of_set last others a =
       let (x, among, least) = some_least limit last (omega (arith, a.many, h.machine)) in
-      subst (λ u. ((pos (sum_by (time_at i) (last ++ others)) -ℤ dates_together i last) *ℤ u) ≤ℤ (pos i.machines *ℤ cost)) (sym unit_is)
-      (turned (nat_abs t.unit) (sum_by (time_at i) (last ++ others)) (sum_by limit last) (dates_together i last) (pos (length last) *ℤ cost) (pos i.machines *ℤ cost)
-      (room_by_limits i h.kind t f limit last others (limit x) a.many a.jobs a.once (λ k d l. (in_time (get_or last k d) (front k d l), least k d l)) (λ k d l. early x among k d l))
-      (limits_are last front ∙ ap (λ u. (u *ℤ dates_together i last) +ℤ (pos (length last) *ℤ cost)) unit_is) (ap (λ m. pos m *ℤ cost) a.many))
+      over_unit (sum_by (time_at i) (last ++ others)) (sum_by limit last) (dates_together i last) (pos i.machines *ℤ cost)
+      (room_by_limits i h.kind t f limit last others (limit x) a.many a.jobs a.once (λ k d l. (in_time (get_or last k d) (front k d l), least k d l)) (early x among))
+      (limits_are last front ∙ ap (λ q. (t.unit *ℤ dates_together i last) +ℤ (pos q *ℤ cost)) a.many)
     where
       front : All (λ x. x < n) last
       front = All-front (λ x. x < n) last others a.jobs
@@ -111,49 +103,28 @@ module _ (i : Instance) (h : IsOfClass i stairs_class) (t : Schedule) (f : Feasi
           let y = get_or others k d in
           let inside : x < n = All-contains (λ x. x < n) last x front among in
           let before : due y ≤ℤ due x = All-contains (λ a. All (λ b. due b ≤ℤ due a) others) last x a.dates among k d l in
-          omega (arith, in_time y (back k d l), rises y x (back k d l) inside before)
-        where
-          rises : (y x : ℕ) → y < n → x < n → due y ≤ℤ due x → limit y ≤ limit x
-          rises y x l k b = le-pos (subst₂ (λ u v. u ≤ℤ v) (limit_is y l) (limit_is x k)
-              (more (t.unit *ℤ due y) (t.unit *ℤ due x) cost (subst (λ u. (u *ℤ due y) ≤ℤ (u *ℤ due x)) (sym unit_is) (*ℤ-mono (nat_abs t.unit) b))))
-            where
-              more : (u v c : ℤ) → u ≤ℤ v → (u +ℤ c) ≤ℤ (v +ℤ c)
-              more u v c h = omega (arith, ints, h)
-
-      turned : (u s l : ℕ) (d c e : ℤ) → u * s ≤ l → pos l ≡ (pos u *ℤ d) +ℤ c → c ≡ e → ((pos s -ℤ d) *ℤ pos u) ≤ℤ e
-      turned u s l d c e room are same = subst (λ z. z ≤ℤ e) (sym (*ℤ_comm (pos s -ℤ d) (pos u) ∙ *ℤ-sub (pos u) (pos s) d)) (over (u * s) l (pos u *ℤ d) c e room are same)
-        where
-          over : (w l : ℕ) (y c e : ℤ) → w ≤ l → pos l ≡ y +ℤ c → c ≡ e → (pos w -ℤ y) ≤ℤ e
-          over w l y c e h f g = omega (arith, ints, h, f, g)
+          let rises = +ℤ_mono (*ℤ-mono_nonneg t.unit (omega (arith, ints, f.unit)) before) (≤ℤ_refl cost) in
+          omega (arith, ints, in_time y (back k d l), limit_is y (back k d l), limit_is x inside, rises)
 
   -- a job ends no sooner than its time is over
   pub alone : (j : ℕ) → j < n → nat_abs t.unit * time_at i j ≤ end_at t j
-  alone j l = by (nat_abs t.unit) i.machines (time_at i j) (end_at t j) _ _ (sum_by-cons (time_at i) j []) (sum_by-cons (λ j. end_at t j - 0) j []) room
-    where
-      room : nat_abs t.unit * sum_by (time_at i) (j ∷ []) ≤ i.machines * 0 + sum_by (λ j. end_at t j - 0) (j ∷ [])
-      room = room_for i h.kind t f (j ∷ []) (All-cons (λ x. x < n) j [] l (All-nil (λ x. x < n))) (λ a b d m k. absurd (omega (arith, m, k))) 0
-
-      by : (u m p e s r : ℕ) → s ≡ p + 0 → r ≡ (e - 0) + 0 → u * s ≤ m * 0 + r → u * p ≤ e
-      by u m p e s r f g h = omega (arith, ap (λ x. u * x) f, g, h)
+  alone j l =
+      let room = room_for i h.kind t f (j ∷ []) (All-cons (λ x. x < n) j [] l (All-nil (λ x. x < n))) (λ a b d m k. absurd (omega (arith, m, k))) 0 in
+      omega (arith, ap (λ x. nat_abs t.unit * x) (sum_by-cons (time_at i) j []), sum_by-cons (λ j. end_at t j - 0) j [], room)
 
   of_job : (j : ℕ) → j < n → ((pos i.machines *ℤ (pos (time_at i j) -ℤ due j)) *ℤ t.unit) ≤ℤ (pos i.machines *ℤ cost)
-  of_job j l =
-      subst (λ u. ((pos i.machines *ℤ (pos (time_at i j) -ℤ due j)) *ℤ u) ≤ℤ (pos i.machines *ℤ cost)) (sym unit_is)
-      (turned (nat_abs t.unit) (time_at i j) (limit j) i.machines (due j) cost (omega (arith, alone j l, in_time j l)) (sym (limit_is j l) ∙ ap (λ u. (u *ℤ due j) +ℤ cost) unit_is))
-    where
-      turned : (u p l m : ℕ) (d c : ℤ) → u * p ≤ l → pos l ≡ (pos u *ℤ d) +ℤ c → ((pos m *ℤ (pos p -ℤ d)) *ℤ pos u) ≤ℤ (pos m *ℤ c)
-      turned u p l m d c room are =
-          subst (λ z. z ≤ℤ (pos m *ℤ c)) (sym (*ℤ_assoc (pos m) (pos p -ℤ d) (pos u) ∙ ap (λ z. pos m *ℤ z) (*ℤ_comm (pos p -ℤ d) (pos u) ∙ *ℤ-sub (pos u) (pos p) d)))
-          (*ℤ-mono m (over (u * p) l (pos u *ℤ d) c room are))
-        where
-          over : (w l : ℕ) (y c : ℤ) → w ≤ l → pos l ≡ y +ℤ c → (pos w -ℤ y) ≤ℤ c
-          over w l y c h f = omega (arith, ints, h, f)
+  of_job j l = subst (λ x. x ≤ℤ (pos i.machines *ℤ cost)) (sym (*ℤ_assoc (pos i.machines) (pos (time_at i j) -ℤ due j) t.unit))
+      (*ℤ-mono i.machines (over_unit (time_at i j) (limit j) (due j) cost (omega (arith, alone j l, in_time j l)) (sym (limit_is j l))))
 
   pub forced_bounds : (x : ℤ) → IsForced i x → (x *ℤ t.unit) ≤ℤ (pos i.machines *ℤ cost)
   forced_bounds x (inl (j, l, e)) = subst (λ y. (y *ℤ t.unit) ≤ℤ (pos i.machines *ℤ cost)) (sym e) (of_job j l)
   forced_bounds x (inr (last, others, a, e)) = subst (λ y. (y *ℤ t.unit) ≤ℤ (pos i.machines *ℤ cost)) (sym e) (of_set last others a)
 
 -- ---- where some jobs take longer than their greatest deadlines
+pub of_all-is : (f : ℕ → ℕ) (xs : List ℕ) → of_all f xs ≡ sum_by f xs
+of_all-is f [] = refl
+of_all-is f (x ∷ xs) = omega (arith, of_all-is f xs, sum_by-cons f x xs)
+
 pub of_first-is : (f : ℕ → ℕ) (l : ℕ) (xs : List ℕ) → of_first f l xs ≡ of_all f (take l xs)
 of_first-is f zero xs = refl
 of_first-is f (suc l) [] = refl
@@ -179,10 +150,7 @@ IsBelow-pairs k (x ∷ xs) h = AllPairs-cons (λ x y. y < x) x xs (IsBelow-all x
 
 -- the deadline of a job is no earlier than the moment by which it has to end
 pub deadline-late : (i : Instance) (limits : Limits) (j : ℕ) → last_moment i limits j ≤ℤ pos (deadline i limits j)
-deadline-late i limits j = by (last_moment i limits j)
-  where
-    by : (z : ℤ) → z ≤ℤ pos (nat_abs (int_max (pos 0) z))
-    by z = subst (λ x. z ≤ℤ x) (natural (int_max (pos 0) z) (≤ℤ-int_max_left (pos 0) z)) (≤ℤ-int_max_right (pos 0) z)
+deadline-late i limits j = omega (arith, ints, clamps)
 
 module _ (i : Instance) (order : List ℕ) (once : OnceBelow (length i.jobs) order) (rising : AllPairs (λ a b. (job_at i a).due ≤ℤ (job_at i b).due) order) where
   abbrev m : ℕ
@@ -196,14 +164,7 @@ module _ (i : Instance) (order : List ℕ) (once : OnceBelow (length i.jobs) ord
 
   -- the time of a list of places
   times_are : (xs : List ℕ) → of_all work xs ≡ m * sum_by (time_at i) (map (at order) xs)
-  times_are [] = nothing m
-    where
-      nothing : (m : ℕ) → 0 ≡ m * 0
-      nothing m = omega arith
-  times_are (x ∷ xs) = added m (time_at i (at order x)) _ _ _ (times_are xs) (sum_by-cons (time_at i) (at order x) (map (at order) xs))
-    where
-      added : (m t a s r : ℕ) → a ≡ m * s → r ≡ t + s → m * t + a ≡ m * r
-      added m t a s r e f = omega (arith, e, ap (λ z. m * z) f)
+  times_are xs = of_all-is work xs ∙ sum_by-scale m (λ x. time_at i (at order x)) xs ∙ ap (λ z. m * z) (sym (sum_by-map (time_at i) (at order) xs))
 
   -- of at least as many jobs as machines those that are due last, and the others
   abbrev pub last : List ℕ → List ℕ
@@ -241,12 +202,10 @@ module _ (i : Instance) (order : List ℕ) (once : OnceBelow (length i.jobs) ord
       many = length-map (take m set) (at order) ∙ length-take-le m set many;
       jobs = subst (All (λ j. j < length i.jobs)) (sym whole) (All-map (λ j. j < length i.jobs) (at order) set (λ k d l. once.within (get_or set k d) 0 (within k d l)));
       once = subst (AllPairs (λ a b. a ≢ b)) (sym whole)
-          (AllPairs-map (λ a b. a ≢ b) (at order) set (λ a b d l k. apart (get_or set a d) (get_or set b d) (IsBelow-pairs (length order) set below a b d l k) (within a d (omega (arith, l, k)))));
+          (AllPairs-map (λ a b. a ≢ b) (at order) set (λ a b d l k e. OnceBelow-distinct once (get_or set b d) (get_or set a d) 0
+          (IsBelow-pairs (length order) set below a b d l k) (within a d (omega (arith, l, k))) (sym e)));
       dates = divided (λ a b. date b ≤ℤ date a) (λ x y l k. rising y x 0 l k);
     }
-      where
-        apart : (x y : ℕ) → y < x → x < length order → at order x ≢ at order y
-        apart x y l k e = OnceBelow-distinct once y x 0 l k (sym e)
 
   -- ---- above a bound
   module _ (bound : ℤ) where
@@ -259,43 +218,31 @@ module _ (i : Instance) (order : List ℕ) (once : OnceBelow (length i.jobs) ord
         let j = at order x in (
           pos m *ℤ (pos (time_at i j) -ℤ date j),
           inl (j, once.within x 0 l, refl),
-          subst (λ z. bound <ℤ z) (sym (*ℤ-sub (pos m) (pos (time_at i j)) (date j))) (above (m * time_at i j) (limit_at x) (pos m *ℤ date j) bound (deadline-late i (no_later bound) j) over),
+          omega (arith, ints, *ℤ-sub (pos m) (pos (time_at i j)) (date j), deadline-late i (no_later bound) j, over),
         )
-      where
-        above : (w l : ℕ) (d b : ℤ) → (d +ℤ b) ≤ℤ pos l → l < w → b <ℤ (pos w -ℤ d)
-        above w l d b h k = omega (arith, ints, h, k)
 
     -- the deadlines of a list of places
     limits_late : (xs : List ℕ) → ((pos m *ℤ dates_together i (map (at order) xs)) +ℤ (pos (length xs) *ℤ bound)) ≤ℤ pos (of_all limit_at xs)
     limits_late [] = ≤ℤ_of_same (ap₂ (λ x y. x +ℤ y) (*ℤ-zero (pos m)) (zero-*ℤ bound))
     limits_late (x ∷ xs) =
-        added (limit_at x) (of_all limit_at xs) (pos m *ℤ date (at order x)) bound (pos m *ℤ dates_together i (map (at order) xs)) (pos (length xs) *ℤ bound) _ _
-        (*ℤ-add (pos m) (date (at order x)) (dates_together i (map (at order) xs))) (suc-*ℤ (length xs) bound) (deadline-late i (no_later bound) (at order x)) (limits_late xs)
-      where
-        added : (a s : ℕ) (d b ds bs u v : ℤ) → u ≡ d +ℤ ds → v ≡ bs +ℤ b → (d +ℤ b) ≤ℤ pos a → (ds +ℤ bs) ≤ℤ pos s → (u +ℤ v) ≤ℤ pos (a + s)
-        added a s d b ds bs u v e f h g = omega (arith, ints, e, f, h, g)
+        let more = *ℤ-add (pos m) (date (at order x)) (dates_together i (map (at order) xs)) in
+        omega (arith, ints, more, suc-*ℤ (length xs) bound, deadline-late i (no_later bound) (at order x), limits_late xs)
 
     set_forced : (set : List ℕ) → IsBelow (length order) set → m ≤ length set → of_first limit_at m set < of_all work set → (y : ℤ) × IsForced i y × (bound <ℤ y)
     set_forced set below many late = (
       pos (sum_by (time_at i) (last set ++ others set)) -ℤ dates_together i (last set),
       inr (last set, others set, due_last set below many, refl),
-      above m (sum_by (time_at i) (last set ++ others set)) (dates_together i (last set)) bound strict,
+      omega (arith, ints, sum),
     )
       where
         all_late : of_all limit_at (take m set) < m * sum_by (time_at i) (last set ++ others set)
         all_late = subst₂ (λ x y. x < y) (of_first-is limit_at m set) (all_times set below many) late
 
-        strict : ((pos m *ℤ dates_together i (last set)) +ℤ (pos m *ℤ bound)) <ℤ pos (m * sum_by (time_at i) (last set ++ others set))
-        strict = below_all (subst (λ q. ((pos m *ℤ dates_together i (last set)) +ℤ (pos q *ℤ bound)) ≤ℤ pos (of_all limit_at (take m set))) (length-take-le m set many) (limits_late (take m set))) all_late
-          where
-            below_all : {x : ℤ} {a b : ℕ} → x ≤ℤ pos a → a < b → x <ℤ pos b
-            below_all h k = ≤ℤ-<ℤ h (pos-lt k)
-
-        above : (m s : ℕ) (d b : ℤ) → ((pos m *ℤ d) +ℤ (pos m *ℤ b)) <ℤ pos (m * s) → b <ℤ (pos s -ℤ d)
-        above m s d b h = moved (*ℤ-cancel_lt m (subst (λ x. x <ℤ (pos m *ℤ pos s)) (sym (*ℤ-add (pos m) d b)) h))
-          where
-            moved : (d +ℤ b) <ℤ pos s → b <ℤ (pos s -ℤ d)
-            moved h = omega (arith, ints, h)
+        sum : (dates_together i (last set) +ℤ bound) <ℤ pos (sum_by (time_at i) (last set ++ others set))
+        sum =
+            let parts = *ℤ-add (pos m) (dates_together i (last set)) bound in
+            let count = ap (λ q. pos q *ℤ bound) (length-take-le m set many) in
+            *ℤ-cancel_lt m (omega (arith, ints, parts, count, limits_late (take m set), all_late))
 
     pub forced_above : IsTooLate i order (no_later bound) → (y : ℤ) × IsForced i y × (bound <ℤ y)
     forced_above (set, below, late) = elim (cases_lt (length set) m) [

@@ -8,4 +8,5 @@ mod Ends
 mod Schedules
 mod Laying
 mod Bounds
+mod Soonest
 mod Tasks

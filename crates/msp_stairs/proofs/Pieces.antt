@@ -1,16 +1,16 @@
 -- One job more on the stairs: its pieces, on the machines and by jobs.
-use Rattle.std.proofs.Common.{◌≡◌, ◌≢◌, ℕ, ◌+◌, ◌-◌, ◌<◌, ◌≤◌, inl, inr, Bool, true, false, cond, eqb, ltb, List, [], ◌∷◌, ◌++◌, length, get_or, map, All, AllPairs, sum_by}
-use Rattle.std.proofs.Common.{refl, sym, ap, ap₂, subst, subst₂, ◌∙◌, arith, append-nil, append_assoc, length-append}
+use Rattle.std.proofs.Common.{◌≡◌, ◌≢◌, ℕ, ◌+◌, ◌-◌, ◌<◌, ◌≤◌, inl, inr, cond, eqb, ltb, List, [], ◌∷◌, ◌++◌, length, get_or, map, All, AllPairs, sum_by, below_more}
+use Rattle.std.proofs.Common.{refl, sym, ap, subst, subst₂, ◌∙◌, arith, append-nil, append_assoc, length-append}
 use Rattle.std.specs.Prelude.{◌==◌}
 use Rattle.std.specs.List.{filter, count_by}
-use Rattle.std.proofs.lemmas.Bool.{cases_lt, eq-eqb, ne_eqb, ltb-true, ltb-false}
+use Rattle.std.proofs.lemmas.Bool.{eq-eqb, ne_eqb, ltb-true, ltb-false, cond_both}
 use Rattle.std.proofs.lemmas.List.{length-map, get_or-map, map-append}
 use Rattle.std.proofs.lemmas.List.Elements.{All-nil, All-cons, All-head, All-tail, All-append, All-push, filter-append}
 use Rattle.std.proofs.lemmas.List.Sorted.{IsPermutation-middle}
-use Rattle.std.proofs.lemmas.List.Sums.{sum_by-append, sum_by-cons, length-filter, count_by-le-length}
-use Rattle.msp_class.proofs.Sums.{OnceBelow, OnceBelow-distinct, OnceBelow-permutation, AllPairs-head, sum_by-filter, sum_by-none, sum_by-same, cond-no, cond-yes}
+use Rattle.std.proofs.lemmas.List.Sums.{sum_by-append, sum_by-cons, count_by-le-length}
+use Rattle.msp_class.proofs.Sums.{OnceBelow, OnceBelow-distinct, OnceBelow-permutation, AllPairs-head, sum_by-none, cond-no}
 use Rattle.msp_instance.specs.declared.Instance.{Instance}
-use Rattle.msp_instance.proofs.ArcLemmas.{filter_none}
+use Rattle.msp_instance.proofs.ArcLemmas.{filter_none, filter_all}
 use Rattle.msp_pieces.specs.declared.Piece.{Piece}
 use Rattle.msp_pieces.specs.Intervals.{IsApartOn, size_of, work_of}
 use Rattle.msp_pieces.specs.Piece.{job_of, start, finish, IsTimed}
@@ -19,14 +19,12 @@ use Rattle.msp_pieces.proofs.lists.Parts.{All-front, All-back, AllPairs-front, A
 use Rattle.msp_stairs.specs.declared.climb.Limits.{Limits}
 use Rattle.msp_stairs.specs.declared.climb.Stair.{Stair}
 use Rattle.msp_stairs.specs.Bounds.{at, work_at, deadline}
-use Rattle.msp_stairs.specs.Steps.{machines_of, part, parts, machine_of, Holds, AreOnStairs, HaveWork}
+use Rattle.msp_stairs.specs.Steps.{part, parts, machine_of, Holds, AreOnStairs, HaveWork}
+use Rattle.std.proofs.lemmas.List.Quantifiers.{all_pairs_push}
 
 -- ---- lists
 AllPairs-from_map : {X : Type 0} (f : X → ℕ) (R : ℕ → ℕ → Type 0) (xs : List X) → AllPairs R (map f xs) → AllPairs (λ x y. R (f x) (f y)) xs
 AllPairs-from_map f R xs h a b d l k = subst₂ R (get_or-map f xs a d (f d) (omega (arith, l, k))) (get_or-map f xs b d (f d) k) (h a b (f d) l (omega (arith, k, length-map xs f)))
-
-AllPairs-push : {X : Type 0} (R : X → X → Type 0) (xs : List X) (x : X) → AllPairs R xs → All (λ y. R y x) xs → AllPairs R (xs ++ x ∷ [])
-AllPairs-push R xs x h k = AllPairs-append R xs (x ∷ []) h (λ a b d l m. absurd (omega arith)) (λ a d l. All-cons (R (get_or xs a d)) x [] (k a d l) (All-nil (R (get_or xs a d))))
 
 -- ---- on the machines
 Holds-push : (ps : List Piece) (p : Piece) (s : Stair) → (p.machine ≡ s.machine → finish p ≤ s.end) → Holds ps s → Holds (ps ++ p ∷ []) s
@@ -51,9 +49,6 @@ module _ (m : ℕ) (xs : List Stair) (a : Stair) (zs : List Stair) (ps : List Pi
   behind : All (λ s. Other s a) zs
   behind k d l e = AllPairs-head Other a zs (AllPairs-back Other xs (a ∷ zs) different) k d l (sym e)
 
-  same_machines : (e : ℕ) → machines_of (xs ++ busy e ∷ zs) ≡ machines_of (xs ++ a ∷ zs)
-  same_machines e = map-append number xs (busy e ∷ zs) ∙ sym (map-append number xs (a ∷ zs))
-
   inside : a.machine < m
   inside = All-head (λ x. x < m) a.machine (map number zs) (All-back (λ x. x < m) (map number xs) (map number (a ∷ zs)) (subst (All (λ x. x < m)) (map-append number xs (a ∷ zs)) o.machines.within))
 
@@ -62,12 +57,12 @@ module _ (m : ℕ) (xs : List Stair) (a : Stair) (zs : List Stair) (ps : List Pi
 
   ran : (j e : ℕ) → a.end < e → AreOnStairs m (xs ++ busy e ∷ zs) (ps ++ part j a.machine a.end e ∷ [])
   ran j e lasts = record {
-    machines = subst (OnceBelow m) (sym (same_machines e)) o.machines;
+    machines = subst (OnceBelow m) (map-append number xs (a ∷ zs) ∙ sym (map-append number xs (busy e ∷ zs))) o.machines;
     hold = All-append (Holds new) xs (busy e ∷ zs) (still xs ahead (All-front (Holds ps) xs (a ∷ zs) o.hold))
         (All-cons (Holds new) (busy e) zs here (still zs behind (All-tail (Holds ps) a zs (All-back (Holds ps) xs (a ∷ zs) o.hold))));
     timed = All-push IsTimed ps p o.timed (record { from = refl; to = refl; lasts = lasts });
     place = All-push (λ q. (q.op ≡ 0) × (q.machine < m)) ps p o.place (refl, inside);
-    apart = AllPairs-push (IsApartOn machine_of start finish) ps p o.apart (λ k d l e. inl (held k d l e));
+    apart = all_pairs_push (IsApartOn machine_of start finish) ps p o.apart (λ k d l e. inl (held k d l e));
   }
     where
       p : Piece
@@ -83,14 +78,10 @@ module _ (m : ℕ) (xs : List Stair) (a : Stair) (zs : List Stair) (ps : List Pi
       still ss differ h k d l = Holds-push ps p (get_or ss k d) (λ same. absurd (differ k d l (sym same))) (h k d l)
 
   pub ran_to : (j e : ℕ) → a.end ≤ e → AreOnStairs m (xs ++ busy e ∷ zs) (ps ++ parts j a.machine a.end e)
-  ran_to j e l = by (ltb a.end e) refl
-    where
-      by : (b : Bool) → ltb a.end e ≡ b → AreOnStairs m (xs ++ busy e ∷ zs) (ps ++ cond b (part j a.machine a.end e ∷ []) [])
-      by true f = ran j e (ltb-true a.end e f)
-      by false f = subst₂ (λ x qs. AreOnStairs m (xs ++ busy x ∷ zs) qs) same (sym (append-nil ps)) o
-        where
-          same : a.end ≡ e
-          same = omega (arith, l, ltb-false a.end e f)
+  ran_to j e l = cond_both (ltb a.end e) (part j a.machine a.end e ∷ []) [] (λ qs. AreOnStairs m (xs ++ busy e ∷ zs) (ps ++ qs))
+      (λ f. ran j e (ltb-true a.end e f)) (λ f.
+      let same : a.end ≡ e = omega (arith, l, ltb-false a.end e f) in
+      subst₂ (λ x qs. AreOnStairs m (xs ++ busy x ∷ zs) qs) same (sym (append-nil ps)) o)
 
   pub in_front : AreOnStairs m (a ∷ (xs ++ zs)) ps
   in_front = record {
@@ -110,18 +101,13 @@ pub record AreParts (job a b : ℕ) (ps : List Piece) : Type 0 where
   pub size : sum_by (size_of start finish) ps ≡ b - a
 
 pub AreParts-parts : (job machine a b : ℕ) → AreParts job a b (parts job machine a b)
-AreParts-parts job machine a b = by (ltb a b) refl
-  where
-    by : (t : Bool) → ltb a b ≡ t → AreParts job a b (cond t (part job machine a b ∷ []) [])
-    by true e = record {
+AreParts-parts job machine a b = cond_both (ltb a b) (part job machine a b ∷ []) [] (AreParts job a b)
+    (λ _. record {
       each = All-cons (λ p. (p.job ≡ job) × (start p ≡ a) × (finish p ≡ b)) (part job machine a b) [] (refl, refl, refl) (All-nil (λ p. (p.job ≡ job) × (start p ≡ a) × (finish p ≡ b)));
       few = omega arith;
       size = omega (arith, sum_by-cons (size_of start finish) (part job machine a b) []);
-    }
-    by false e = record { each = All-nil (λ p. (p.job ≡ job) × (start p ≡ a) × (finish p ≡ b)); few = omega arith; size = none (ltb-false a b e) }
-      where
-        none : b ≤ a → 0 ≡ b - a
-        none l = omega (arith, l)
+    })
+    (λ e. record { each = All-nil (λ p. (p.job ≡ job) × (start p ≡ a) × (finish p ≡ b)); few = omega arith; size = omega (arith, ltb-false a b e) })
 
 -- all pieces of one job: they are apart, and last as long as it takes
 pub record AreOfJob (job work due : ℕ) (ps : List Piece) : Type 0 where
@@ -134,15 +120,6 @@ pub record AreOfJob (job work due : ℕ) (ps : List Piece) : Type 0 where
 single : (ps : List Piece) → length ps ≤ 1 → AllPairs (IsApartOn job_of start finish) ps
 single ps h a b d l k = absurd (omega (arith, h, l, k))
 
-pub AreOfJob-one : (job work due a b : ℕ) (ps : List Piece) → b ≡ a + work → b ≤ due → AreParts job a b ps → AreOfJob job work due ps
-AreOfJob-one job work due a b ps e l h = record {
-  jobs = λ k d m. (h.each k d m).0;
-  apart = single ps h.few;
-  size = omega (arith, h.size, e);
-  ends = λ k d m. omega (arith, (h.each k d m).2, l);
-  few = omega (arith, h.few);
-}
-
 pub AreOfJob-two : (job work due a b c e : ℕ) (ps qs : List Piece)
     → a ≤ b → c ≤ e → e ≤ a → (b - a) + (e - c) ≡ work → b ≤ due → AreParts job a b ps → AreParts job c e qs → AreOfJob job work due (ps ++ qs)
 AreOfJob-two job work due a b c e ps qs l k before is in_time h g = record {
@@ -153,43 +130,29 @@ AreOfJob-two job work due a b c e ps qs l k before is in_time h g = record {
   few = omega (arith, length-append ps qs, h.few, g.few);
 }
 
+pub AreOfJob-one : (job work due a b : ℕ) (ps : List Piece) → b ≡ a + work → b ≤ due → AreParts job a b ps → AreOfJob job work due ps
+AreOfJob-one job work due a b ps e l h =
+    let none = All-nil (λ (p : Piece). (p.job ≡ job) × (start p ≡ a) × (finish p ≡ a)) in
+    subst (AreOfJob job work due) (append-nil ps) (AreOfJob-two job work due a b a a ps [] (omega (arith, e)) (omega arith) (omega arith)
+    (omega (arith, e)) l h (record { each = none; few = omega arith; size = omega arith }))
+
 -- ---- the work of each job
 work_of-append : (ps qs : List Piece) (j : ℕ) → work_of job_of start finish (ps ++ qs) j ≡ work_of job_of start finish ps j + work_of job_of start finish qs j
-work_of-append ps qs j = sum_by-filter size mine (ps ++ qs) ∙ sum_by-append charge ps qs ∙ ap₂ (λ x y. x + y) (sym (sum_by-filter size mine ps)) (sym (sum_by-filter size mine qs))
-  where
-    mine : Piece → Bool
-    mine q = eqb (job_of q) j
-
-    size : Piece → ℕ
-    size = size_of start finish
-
-    charge : Piece → ℕ
-    charge q = cond (mine q) (size q) 0
+work_of-append ps qs j = ap (sum_by (size_of start finish)) (filter-append (λ q. eqb (job_of q) j) ps qs)
+    ∙ sum_by-append (size_of start finish) (filter (λ q. eqb (job_of q) j) ps) (filter (λ q. eqb (job_of q) j) qs)
 
 work_of-none : (ps : List Piece) (j : ℕ) → All (λ p. p.job ≢ j) ps → work_of job_of start finish ps j ≡ 0
-work_of-none ps j h =
-    sum_by-filter (size_of start finish) (λ q. eqb (job_of q) j) ps
-    ∙ sum_by-none (λ q. cond (eqb (job_of q) j) (size_of start finish q) 0) ps (λ k d l. cond-no (size_of start finish (get_or ps k d)) (ne_eqb (job_of (get_or ps k d)) j (h k d l)))
+work_of-none ps j h = ap (sum_by (size_of start finish)) (filter_none (λ q. eqb (job_of q) j) ps (λ k d l. ne_eqb (job_of (get_or ps k d)) j (h k d l)))
 
 work_of-all : (ps : List Piece) (j : ℕ) → All (λ p. p.job ≡ j) ps → work_of job_of start finish ps j ≡ sum_by (size_of start finish) ps
-work_of-all ps j h =
-    sum_by-filter (size_of start finish) (λ q. eqb (job_of q) j) ps
-    ∙ sum_by-same (λ q. cond (eqb (job_of q) j) (size_of start finish q) 0)
-    (size_of start finish) ps (λ k d l. cond-yes (size_of start finish (get_or ps k d)) (eq-eqb (job_of (get_or ps k d)) j (h k d l)))
+work_of-all ps j h = ap (sum_by (size_of start finish)) (filter_all (λ q. eqb (job_of q) j) ps (λ k d l. eq-eqb (job_of (get_or ps k d)) j (h k d l)))
 
 -- ---- how many pieces each job has
 count-append : (ps qs : List Piece) (j : ℕ) → count_by (λ p. p.job == j) (ps ++ qs) ≡ count_by (λ p. p.job == j) ps + count_by (λ p. p.job == j) qs
-count-append ps qs j =
-    sym (length-filter mine (ps ++ qs))
-    ∙ ap length (filter-append mine ps qs)
-    ∙ length-append (filter mine ps) (filter mine qs)
-    ∙ ap₂ (λ x y. x + y) (length-filter mine ps) (length-filter mine qs)
-  where
-    mine : Piece → Bool
-    mine p = p.job == j
+count-append ps qs j = sum_by-append (λ p. cond (p.job == j) 1 0) ps qs
 
 pub count-none : (ps : List Piece) (j : ℕ) → All (λ p. p.job ≢ j) ps → count_by (λ p. p.job == j) ps ≡ 0
-count-none ps j h = sym (length-filter (λ p. p.job == j) ps) ∙ ap length (filter_none (λ p. p.job == j) ps (λ k d l. ne_eqb (get_or ps k d).job j (h k d l)))
+count-none ps j h = sum_by-none (λ p. cond (p.job == j) 1 0) ps (λ k d l. cond-no 1 (ne_eqb (get_or ps k d).job j (h k d l)))
 
 -- ---- one job more
 module _ (i : Instance) (order : List ℕ) (limits : Limits) (k : ℕ) (ps qs : List Piece) (once : OnceBelow (length i.jobs) order) (inside : k < length order)
@@ -201,10 +164,15 @@ module _ (i : Instance) (order : List ℕ) (limits : Limits) (k : ℕ) (ps qs : 
   HaveWork-more = record {
     jobs = All-append (λ p. (x : ℕ) × (x < k + 1) × (p.job ≡ at order x)) ps qs (λ n d l. let (x, b, e) = h.jobs n d l in (x, omega (arith, b), e)) (λ n d l. (k, omega arith, g.jobs n d l));
     apart = AllPairs-append (IsApartOn job_of start finish) ps qs h.apart g.apart (λ n d l x f y same. let (z, b, e) = h.jobs n d l in absurd (apart_places z b (sym e ∙ same ∙ g.jobs x f y)));
-    work = works;
+    work = below_more (λ x. work_of job_of start finish (ps ++ qs) (at order x) ≡ work_at i (at order x)) k
+        (λ x l. omega (arith, work_of-append ps qs (at order x), work_of-none qs (at order x) (other x l), h.work x l))
+        (omega (arith, work_of-append ps qs (at order k), work_of-none ps (at order k) new, work_of-all qs (at order k) g.jobs, g.size));
     ends = All-append (λ p. finish p ≤ deadline i limits p.job) ps qs h.ends (λ n d l. subst (λ j. finish (get_or qs n d) ≤ deadline i limits j) (sym (g.jobs n d l)) (g.ends n d l));
     few = omega (arith, length-append ps qs, h.few, g.few);
-    cuts = cuts;
+    cuts = below_more (λ x. count_by (λ p. p.job == at order x) (ps ++ qs) ≤ 2) k
+        (λ x l. omega (arith, count-append ps qs (at order x), count-none qs (at order x) (other x l), h.cuts x l))
+        (let all = count_by-le-length (λ (p : Piece). p.job == at order k) qs in
+        omega (arith, count-append ps qs (at order k), count-none ps (at order k) new, all, g.few));
   }
     where
       other : (x : ℕ) → x < k → All (λ p. p.job ≢ at order x) qs
@@ -212,27 +180,3 @@ module _ (i : Instance) (order : List ℕ) (limits : Limits) (k : ℕ) (ps qs : 
 
       new : All (λ p. p.job ≢ at order k) ps
       new n d m e = let (z, b, f) = h.jobs n d m in apart_places z b (sym f ∙ e)
-
-      cuts : (x : ℕ) → x < k + 1 → count_by (λ p. p.job == at order x) (ps ++ qs) ≤ 2
-      cuts x l = elim (cases_lt x k) [
-        | inl before ↦ omega (arith, count-append ps qs (at order x), count-none qs (at order x) (other x before), h.cuts x before)
-        | inr last ↦
-            let same : k ≡ x = omega (arith, l, last) in
-            subst (λ y. count_by (λ p. p.job == at order y) (ps ++ qs) ≤ 2) same
-            (omega (arith, count-append ps qs (at order k), count-none ps (at order k) new, count_by-le-length (λ (p : Piece). p.job == at order k) qs, g.few))
-      ]
-
-      works : (x : ℕ) → x < k + 1 → work_of job_of start finish (ps ++ qs) (at order x) ≡ work_at i (at order x)
-      works x l = elim (cases_lt x k) [
-        | inl before ↦ sums (work_of-append ps qs (at order x)) (work_of-none qs (at order x) (other x before)) (h.work x before)
-        | inr last ↦
-            let same : k ≡ x = omega (arith, l, last) in
-            subst (λ y. work_of job_of start finish (ps ++ qs) (at order y) ≡ work_at i (at order y))
-            same (others (work_of-append ps qs (at order k)) (work_of-none ps (at order k) new) (work_of-all qs (at order k) g.jobs ∙ g.size))
-      ]
-        where
-          sums : {a b c w : ℕ} → a ≡ b + c → c ≡ 0 → b ≡ w → a ≡ w
-          sums e f g = omega (arith, e, f, g)
-
-          others : {a b c w : ℕ} → a ≡ b + c → b ≡ 0 → c ≡ w → a ≡ w
-          others e f g = omega (arith, e, f, g)

@@ -1,5 +1,5 @@
 -- The law of last ends, of a list of jobs, some of which have limits by which they end.
-use Rattle.std.proofs.Common.{◌≡◌, ◌≢◌, ℕ, ◌+◌, ◌*◌, ◌-◌, ◌<◌, ◌≤◌, List, ◌++◌, length, get_or, All, AllPairs, nat_abs, sum_by, ap, arith}
+use Rattle.std.proofs.Common.{◌≡◌, ◌≢◌, ℕ, ◌+◌, ◌*◌, ◌-◌, ◌<◌, ◌≤◌, List, ◌++◌, length, All, AllPairs, nat_abs, sum_by, ap, arith}
 use Rattle.std.proofs.lemmas.List.Sums.{sum_by-append}
 use Rattle.msp_class.specs.declared.environments.EnvKind.TheVariants.{Identical}
 use Rattle.msp_class.specs.Env.{kind_of}
@@ -28,19 +28,10 @@ module _ (i : Instance) (kind : kind_of i.class.env ≡ Identical) (t : Schedule
     arith,
     room_for (last ++ others) within distinct moment,
     sum_by-append (λ j. end_at t j - moment) last others,
-    sum_by-none (λ j. end_at t j - moment) others (λ k d l. none (end_at t (get_or others k d)) moment (early k d l)),
-    sum_by-mono (λ j. end_at t j - moment) (λ j. limit j - moment) last (λ k d l. less (end_at t (get_or last k d)) (limit (get_or last k d)) moment (late k d l).0),
-    sum_by-same (λ j. moment + (limit j - moment)) limit last (λ k d l. back (limit (get_or last k d)) moment (late k d l).1),
+    sum_by-none (λ j. end_at t j - moment) others (λ k d l. omega (arith, early k d l)),
+    sum_by-mono (λ j. end_at t j - moment) (λ j. limit j - moment) last (λ k d l. omega (arith, (late k d l).0)),
+    sum_by-same (λ j. moment + (limit j - moment)) limit last (λ k d l. omega (arith, (late k d l).1)),
     sum_by-add (λ _. moment) (λ j. limit j - moment) last,
     sum_by-constant moment last,
     ap (λ x. x * moment) many,
   )
-    where
-      none : (a b : ℕ) → a ≤ b → a - b ≡ 0
-      none a b l = omega (arith, l)
-
-      less : (a b m : ℕ) → a ≤ b → a - m ≤ b - m
-      less a b m l = omega (arith, l)
-
-      back : (a m : ℕ) → m ≤ a → m + (a - m) ≡ a
-      back a m l = omega (arith, l)

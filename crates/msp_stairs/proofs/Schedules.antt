@@ -1,16 +1,14 @@
 -- The pieces on the stairs as a schedule: it is feasible, meets the limits, and lies within the bounds of an answer.
-use Rattle.std.proofs.Common.{◌≡◌, ℕ, ◌*◌, ◌<◌, ◌≤◌, inl, inr, List, length, get_or, ℤ, pos, neg_ℤ, nat_abs, ◌+ℤ◌, ◌-ℤ◌, ◌*ℤ◌, ◌≤ℤ◌, All, sym, ap, subst, ◌∙◌, arith}
+use Rattle.std.proofs.Common.{◌≡◌, ℕ, ◌*◌, ◌<◌, ◌≤◌, inl, inr, List, length, get_or, ℤ, pos, ◌+ℤ◌, ◌*ℤ◌, ◌≤ℤ◌, All, sym, ap, subst, ◌∙◌, arith}
 use Rattle.std.specs.Prelude.{◌==◌, Option, Some, None}
-use Rattle.std.specs.Int.{int_max}
 use Rattle.std.specs.List.{count_by}
 use Rattle.std.proofs.lemmas.Int.{ints, clamps}
 use Rattle.std.proofs.lemmas.Bool.{cases_lt}
 use Rattle.std.proofs.lemmas.List.{get_or_default}
 use Rattle.std.proofs.lemmas.List.Elements.{All-contains}
-use Rattle.std.proofs.Math.Nat.{mul-le-mul_right}
 use Rattle.msp_class.specs.declared.sizes.TheConstants.{MOST_MACHINES, GREATEST}
 use Rattle.msp_class.specs.Crit.{is_greatest}
-use Rattle.msp_class.proofs.IntegerRing.{≤ℤ_refl, ≤ℤ_trans, ≤ℤ_total, <ℤ_weak, natural, zero-le-pos, pos-le, le-pos, ≤ℤ-int_max_left, int_max-least, *ℤ-neg, int_max-right, int_max-left, *ℤ_comm, *ℤ-mono}
+use Rattle.msp_class.proofs.IntegerRing.{≤ℤ_refl, ≤ℤ_trans, *ℤ_comm, *ℤ-mono, +ℤ_mono}
 use Rattle.msp_class.proofs.Sums.{OnceBelow-contains, length-OnceBelow}
 use Rattle.msp_instance.specs.declared.Instance.{Instance}
 use Rattle.msp_instance.specs.Instance.{job_at, no_job}
@@ -30,13 +28,13 @@ use Rattle.msp_route.specs.Bounds.{IsAnswer, answer_unit}
 use Rattle.msp_route.proofs.Owed.{timed_answer}
 use Rattle.msp_route.proofs.Laid.{at_zero, cut_is_feasible}
 use Rattle.msp_stairs.specs.declared.climb.Limits.{Limits}
-use Rattle.msp_stairs.specs.declared.climb.Stair.{Stair}
 use Rattle.msp_stairs.specs.Stairs.{stairs_class, makespan, HasTwoPiecesAtMost}
 use Rattle.msp_stairs.specs.Bounds.{greatest_bound, CanMeet, CanEnd, work_at, capped, last_moment, deadline, at, greatest_date, latest_deadline}
 use Rattle.msp_stairs.specs.Steps.{HasClimbed, IsClimbed}
 use Rattle.msp_stairs.proofs.Makespan.{makespan-least}
 use Rattle.msp_stairs.proofs.Pieces.{count-none}
 use Rattle.msp_stairs.proofs.Steps.{CanLay}
+use Rattle.msp_pieces.proofs.costs.Small.{product_within}
 
 abbrev pub stairs_schedule : Instance → List Piece → Schedule
 stairs_schedule i ps = record { unit = pos i.machines; pieces = ps }
@@ -46,60 +44,21 @@ capped-late : (end : Option ℤ) (moment : ℤ) → capped end moment ≤ℤ mom
 capped-late None moment = ≤ℤ_refl moment
 capped-late (Some end) moment = omega (arith, ints, clamps)
 
-capped-end : (end moment : ℤ) → capped (Some end) moment ≤ℤ end
-capped-end end moment = omega (arith, ints, clamps)
-
--- a deadline that a piece keeps is not cut off at 0
-deadline-exact : (i : Instance) (limits : Limits) (j : ℕ) → 0 < deadline i limits j → pos (deadline i limits j) ≡ last_moment i limits j
-deadline-exact i limits j some = by (last_moment i limits j) some
-  where
-    by : (z : ℤ) → 0 < nat_abs (int_max (pos 0) z) → pos (nat_abs (int_max (pos 0) z)) ≡ z
-    by z l = elim (≤ℤ_total (pos 0) z) [
-      | inl above ↦ ap (λ x. pos (nat_abs x)) (int_max-right (pos 0) z above) ∙ sym (natural z above)
-      | inr below ↦ absurd (never (subst (λ x. 0 < nat_abs x) (int_max-left (pos 0) z (<ℤ_weak below)) l))
-    ]
-      where
-        never : 0 < nat_abs (pos 0) → ⊥
-        never l = omega (arith, l)
-
--- and it is not large
-pub product-small : (m : ℕ) (x : ℤ) (c : ℕ) → m ≤ MOST_MACHINES → LiesWithin c x → LiesWithin (MOST_MACHINES * c) (pos m *ℤ x)
-product-small m x c l h = (low, high)
-  where
-    few : m * c ≤ MOST_MACHINES * c
-    few = mul-le-mul_right c l
-
-    high : (pos m *ℤ x) ≤ℤ pos (MOST_MACHINES * c)
-    high = ≤ℤ_trans (*ℤ-mono m h.1) (pos-le few)
-
-    low : neg_ℤ (pos (MOST_MACHINES * c)) ≤ℤ (pos m *ℤ x)
-    low = ≤ℤ_trans (turned (m * c) (MOST_MACHINES * c) few) (subst (λ z. z ≤ℤ (pos m *ℤ x)) (*ℤ-neg (pos m) (pos c)) (*ℤ-mono m h.0))
-      where
-        turned : (a b : ℕ) → a ≤ b → neg_ℤ (pos b) ≤ℤ neg_ℤ (pos a)
-        turned a b l = omega (arith, ints, l)
-
 -- a due date, times the number of machines and with a bound
 pub due-within : (i : Instance) → IsOfClass i stairs_class → (j : ℕ) → j < length i.jobs → LiesWithin greatest_date (pos i.machines *ℤ (job_at i j).due)
-due-within i h j l = product-small i.machines (job_at i j).due (2 * GREATEST) h.machines (h.jobs j no_job l).due
+due-within i h j l = product_within i.machines (job_at i j).due MOST_MACHINES (2 * GREATEST) greatest_date
+    h.machines (h.jobs j no_job l).due (omega arith)
 
 pub deadline-small : (i : Instance) → IsOfClass i stairs_class → (limits : Limits) → LiesWithin greatest_bound limits.late → (j : ℕ) → j < length i.jobs → deadline i limits j ≤ latest_deadline
-deadline-small i h limits small j l = by (last_moment i limits j)
-    (≤ℤ_trans (capped-late limits.end ((pos i.machines *ℤ (job_at i j).due) +ℤ limits.late)) (added (pos i.machines *ℤ (job_at i j).due) limits.late (due-within i h j l).1 small.1))
-  where
-    added : (x y : ℤ) → x ≤ℤ pos greatest_date → y ≤ℤ pos greatest_bound → (x +ℤ y) ≤ℤ pos latest_deadline
-    added x y h k = omega (arith, ints, h, k)
-
-    by : (z : ℤ) → z ≤ℤ pos latest_deadline → nat_abs (int_max (pos 0) z) ≤ latest_deadline
-    by z l = le-pos (subst (λ x. x ≤ℤ pos latest_deadline) (natural (int_max (pos 0) z) (≤ℤ-int_max_left (pos 0) z)) (int_max-least (omega (arith, ints)) l))
+deadline-small i h limits small j l =
+    let early = capped-late limits.end ((pos i.machines *ℤ (job_at i j).due) +ℤ limits.late) in
+    omega (arith, ints, clamps, early, +ℤ_mono (due-within i h j l).1 small.1)
 
 module _ (i : Instance) (h : IsOfClass i stairs_class) (order : List ℕ) (limits : Limits) (can : CanLay i order limits) (ps : List Piece) (made : IsClimbed i order limits ps) where
   abbrev n : ℕ
   n = length i.jobs
 
-  abbrev stairs : List Stair
-  stairs = made.0
-
-  abbrev c : HasClimbed i order limits (length order) stairs ps
+  abbrev c : HasClimbed i order limits (length order) made.0 ps
   c = made.1
 
   abbrev s : Schedule
@@ -113,10 +72,7 @@ module _ (i : Instance) (h : IsOfClass i stairs_class) (order : List ℕ) (limit
 
   -- a job has its place in the order
   each_job : (Q : ℕ → Type 0) → ((x : ℕ) → x < length order → Q (at order x)) → (j : ℕ) → j < n → Q j
-  each_job Q q j l = let (x, b, e) = OnceBelow-contains can.once j l in subst Q (found x b e) (q x b)
-    where
-      found : (x : ℕ) → x < length order → get_or order x j ≡ j → at order x ≡ j
-      found x b e = get_or_default order x 0 j b ∙ e
+  each_job Q q j l = let (x, b, e) = OnceBelow-contains can.once j l in subst Q (get_or_default order x 0 j b ∙ e) (q x b)
 
   -- ---- feasible
   works : (j : ℕ) → j < n → work_of job_of start finish ps j ≡ work_at i j
@@ -139,11 +95,8 @@ module _ (i : Instance) (h : IsOfClass i stairs_class) (order : List ℕ) (limit
   pub cut_once : HasTwoPiecesAtMost s
   cut_once j = elim (cases_lt j n) [
     | inl inside ↦ each_job (λ j. count_by (λ p. p.job == j) ps ≤ 2) c.worked.cuts j inside
-    | inr outside ↦ omega (arith, count-none ps j (λ k d l e. absurd (never outside (subst (λ x. x < n) e (job_inside k d l)))))
+    | inr outside ↦ omega (arith, count-none ps j (λ k d l e. omega (arith, outside, subst (λ x. x < n) e (job_inside k d l))))
   ]
-    where
-      never : n ≤ j → j < n → ⊥
-      never l k = omega (arith, l, k)
 
   -- ---- in time
   some_deadline : (j : ℕ) → j < n → 0 < deadline i limits j
@@ -155,22 +108,19 @@ module _ (i : Instance) (h : IsOfClass i stairs_class) (order : List ℕ) (limit
 
   in_time : All (λ p. p.to ≤ℤ last_moment i limits p.job) ps
   in_time k d l =
-      subst (λ x. (get_or ps k d).to ≤ℤ x) (deadline-exact i limits (get_or ps k d).job (some_deadline (get_or ps k d).job (job_inside k d l)))
-      (subst (λ x. x ≤ℤ pos (deadline i limits (get_or ps k d).job)) (sym (c.on_stairs.timed k d l).to) (pos-le (c.worked.ends k d l)))
+      let some = some_deadline (get_or ps k d).job (job_inside k d l) in
+      omega (arith, ints, clamps, some, (c.on_stairs.timed k d l).to, c.worked.ends k d l)
 
   not_before : (j : ℕ) → j < n → pos 0 ≤ℤ last_moment i limits j
-  not_before j l = subst (λ x. pos 0 ≤ℤ x) (deadline-exact i limits j (some_deadline j l)) (zero-le-pos (deadline i limits j))
+  not_before j l = omega (arith, ints, clamps, some_deadline j l)
 
   job_in_time : (j : ℕ) → j < n → end_of s j ≤ℤ last_moment i limits j
   job_in_time j l = last_end-least ps j (last_moment i limits j) (not_before j l) (λ k d b e. subst (λ x. (get_or ps k d).to ≤ℤ last_moment i limits x) e (in_time k d b))
 
   pub at_most_bound : cost_of i s ≤ℤ limits.late
-  at_most_bound = cost_of-least i s limits.late (ap is_greatest h.crit) (omega (arith, h.some))
-      (λ j l. subst (λ x. job_cost x (pos i.machines) (job_at i j) (end_of s j) ≤ℤ limits.late) (sym h.crit) (moved (end_of s j) (pos i.machines *ℤ (job_at i j).due)
-      (≤ℤ_trans (job_in_time j l) (capped-late limits.end ((pos i.machines *ℤ (job_at i j).due) +ℤ limits.late)))))
-    where
-      moved : (x y : ℤ) → x ≤ℤ (y +ℤ limits.late) → (x -ℤ y) ≤ℤ limits.late
-      moved x y l = omega (arith, ints, l)
+  at_most_bound = cost_of-least i s limits.late (ap is_greatest h.crit) (omega (arith, h.some)) (λ j l.
+      let early = ≤ℤ_trans (job_in_time j l) (capped-late limits.end ((pos i.machines *ℤ (job_at i j).due) +ℤ limits.late)) in
+      subst (λ x. job_cost x (pos i.machines) (job_at i j) (end_of s j) ≤ℤ limits.late) (sym h.crit) (omega (arith, ints, early)))
 
   late_enough : (pos i.machines *ℤ cost_of i s) ≤ℤ (limits.late *ℤ s.unit)
   late_enough = subst (λ x. (pos i.machines *ℤ cost_of i s) ≤ℤ x) (*ℤ_comm (pos i.machines) limits.late) (*ℤ-mono i.machines at_most_bound)
@@ -182,13 +132,13 @@ module _ (i : Instance) (h : IsOfClass i stairs_class) (order : List ℕ) (limit
   ends_by end e = makespan-least s end (≤ℤ_trans (not_before 0 h.some) (before 0)) (λ k d l. ≤ℤ_trans (in_time k d l) (before (get_or ps k d).job))
     where
       before : (j : ℕ) → last_moment i limits j ≤ℤ end
-      before j = subst (λ x. capped x ((pos i.machines *ℤ (job_at i j).due) +ℤ limits.late) ≤ℤ end) (sym e) (capped-end end ((pos i.machines *ℤ (job_at i j).due) +ℤ limits.late))
+      before j = subst (λ x. capped x ((pos i.machines *ℤ (job_at i j).due) +ℤ limits.late) ≤ℤ end) (sym e) (omega (arith, ints, clamps))
 
   pub can_end : (end : ℤ) → limits.end ≡ Some end → CanEnd i limits.late end
   can_end end e = (s, is_feasible, late_enough, subst (λ x. (pos i.machines *ℤ makespan s) ≤ℤ x) (*ℤ_comm (pos i.machines) end) (*ℤ-mono i.machines (ends_by end e)))
 
   -- ---- bounds
-  module _ (small : LiesWithin greatest_bound limits.late) where
-    pub is_answer : IsAnswer i s
-    is_answer = timed_answer i s latest_deadline (subst (λ k. pos i.machines ≤ℤ answer_unit k) (sym h.kind) (omega (arith, ints, h.machines))) (omega (arith, c.worked.few, many, h.few))
-        c.on_stairs.timed (λ k d l. omega (arith, c.worked.ends k d l, deadline-small i h limits small (get_or ps k d).job (job_inside k d l))) (omega (arith, ints))
+  pub is_answer : LiesWithin greatest_bound limits.late → IsAnswer i s
+  is_answer small = timed_answer i s latest_deadline (subst (λ k. pos i.machines ≤ℤ answer_unit k) (sym h.kind) (omega (arith, ints, h.machines)))
+      (omega (arith, c.worked.few, many, h.few)) c.on_stairs.timed
+      (λ k d l. omega (arith, c.worked.ends k d l, deadline-small i h limits small (get_or ps k d).job (job_inside k d l))) (omega (arith, ints))

@@ -1,5 +1,5 @@
 -- One job more: what stays true, and where it fits on no machine.
-use Rattle.std.proofs.Common.{◌≡◌, ℕ, suc, ◌+◌, ◌-◌, ◌<◌, ◌≤◌, inl, inr, true, false, List, [], ◌∷◌, ◌++◌, length, sym, ap, subst, ◌∙◌, arith, append_assoc}
+use Rattle.std.proofs.Common.{◌≡◌, ℕ, suc, ◌+◌, ◌<◌, ◌≤◌, inl, inr, true, false, List, [], ◌∷◌, ◌++◌, length, sym, subst, ◌∙◌, arith, append_assoc, add-one, subst₂}
 use Rattle.std.proofs.lemmas.List.{length-map, map-append}
 use Rattle.std.proofs.lemmas.List.Elements.{All-map}
 use Rattle.msp_class.proofs.Sums.{OnceBelow, length-OnceBelow}
@@ -9,19 +9,12 @@ use Rattle.msp_stairs.specs.declared.climb.Limits.{Limits}
 use Rattle.msp_stairs.specs.declared.climb.Stair.{Stair}
 use Rattle.msp_stairs.specs.declared.climb.Task.{Task}
 use Rattle.msp_stairs.specs.Bounds.{at, work_at, deadline}
-use Rattle.msp_stairs.specs.Steps.{ends_of, Falls, IsBelow, AreBacked, parts, AreOnStairs, HaveWork, HasClimbed, IsTooLate, task_for, IsWhole, IsCut, IsLaid}
-use Rattle.msp_stairs.proofs.Climbing.{Falls-raise, Falls-cut, Falls-among, AreBacked-whole, AreBacked-cut, found_late}
+use Rattle.msp_stairs.specs.Steps.{ends_of, Falls, AreBacked, parts, AreOnStairs, HaveWork, HasClimbed, IsTooLate, task_for, IsWhole, IsCut, IsLaid}
+use Rattle.msp_stairs.proofs.Climbing.{Falls-raise, Falls-cut, Falls-among, AreBacked-whole, AreBacked-cut, found_late, IsBelow-up}
 use Rattle.msp_stairs.proofs.Pieces.{ran_to, in_front, AreParts-parts, AreOfJob-one, AreOfJob-two, HaveWork-more}
-
-next : (k : ℕ) → suc k ≡ k + 1
-next k = omega arith
 
 abbrev end_at : Stair → ℕ
 end_at s = s.end
-
-IsBelow-up : (a b : ℕ) (xs : List ℕ) → a ≤ b → IsBelow a xs → IsBelow b xs
-IsBelow-up a b [] l h = tt
-IsBelow-up a b (x ∷ xs) l h = (omega (arith, h.0, l), h.1)
 
 -- what the step reads of the instance
 pub record CanLay (i : Instance) (order : List ℕ) (limits : Limits) : Type 0 where
@@ -42,18 +35,16 @@ module _ (i : Instance) (order : List ℕ) (limits : Limits) (can : CanLay i ord
   work x = work_at i (at order x)
 
   HasClimbed-whole : IsWhole task old before new after → HasClimbed i order limits (k + 1) new after
-  HasClimbed-whole w = record {
-    falls = λ x l b. subst (λ ss. Falls (due x) (ends_of ss)) (sym w.stand) (omega (arith, w.fits, can.rises k x (omega (arith, l)) b), Falls-raise (ends_of w.others) (omega (arith, w.is)) falls.1);
-    backed = subst (λ ss. AreBacked work due (k + 1) 0 (ends_of ss)) (sym w.stand) (subst (λ n. AreBacked work due n 0 (w.end ∷ ends_of w.others))
-        (next k) (AreBacked-whole work due k w.first.end w.end (ends_of w.others) w.is (subst (λ ss. AreBacked work due k 0 (ends_of ss)) w.stood c.backed)));
-    on_stairs = subst (λ ss. AreOnStairs i.machines ss after) (sym w.stand) (subst (AreOnStairs i.machines (record { machine = w.first.machine; end = w.end } ∷ w.others))
-        (sym w.laid) (ran_to i.machines [] w.first w.others before (subst (λ ss. AreOnStairs i.machines ss before) w.stood c.on_stairs) (at order k) w.end (omega (arith, w.is))));
-    worked = subst (HaveWork i order limits (k + 1)) (sym w.laid) (HaveWork-more i order limits k before (parts (at order k) w.first.machine w.first.end w.end)
-        can.once inside c.worked (AreOfJob-one (at order k) (work k) (due k) w.first.end w.end _ w.is w.fits (AreParts-parts (at order k) w.first.machine w.first.end w.end)));
-  }
+  HasClimbed-whole w = subst₂ (HasClimbed i order limits (k + 1)) (sym w.stand) (sym w.laid) (record {
+    falls = λ x l b. (omega (arith, w.fits, can.rises k x (omega (arith, l)) b), Falls-raise (ends_of w.others) (omega (arith, w.is)) (o.falls k (omega arith) inside).1);
+    backed = subst (λ n. AreBacked work due n 0 (w.end ∷ ends_of w.others)) (sym (add-one k)) (AreBacked-whole work due k w.first.end w.end (ends_of w.others) w.is o.backed);
+    on_stairs = ran_to i.machines [] w.first w.others before o.on_stairs (at order k) w.end (omega (arith, w.is));
+    worked = HaveWork-more i order limits k before (parts (at order k) w.first.machine w.first.end w.end) can.once inside o.worked
+        (AreOfJob-one (at order k) (work k) (due k) w.first.end w.end _ w.is w.fits (AreParts-parts (at order k) w.first.machine w.first.end w.end));
+  })
     where
-      falls : Falls (due k) (w.first.end ∷ ends_of w.others)
-      falls = subst (λ ss. Falls (due k) (ends_of ss)) w.stood (c.falls k (omega arith) inside)
+      o : HasClimbed i order limits k (w.first ∷ w.others) before
+      o = subst (λ ss. HasClimbed i order limits k ss before) w.stood c
 
   module _ (w : IsCut task old before new after) where
     abbrev raised_high : Stair
@@ -68,14 +59,17 @@ module _ (i : Instance) (order : List ℕ) (limits : Limits) (can : CanLay i ord
     abbrev second_parts : List Piece
     second_parts = parts (at order k) w.low.machine w.low.end w.end
 
-    ends_old : ends_of old ≡ ends_of w.ahead ++ w.high.end ∷ w.low.end ∷ ends_of w.behind
-    ends_old = ap ends_of w.stood ∙ map-append end_at w.ahead (w.high ∷ w.low ∷ w.behind)
+    o : HasClimbed i order limits k (w.ahead ++ w.high ∷ w.low ∷ w.behind) before
+    o = subst (λ ss. HasClimbed i order limits k ss before) w.stood c
+
+    ends_old : ends_of (w.ahead ++ w.high ∷ w.low ∷ w.behind) ≡ ends_of w.ahead ++ w.high.end ∷ w.low.end ∷ ends_of w.behind
+    ends_old = map-append end_at w.ahead (w.high ∷ w.low ∷ w.behind)
 
     ends_rest : ends_of (w.ahead ++ raised_low ∷ w.behind) ≡ ends_of w.ahead ++ w.end ∷ ends_of w.behind
     ends_rest = map-append end_at w.ahead (raised_low ∷ w.behind)
 
     old_falls : Falls (due k) (ends_of w.ahead ++ w.high.end ∷ w.low.end ∷ ends_of w.behind)
-    old_falls = subst (Falls (due k)) ends_old (c.falls k (omega arith) inside)
+    old_falls = subst (Falls (due k)) ends_old (o.falls k (omega arith) inside)
 
     high_early : w.high.end ≤ due k
     high_early = Falls-among (due k) w.high.end (ends_of w.ahead) (w.low.end ∷ ends_of w.behind) old_falls
@@ -86,40 +80,31 @@ module _ (i : Instance) (order : List ℕ) (limits : Limits) (can : CanLay i ord
     above_low : w.low.end ≤ w.end
     above_low = omega (arith, w.is, w.beyond)
 
-    new_falls : Falls (due k) (ends_of (w.ahead ++ raised_low ∷ w.behind))
-    new_falls = subst (Falls (due k)) (sym ends_rest) (Falls-cut (due k) w.high.end w.low.end w.end (ends_of w.ahead) (ends_of w.behind) below_high above_low old_falls)
-
-    new_backed : AreBacked work due (suc k) 0 (due k ∷ ends_of (w.ahead ++ raised_low ∷ w.behind))
-    new_backed = subst (λ es. AreBacked work due (suc k) 0 (due k ∷ es)) (sym ends_rest)
-        (AreBacked-cut work due k w.high.end w.low.end w.end (ends_of w.ahead) (ends_of w.behind) w.is (subst (AreBacked work due k 0) ends_old c.backed))
-
     first_on : AreOnStairs i.machines (w.ahead ++ raised_high ∷ w.low ∷ w.behind) (before ++ first_parts)
-    first_on = ran_to i.machines w.ahead w.high (w.low ∷ w.behind) before (subst (λ ss. AreOnStairs i.machines ss before) w.stood c.on_stairs) (at order k) (due k) high_early
+    first_on = ran_to i.machines w.ahead w.high (w.low ∷ w.behind) before o.on_stairs (at order k) (due k) high_early
 
     second_on : AreOnStairs i.machines ((w.ahead ++ raised_high ∷ []) ++ raised_low ∷ w.behind) ((before ++ first_parts) ++ second_parts)
     second_on = ran_to i.machines (w.ahead ++ raised_high ∷ []) w.low w.behind (before ++ first_parts)
         (subst (λ ss. AreOnStairs i.machines ss (before ++ first_parts)) (sym (append_assoc w.ahead (raised_high ∷ []) (w.low ∷ w.behind))) first_on) (at order k) w.end above_low
 
-    all_on : AreOnStairs i.machines (raised_high ∷ (w.ahead ++ raised_low ∷ w.behind)) ((before ++ first_parts) ++ second_parts)
-    all_on = in_front i.machines w.ahead raised_high (raised_low ∷ w.behind) ((before ++ first_parts) ++ second_parts)
-        (subst (λ ss. AreOnStairs i.machines ss ((before ++ first_parts) ++ second_parts)) (append_assoc w.ahead (raised_high ∷ []) (raised_low ∷ w.behind)) second_on)
-
     all_worked : HaveWork i order limits (k + 1) (before ++ (first_parts ++ second_parts))
-    all_worked = HaveWork-more i order limits k before (first_parts ++ second_parts) can.once inside c.worked
+    all_worked = HaveWork-more i order limits k before (first_parts ++ second_parts) can.once inside o.worked
         (AreOfJob-two (at order k) (work k) (due k) w.high.end (due k) w.low.end w.end first_parts second_parts high_early above_low below_high
-        (adds_up w.high.end (due k) w.low.end w.end (work k) w.is high_early above_low) (omega arith)
+        (omega (arith, w.is, high_early, above_low)) (omega arith)
         (AreParts-parts (at order k) w.high.machine w.high.end (due k)) (AreParts-parts (at order k) w.low.machine w.low.end w.end))
-      where
-        adds_up : (a b c e w : ℕ) → e + b ≡ c + a + w → a ≤ b → c ≤ e → (b - a) + (e - c) ≡ w
-        adds_up a b c e w h l k = omega (arith, h, l, k)
 
     HasClimbed-cut : HasClimbed i order limits (k + 1) new after
-    HasClimbed-cut = record {
-      falls = λ x l b. subst (λ ss. Falls (due x) (ends_of ss)) (sym w.stand) (can.rises k x (omega (arith, l)) b, new_falls);
-      backed = subst (λ ss. AreBacked work due (k + 1) 0 (ends_of ss)) (sym w.stand) (subst (λ n. AreBacked work due n 0 (due k ∷ ends_of (w.ahead ++ raised_low ∷ w.behind))) (next k) new_backed);
-      on_stairs = subst (λ ss. AreOnStairs i.machines ss after) (sym w.stand) (subst (AreOnStairs i.machines (raised_high ∷ (w.ahead ++ raised_low ∷ w.behind))) (sym w.laid) all_on);
-      worked = subst (HaveWork i order limits (k + 1)) (sym (w.laid ∙ append_assoc before first_parts second_parts)) all_worked;
-    }
+    HasClimbed-cut = subst₂ (HasClimbed i order limits (k + 1)) (sym w.stand) (sym w.laid) (record {
+      falls = λ x l b. (
+        can.rises k x (omega (arith, l)) b,
+        subst (Falls (due k)) (sym ends_rest) (Falls-cut (due k) w.high.end w.low.end w.end (ends_of w.ahead) (ends_of w.behind) below_high above_low old_falls),
+      );
+      backed = subst₂ (λ n es. AreBacked work due n 0 (due k ∷ es)) (sym (add-one k)) (sym ends_rest)
+          (AreBacked-cut work due k w.high.end w.low.end w.end (ends_of w.ahead) (ends_of w.behind) w.is (subst (AreBacked work due k 0) ends_old o.backed));
+      on_stairs = in_front i.machines w.ahead raised_high (raised_low ∷ w.behind) ((before ++ first_parts) ++ second_parts)
+          (subst (λ ss. AreOnStairs i.machines ss ((before ++ first_parts) ++ second_parts)) (append_assoc w.ahead (raised_high ∷ []) (raised_low ∷ w.behind)) second_on);
+      worked = subst (HaveWork i order limits (k + 1)) (sym (append_assoc before first_parts second_parts)) all_worked;
+    })
 
   pub HasClimbed-next : IsLaid task old before true new after → HasClimbed i order limits (k + 1) new after
   HasClimbed-next (inl w) = HasClimbed-whole w

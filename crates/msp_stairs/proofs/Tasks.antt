@@ -14,23 +14,21 @@ use Rattle.msp_stairs.specs.declared.climb.Limits.{Limits}
 use Rattle.msp_stairs.specs.Bounds.{greatest_bound, greatest_date, latest_deadline, capped}
 use Rattle.msp_stairs.specs.declared.climb.Task.{Task}
 use Rattle.msp_stairs.specs.Steps.{task_for}
-use Rattle.msp_stairs.proofs.Schedules.{product-small}
+use Rattle.msp_class.proofs.IntegerRing.{+ℤ_mono}
+use Rattle.msp_pieces.proofs.costs.Small.{product_within}
 
 -- a number as 128 bits hold it
 abbrev pub held : ℤ → ℤ
 held x = to_z w128 (of_z w128 x)
 
-pub fits : (x : ℤ) → LiesWithin latest_deadline x → FitsSigned w128 x
-fits x h = omega (arith, ints, h.0, h.1)
+fits : (c : ℕ) (x : ℤ) → c ≤ latest_deadline → LiesWithin c x → FitsSigned w128 x
+fits c x l h = omega (arith, ints, h.0, h.1)
 
-pub kept : (x : ℤ) → LiesWithin latest_deadline x → held x ≡ x
-kept x h = to_z-of_z w128 x (fits x h)
+pub kept : (c : ℕ) (x : ℤ) → c ≤ latest_deadline → LiesWithin c x → held x ≡ x
+kept c x l h = to_z-of_z w128 x (fits c x l h)
 
-wider : (a b : ℕ) (x : ℤ) → a ≤ b → LiesWithin a x → LiesWithin b x
-wider a b x l h = (omega (arith, ints, l, h.0), omega (arith, ints, l, h.1))
-
-count_within : (m : ℕ) → m ≤ MOST_MACHINES → LiesWithin latest_deadline (pos m)
-count_within m l = (omega (arith, ints), omega (arith, ints, l))
+pub count_kept : (m : ℕ) → m ≤ MOST_MACHINES → held (pos m) ≡ pos m
+count_kept m l = kept MOST_MACHINES (pos m) (omega arith) (omega (arith, ints), omega (arith, ints, l))
 
 -- a date as 64 bits hold it
 pub date_kept : (d : ℤ) → LiesWithin (2 * GREATEST) d → to_z w64 (of_z w64 d) ≡ d
@@ -42,26 +40,23 @@ date_held d h = subst (LiesWithin (2 * GREATEST)) (sym (date_kept d h)) h
 -- the moment of a deadline
 module _ (x y z : ℤ) (m : ℕ) (d : ℤ) (e : x ≡ pos m) (f : y ≡ d) (few : m ≤ MOST_MACHINES) (date : LiesWithin (2 * GREATEST) d) (bound : LiesWithin greatest_bound z) where
   product : LiesWithin greatest_date (pos m *ℤ d)
-  product = product-small m d (2 * GREATEST) few date
+  product = product_within m d MOST_MACHINES (2 * GREATEST) greatest_date few date (omega arith)
 
   total_within : LiesWithin latest_deadline ((pos m *ℤ d) +ℤ z)
-  total_within = added (pos m *ℤ d) z product bound
-    where
-      added : (a b : ℤ) → LiesWithin greatest_date a → LiesWithin greatest_bound b → LiesWithin latest_deadline (a +ℤ b)
-      added a b h k = (omega (arith, ints, h.0, k.0), omega (arith, ints, h.1, k.1))
+  total_within = (+ℤ_mono product.0 bound.0, +ℤ_mono product.1 bound.1)
 
   factors : (held x *ℤ held y) ≡ (pos m *ℤ d)
-  factors = ap₂ (λ u v. u *ℤ v) (ap held e ∙ kept (pos m) (count_within m few)) (ap held f ∙ kept d (wider (2 * GREATEST) latest_deadline d (omega arith) date))
+  factors = ap₂ (λ u v. u *ℤ v) (ap held e ∙ count_kept m few) (ap held f ∙ kept (2 * GREATEST) d (omega arith) date)
 
   pub moment_is : (held (held x *ℤ held y) +ℤ held z) ≡ ((pos m *ℤ d) +ℤ z)
-  moment_is = ap₂ (λ u v. u +ℤ v) (ap held factors ∙ kept (pos m *ℤ d) (wider greatest_date latest_deadline (pos m *ℤ d) (omega arith) product))
-      (kept z (wider greatest_bound latest_deadline z (omega arith) bound))
+  moment_is = ap₂ (λ u v. u +ℤ v) (ap held factors ∙ kept greatest_date (pos m *ℤ d) (omega arith) product)
+      (kept greatest_bound z (omega arith) bound)
 
   pub moment_fits : FitsSigned w128 (held (held x *ℤ held y) +ℤ held z)
-  moment_fits = subst (FitsSigned w128) (sym moment_is) (fits ((pos m *ℤ d) +ℤ z) total_within)
+  moment_fits = subst (FitsSigned w128) (sym moment_is) (fits latest_deadline ((pos m *ℤ d) +ℤ z) (omega arith) total_within)
 
   pub moment_held : held (held (held x *ℤ held y) +ℤ held z) ≡ ((pos m *ℤ d) +ℤ z)
-  moment_held = ap held moment_is ∙ kept ((pos m *ℤ d) +ℤ z) total_within
+  moment_held = ap held moment_is ∙ kept latest_deadline ((pos m *ℤ d) +ℤ z) (omega arith) total_within
 
   pub moment_small : held (held (held x *ℤ held y) +ℤ held z) ≤ℤ pos latest_deadline
   moment_small = subst (λ v. v ≤ℤ pos latest_deadline) (sym moment_held) total_within.1
@@ -92,21 +87,22 @@ module _ (x t d : ℤ) (m time : ℕ) (due : ℤ) (e : x ≡ pos m) (f : t ≡ p
   lateness = (omega (arith, ints, short, date.1), omega (arith, ints, short, date.0))
 
   scaled : LiesWithin (MOST_MACHINES * greatest_lateness) (pos m *ℤ (pos time -ℤ due))
-  scaled = product-small m (pos time -ℤ due) greatest_lateness few lateness
+  scaled = product_within m (pos time -ℤ due) MOST_MACHINES greatest_lateness (MOST_MACHINES * greatest_lateness) few lateness (omega arith)
 
   less : (held t -ℤ held d) ≡ (pos time -ℤ due)
-  less = ap₂ (λ u v. u -ℤ v) (ap held f ∙ kept (pos time) (omega (arith, ints), omega (arith, ints, short))) (ap held g ∙ kept due (wider (2 * GREATEST) latest_deadline due (omega arith) date))
+  less = ap₂ (λ u v. u -ℤ v) (ap held f ∙ kept latest_deadline (pos time) (omega arith) (omega (arith, ints), omega (arith, ints, short)))
+      (ap held g ∙ kept (2 * GREATEST) due (omega arith) date)
 
   scaled_is : (held x *ℤ held (held t -ℤ held d)) ≡ (pos m *ℤ (pos time -ℤ due))
-  scaled_is = ap₂ (λ u v. u *ℤ v) (ap held e ∙ kept (pos m) (count_within m few))
-      (ap held less ∙ kept (pos time -ℤ due) (wider greatest_lateness latest_deadline (pos time -ℤ due) (omega arith) lateness))
+  scaled_is = ap₂ (λ u v. u *ℤ v) (ap held e ∙ count_kept m few)
+      (ap held less ∙ kept greatest_lateness (pos time -ℤ due) (omega arith) lateness)
 
   pub scaled_fits : FitsSigned w128 (held x *ℤ held (held t -ℤ held d))
   scaled_fits = subst (FitsSigned w128) (sym scaled_is)
-      (fits (pos m *ℤ (pos time -ℤ due)) (wider (MOST_MACHINES * greatest_lateness) latest_deadline (pos m *ℤ (pos time -ℤ due)) (omega arith) scaled))
+      (fits (MOST_MACHINES * greatest_lateness) (pos m *ℤ (pos time -ℤ due)) (omega arith) scaled)
 
   pub scaled_held : held (held x *ℤ held (held t -ℤ held d)) ≡ (pos m *ℤ (pos time -ℤ due))
-  scaled_held = ap held scaled_is ∙ kept (pos m *ℤ (pos time -ℤ due)) (wider (MOST_MACHINES * greatest_lateness) latest_deadline (pos m *ℤ (pos time -ℤ due)) (omega arith) scaled)
+  scaled_held = ap held scaled_is ∙ kept (MOST_MACHINES * greatest_lateness) (pos m *ℤ (pos time -ℤ due)) (omega arith) scaled
 
   pub scaled_small : LiesWithin greatest_bound (held (held x *ℤ held (held t -ℤ held d)))
-  scaled_small = subst (LiesWithin greatest_bound) (sym scaled_held) (wider (MOST_MACHINES * greatest_lateness) greatest_bound (pos m *ℤ (pos time -ℤ due)) (omega arith) scaled)
+  scaled_small = subst (LiesWithin greatest_bound) (sym scaled_held) (omega (arith, ints, scaled.0), omega (arith, ints, scaled.1))

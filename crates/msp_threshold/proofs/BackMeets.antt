@@ -1,20 +1,19 @@
 -- The law of squeezing, the other way: a schedule of the squeezed instance in which no job is late, brought back to the kept moments, is
 -- feasible and meets the bound.
-use Rattle.std.proofs.Common.{◌≡◌, ℕ, ◌+◌, ◌*◌, ◌<◌, ◌≤◌, inl, inr, cond, eqb, List, [], ◌∷◌, length, get_or, map, count_by, All, AllPairs, ℤ, pos, nat_abs, ◌+ℤ◌, ◌-ℤ◌, ◌*ℤ◌, ◌≤ℤ◌}
+use Rattle.std.proofs.Common.{◌≡◌, ℕ, ◌+◌, ◌*◌, ◌<◌, ◌≤◌, inl, inr, cond, eqb, List, [], ◌∷◌, length, get_or, map, count_by, All, AllPairs, ℤ, pos, nat_abs, ◌+ℤ◌, ◌*ℤ◌, ◌≤ℤ◌, add-le-add, le_refl}
 use Rattle.std.proofs.Common.{◌<ℤ◌, refl, sym, ap, ap₂, subst, subst₂, ◌∙◌, arith}
 use Rattle.std.specs.Prelude.{int_le}
 use Rattle.std.proofs.lemmas.Int.{ints}
 use Rattle.std.proofs.lemmas.Simd.{map-map}
 use Rattle.std.proofs.lemmas.List.{length-map, get_or-map, get_or_default}
 use Rattle.std.proofs.lemmas.List.Elements.{All-map}
-use Rattle.std.proofs.lemmas.List.Sums.{length-filter}
-use Rattle.msp_class.specs.declared.sizes.TheConstants.{GREATEST}
+use Rattle.std.proofs.lemmas.List.Sums.{length-filter, count_by-le-length}
 use native.Mathlib.Nat.{le_of_mul-le-mul_left, lt_of_mul-lt-mul_left}
 use Rattle.msp_class.specs.Env.{kind_of}
 use Rattle.msp_class.proofs.IntegerRing.{natural, pos-le, le-pos, pos-lt, zero-le-pos, one-*ℤ, +ℤ_idr, ≤ℤ_trans}
 use Rattle.msp_class.proofs.Sums.{OnceBelow, sum_by-map}
 use Rattle.msp_instance.specs.declared.Instance.{Instance}
-use Rattle.msp_instance.specs.Instance.{no_job, job_at, need_at}
+use Rattle.msp_instance.specs.Instance.{no_job, job_at}
 use Rattle.msp_instance.specs.Conditions.{LiesWithin}
 use Rattle.msp_pieces.specs.declared.Piece.{Piece}
 use Rattle.msp_pieces.specs.declared.Schedule.{Schedule}
@@ -33,7 +32,7 @@ use Rattle.msp_route.specs.declared.bounds.TheConstants.{GREATEST_ANSWER_MOMENT}
 use Rattle.msp_slots.proofs.UnitPieces.{HasUnitJobs}
 use Rattle.msp_threshold.specs.Squeezed.{greatest_bound, AreKept, HasTime, squeezed_due, squeezed_by, CanMeet, CanBeFree}
 use Rattle.msp_threshold.specs.Search.{number_of, piece_back, pieces_back}
-use Rattle.msp_threshold.proofs.Rising.{count_by-most, released_there, in_time_there}
+use Rattle.msp_threshold.proofs.Rising.{released_there, in_time_there}
 use Rattle.msp_threshold.proofs.Meeting.{moments_of}
 use Rattle.msp_threshold.proofs.Facts.{IsLatenessShop, unit_jobs, due_small, many, lower_release, lower_due, lower_units}
 
@@ -106,14 +105,13 @@ module _ (i : Instance) (t : IsLatenessShop i) (kept : List ℕ) (k : AreKept i 
           in_due = (free_jobs lower s refl f.unit).0 free p.job place.job
 
           early : q < squeezed_due kept date
-          early = lt_of_mul-lt-mul_left unit (less unit q (squeezed_due kept date) some_unit (le-pos (subst₂ (λ x y. x ≤ℤ y) (ap (λ u. (u *ℤ pos q) +ℤ u) unit_is)
-              (ap₂ (λ u d. u *ℤ d) unit_is (+ℤ_idr (job_at lower p.job).due ∙ lower_due i t kept bound p.job inside_job)) (≤ℤ_trans end (≤ℤ_trans (no_later p.job) in_due)))))
-            where
-              less : (u a d : ℕ) → 1 ≤ u → u * a + u ≤ u * d → u * a < u * d
-              less u a d some h = omega (arith, h, some)
+          early =
+              let reached = le-pos (subst₂ (λ x y. x ≤ℤ y) (ap (λ u. (u *ℤ pos q) +ℤ u) unit_is) (ap₂ (λ u d. u *ℤ d) unit_is
+              (+ℤ_idr (job_at lower p.job).due ∙ lower_due i t kept bound p.job inside_job)) (≤ℤ_trans end (≤ℤ_trans (no_later p.job) in_due))) in
+              lt_of_mul-lt-mul_left unit (omega (arith, some_unit, reached))
 
           inside : q < length kept
-          inside = omega (arith, early, count_by-most (λ x. int_le (pos (x + 1)) date) kept)
+          inside = omega (arith, early, count_by-le-length (λ x. int_le (pos (x + 1)) date) kept)
 
   -- ---- the pieces brought back
   abbrev move : Piece → Piece
@@ -149,11 +147,8 @@ module _ (i : Instance) (t : IsLatenessShop i) (kept : List ℕ) (k : AreKept i 
       before p q on h = pos-le (omega (
         arith,
         k.rising (number_of s.unit p) (number_of s.unit q) 0 (lt_of_mul-lt-mul_left unit
-            (less unit (number_of s.unit p) (number_of s.unit q) some_unit (le-pos (subst (λ u. ((u *ℤ pos (number_of s.unit p)) +ℤ u) ≤ℤ (u *ℤ pos (number_of s.unit q))) unit_is h)))) on.inside,
+            (omega (arith, some_unit, le-pos (subst (λ u. ((u *ℤ pos (number_of s.unit p)) +ℤ u) ≤ℤ (u *ℤ pos (number_of s.unit q))) unit_is h)))) on.inside,
       ))
-        where
-          less : (u a b : ℕ) → 1 ≤ u → u * a + u ≤ u * b → u * a < u * b
-          less u a b some h = omega (arith, h, some)
 
       by : (p q : Piece) → IsInSlot p → IsInSlot q → IsApart (floored_piece s.unit p) (floored_piece s.unit q) → IsApart (move p) (move q)
       by p q on at (inl h) = inl (before p q at h)
@@ -165,30 +160,18 @@ module _ (i : Instance) (t : IsLatenessShop i) (kept : List ℕ) (k : AreKept i 
     jobs = subst (OnceBelow n) (sym (map-map (λ p. p.job) move s.pieces)) jobs;
     ops = All-map (λ p. p.op ≡ 0) move s.pieces (λ m d l. refl);
     inside = All-map (λ p. p.machine < i.machines) move s.pieces (λ m d l. (in_slot m d l).machine);
-    span = All-map (λ p. (pos 0 ≤ℤ p.from) × (p.from <ℤ p.to)) move s.pieces (λ m d l. lasts (get_or kept (number_of s.unit (get_or s.pieces m d)) 0));
+    span = All-map (λ p. (pos 0 ≤ℤ p.from) × (p.from <ℤ p.to)) move s.pieces (λ m d l. (zero-le-pos _, pos-lt (omega arith)));
     apart = apart;
     released = All-map (λ p. (pos 1 *ℤ pos (job_at i p.job).release) ≤ℤ p.from) move s.pieces
-        (λ m d l. head (job_at i (get_or s.pieces m d).job).release (get_or kept (number_of s.unit (get_or s.pieces m d)) 0) (in_slot m d l).released);
+        (λ m d l. omega (arith, ints, (in_slot m d l).released));
     forward = ordered_without_arcs i.arcs back t.arcs;
     whole = All-map (IsWholeWork (kind_of i.class.env) i (pos 1)) move s.pieces (λ m d l.
         let p = get_or s.pieces m d in
-        subst (λ e. IsWholeWork e i (pos 1) (move p)) (sym t.kind) (unit_work (get_or kept (number_of s.unit p) 0) (need_at i p.job 0).time ((unit_jobs i t).ones p.job (in_slot m d l).job)));
+        subst (λ e. IsWholeWork e i (pos 1) (move p)) (sym t.kind) (omega (arith, ints, (unit_jobs i t).ones p.job (in_slot m d l).job)));
     ends = All-map (λ p. p.to ≤ℤ GREATEST_ANSWER_MOMENT) move s.pieces (λ m d l.
         let p = get_or s.pieces m d in
-        early (pos (get_or kept (number_of s.unit p) 0 + 1)) (job_at i p.job).due (in_slot m d l).in_time (due_small i t p.job no_job (in_slot m d l).job));
+        omega (arith, ints, (in_slot m d l).in_time, (due_small i t p.job no_job (in_slot m d l).job).1, small.1));
   }
-    where
-      lasts : (x : ℕ) → (pos 0 ≤ℤ pos x) × (pos x <ℤ pos (x + 1))
-      lasts x = (zero-le-pos x, pos-lt (omega arith))
-
-      head : (r x : ℕ) → r ≤ x → (pos 1 *ℤ pos r) ≤ℤ pos x
-      head r x e = omega (arith, ints, e)
-
-      unit_work : (x time : ℕ) → time ≡ 1 → (pos (x + 1) -ℤ pos x) ≡ pos 1 *ℤ pos time
-      unit_work x time e = omega (arith, ints, e)
-
-      early : (x d : ℤ) → x ≤ℤ (d +ℤ bound) → LiesWithin (2 * GREATEST) d → x ≤ℤ GREATEST_ANSWER_MOMENT
-      early x d h w = omega (arith, ints, h, w.1, small.1)
 
   abbrev schedule : Schedule
   schedule = record { unit = pos 1; pieces = back }
@@ -200,15 +183,12 @@ module _ (i : Instance) (t : IsLatenessShop i) (kept : List ℕ) (k : AreKept i 
   back_feasible = one_each_is_feasible i uncut 1 back back_each
 
   ends_in_time : (j : ℕ) → j < n → EndsInTime i bound schedule j
-  ends_in_time j l = last_end-least back j (pos 1 *ℤ date) (subst (λ x. pos 0 ≤ℤ x) (sym (one-*ℤ date)) (some (job_at i j).release date (possible j no_job l)))
+  ends_in_time j l = last_end-least back j (pos 1 *ℤ date) (subst (λ x. pos 0 ≤ℤ x) (sym (one-*ℤ date)) (≤ℤ_trans (zero-le-pos ((job_at i j).release + 1)) (possible j no_job l)))
       (All-map (λ p. p.job ≡ j → p.to ≤ℤ (pos 1 *ℤ date)) move s.pieces
       (λ m d b e. subst (λ x. pos (get_or kept (number_of s.unit (get_or s.pieces m d)) 0 + 1) ≤ℤ x) (ap (λ a. (job_at i a).due +ℤ bound) e ∙ sym (one-*ℤ date)) (in_slot m d b).in_time))
     where
       date : ℤ
       date = (job_at i j).due +ℤ bound
-
-      some : (r : ℕ) (d : ℤ) → pos (r + 1) ≤ℤ d → pos 0 ≤ℤ d
-      some r d h = ≤ℤ_trans (zero-le-pos (r + 1)) h
 
   pub back_meets : cost_of i (record { unit = pos 1; pieces = back }) ≤ℤ (bound *ℤ pos 1)
   back_meets = (meets_jobs i bound schedule t.crit t.some).1 ends_in_time
@@ -225,7 +205,4 @@ met_if_free i t kept k bound small possible (s, f, free) =
 -- a bound that can be met leaves each job time
 pub time_if_met : (i : Instance) → IsLatenessShop i → (bound : ℤ) → CanMeet i bound → All (HasTime bound) i.jobs
 time_if_met i t bound met j d l = let m = moments_of i t bound met in
-    subst (HasTime bound) (get_or_default i.jobs j no_job d l) (≤ℤ_trans (pos-le (more (job_at i j).release (m.begin j) (m.seated.released j l))) (m.in_time j l))
-  where
-    more : (a b : ℕ) → a ≤ b → a + 1 ≤ b + 1
-    more a b h = omega (arith, h)
+    subst (HasTime bound) (get_or_default i.jobs j no_job d l) (≤ℤ_trans (pos-le (add-le-add (m.seated.released j l) (le_refl 1))) (m.in_time j l))

@@ -1,5 +1,5 @@
 -- The range of bounds in which the least one lies, and the least bound as a cost.
-use Rattle.std.proofs.Common.{◌≡◌, ℕ, ◌+◌, ◌*◌, ◌<◌, ◌≤◌, inl, inr, List, [], ◌∷◌, ◌++◌, Option, Some, length, get_or, take, All, ℤ, pos, nat_abs, ◌+ℤ◌, ◌-ℤ◌, ◌*ℤ◌, ◌≤ℤ◌, ◌<ℤ◌}
+use Rattle.std.proofs.Common.{◌≡◌, ℕ, ◌+◌, ◌*◌, ◌<◌, ◌≤◌, inl, inr, List, [], ◌∷◌, ◌++◌, Option, Some, length, get_or, take, All, ℤ, pos, nat_abs, ◌-ℤ◌, ◌*ℤ◌, ◌≤ℤ◌}
 use Rattle.std.proofs.Common.{FitsSigned, to_z, of_z, refl, sym, ap, ap₂, subst, subst₂, ◌∙◌, arith}
 use Rattle.std.specs.Prelude.{◌↔◌, IsTrue, MatchOption, nat_eq}
 use Rattle.std.specs.Int.{int_max, w64, w128}
@@ -33,28 +33,19 @@ use Rattle.msp_threshold.proofs.Law.{free_if_met}
 use Rattle.msp_threshold.proofs.BackMeets.{back_each, back_feasible, back_meets, back_inside, time_if_met}
 
 -- ---- the least bound for which each job has time
-has_time-least : (bound : ℤ) (j : Job) → HasTime bound j ↔ ((pos (j.release + 1) -ℤ j.due) ≤ℤ bound)
-has_time-least bound j = ((λ h. omega (arith, ints, h)), (λ h. omega (arith, ints, h)))
-
 pub has_time-more : (a b : ℤ) (jobs : List Job) → a ≤ℤ b → All (HasTime a) jobs → All (HasTime b) jobs
-has_time-more a b jobs h t k d l = more (pos ((get_or jobs k d).release + 1)) (get_or jobs k d).due (t k d l)
-  where
-    more : (x d : ℤ) → x ≤ℤ (d +ℤ a) → x ≤ℤ (d +ℤ b)
-    more x d g = omega (arith, ints, g, h)
+has_time-more a b jobs h t k d l = omega (arith, ints, t k d l, h)
 
 pub has_time-here : (bound x : ℤ) (j : Job) → x ≡ pos (j.release + 1) -ℤ j.due → x ≤ℤ bound → HasTime bound j
-has_time-here bound x j e h = (has_time-least bound j).1 (subst (λ y. y ≤ℤ bound) e h)
+has_time-here bound x j e h = omega (arith, ints, e, h)
 
 pub has_time-there : (bound x : ℤ) (j : Job) → x ≡ pos (j.release + 1) -ℤ j.due → HasTime bound j → x ≤ℤ bound
-has_time-there bound x j e h = subst (λ y. y ≤ℤ bound) (sym e) ((has_time-least bound j).0 h)
+has_time-there bound x j e h = omega (arith, ints, e, h)
 
 pub record IsLowestSoFar (jobs : List Job) (k : ℕ) (lowest : ℤ) : Type 0 where
   pub time : All (HasTime lowest) (take k jobs)
   pub least : (bound : ℤ) → All (HasTime bound) jobs → lowest ≤ℤ bound
   pub size : LiesWithin (4 * GREATEST + 1) lowest
-
-lateness_small : (x d : ℤ) (r : ℕ) → x ≡ pos (r + 1) -ℤ d → r ≤ 2 * GREATEST → LiesWithin (2 * GREATEST) d → LiesWithin (4 * GREATEST + 1) x
-lateness_small x d r e h w = (omega (arith, ints, e, h, w.1), omega (arith, ints, e, h, w.0))
 
 module _ (jobs : List Job) (released : All (λ j. j.release ≤ 2 * GREATEST) jobs) (dues : All (λ j. LiesWithin (2 * GREATEST) j.due) jobs)
     (k : ℕ) (j : Job) (x : ℤ) (inside : k < length jobs) (at : j ≡ get_or jobs k j) (e : x ≡ pos (j.release + 1) -ℤ j.due) where
@@ -62,7 +53,8 @@ module _ (jobs : List Job) (released : All (λ j. j.release ≤ 2 * GREATEST) jo
   here P h = subst P (sym at) (h k j inside)
 
   small : LiesWithin (4 * GREATEST + 1) x
-  small = lateness_small x j.due j.release e (here (λ j. j.release ≤ 2 * GREATEST) released) (here (λ j. LiesWithin (2 * GREATEST) j.due) dues)
+  small = let r = here (λ j. j.release ≤ 2 * GREATEST) released in let w = here (λ j. LiesWithin (2 * GREATEST) j.due) dues in
+      (omega (arith, ints, e, r, w.1), omega (arith, ints, e, r, w.0))
 
   is : to_z w64 (of_z w64 x) ≡ x
   is = to_z-of_z w64 x (fits (4 * GREATEST + 1) x (omega arith) small)
@@ -121,11 +113,9 @@ module _ (i : Instance) (t : IsLatenessShop i) where
         no_less : (u : Schedule) → Feasible i u → (bound *ℤ u.unit) ≤ℤ cost_of i u
         no_less u g = elim (≤ℤ_total (bound *ℤ u.unit) (cost_of i u)) [
           | inl more ↦ more
-          | inr less ↦ absurd (never bound (least.least (bound -ℤ pos 1) (meets_moments i t k.heads k.slots k.all k.filled (bound -ℤ pos 1) (moments_below i t bound u g less))))
+          | inr less ↦ absurd
+              (omega (arith, ints, least.least (bound -ℤ pos 1) (meets_moments i t k.heads k.slots k.all k.filled (bound -ℤ pos 1) (moments_below i t bound u g less))))
         ]
-          where
-            never : (b : ℤ) → b ≤ℤ (b -ℤ pos 1) → ⊥
-            never b h = omega (arith, ints, h)
 
 -- ---- late jobs
 module _ (j : Instance) (crit : j.class.crit ≡ SumU) (s : Schedule) (best : Best j s) where
@@ -136,11 +126,8 @@ module _ (j : Instance) (crit : j.class.crit ≡ SumU) (s : Schedule) (best : Be
   no_less = subst (λ x. pos 0 ≤ℤ x) (sym (late_cost j s (nat_abs s.unit) crit unit_is)) (zero-le-pos (nat_abs s.unit * late_jobs j s))
 
   pub best_is_free : CanBeFree j → cost_of j s ≡ pos 0
-  best_is_free (u, f, e) = ≤ℤ_antisym
-      (*ℤ-cancel_pos u.unit (positive u.unit f.unit) (subst₂ (λ x y. x ≤ℤ y) (*ℤ_comm (cost_of j s) u.unit) (ap (λ c. c *ℤ s.unit) e ∙ zero-*ℤ s.unit ∙ sym (*ℤ-zero u.unit)) (best.least u f))) no_less
-    where
-      positive : (x : ℤ) → pos 1 ≤ℤ x → pos 0 <ℤ x
-      positive x h = omega (arith, ints, h)
+  best_is_free (u, f, e) = ≤ℤ_antisym (*ℤ-cancel_pos u.unit (omega (arith, ints, f.unit))
+      (subst₂ (λ x y. x ≤ℤ y) (*ℤ_comm (cost_of j s) u.unit) (ap (λ c. c *ℤ s.unit) e ∙ zero-*ℤ s.unit ∙ sym (*ℤ-zero u.unit)) (best.least u f))) no_less
 
   pub free_by_cost : (cost : Frac) → IsOver cost (cost_of j s) s.unit → (cost.num ≡ pos 0) ↔ CanBeFree j
   free_by_cost cost over = (

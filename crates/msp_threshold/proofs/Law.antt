@@ -1,5 +1,5 @@
 -- The law of squeezing, one way: where the bound can be met, the squeezed instance can be free of late jobs.
-use Rattle.std.proofs.Common.{◌≡◌, ℕ, ◌+◌, ◌*◌, ◌<◌, ◌≤◌, ◌≢◌, List, length, get_or, map, AllPairs, Contains, ℤ, pos, ◌+ℤ◌, ◌≤ℤ◌, refl, sym, ap, subst₂, ◌∙◌, arith}
+use Rattle.std.proofs.Common.{◌≡◌, ℕ, ◌+◌, ◌*◌, ◌<◌, ◌≤◌, ◌≢◌, List, length, get_or, map, AllPairs, Contains, ℤ, pos, ◌+ℤ◌, ◌≤ℤ◌, refl, sym, ap, subst₂, ◌∙◌, arith, add-le-add, le_refl, subst}
 use Rattle.std.specs.List.{range_with_len}
 use Rattle.std.proofs.lemmas.List.{length-map, get_or-map, get_or_default}
 use Rattle.msp_class.specs.declared.sizes.TheConstants.{GREATEST, MOST_JOBS}
@@ -8,7 +8,7 @@ use Rattle.msp_instance.specs.declared.Instance.{Instance}
 use Rattle.msp_instance.specs.Instance.{job_at}
 use Rattle.msp_pieces.specs.declared.Schedule.{Schedule}
 use Rattle.msp_pieces.proofs.costs.InTime.{EndsInTime, free_jobs}
-use Rattle.msp_pieces.proofs.bounds.Certified.{place_in, place_in-is}
+use Rattle.msp_pieces.proofs.bounds.Certified.{place_in}
 use Rattle.msp_slots.specs.Earliest.{no_slot, start_in, machine_in}
 use Rattle.msp_slots.proofs.Seats.{HasSeats}
 use Rattle.msp_slots.proofs.Begins.{head_at}
@@ -16,7 +16,7 @@ use Rattle.msp_slots.proofs.UnitPieces.{AreUnitPieces, pieces_at, AreUnitPieces-
 use Rattle.msp_slots.proofs.SlotPlaces.{heads_many, slot_inside, same_slot, seats_in}
 use Rattle.msp_threshold.specs.Squeezed.{AreKept, squeezed_by, CanMeet, CanBeFree}
 use Rattle.msp_threshold.proofs.Rising.{no_less, released_here, in_time_here}
-use Rattle.msp_threshold.proofs.Facts.{IsLatenessShop, many, lower_release, lower_due, lower_units}
+use Rattle.msp_threshold.proofs.Facts.{IsLatenessShop, many, lower_release, lower_due, lower_units, IsAt, IsAt-from}
 use Rattle.msp_threshold.proofs.Meeting.{HasMoments, moments_of}
 
 module _ (i : Instance) (t : IsLatenessShop i) (kept : List ℕ) (k : AreKept i kept) where
@@ -36,24 +36,14 @@ module _ (i : Instance) (t : IsLatenessShop i) (kept : List ℕ) (k : AreKept i 
   distinct : AllPairs (λ x y. x ≢ y) kept
   distinct a b d l m e = absurd (omega (arith, k.rising a b d l m, e))
 
-  record IsNumber (s : ℕ) : Type 0 where
-    inside : number s < length kept
-    is : get_or kept (number s) 0 ≡ start s
-
-  numbered : (s : ℕ) → s < n → IsNumber s
+  numbered : (s : ℕ) → s < n → IsAt kept (start s)
   numbered s l =
       let many_slots : s < length k.slots = omega (arith, l, k.filled.count, heads) in
       let begins = map (λ x. x.start) k.slots in
       let at : get_or begins s 0 ≡ start s = get_or-map (λ x. x.start) k.slots s no_slot 0 many_slots in
       let c : Contains begins (start s) =
       (s, omega (arith, many_slots, length-map k.slots (λ x. x.start)), get_or_default begins s (start s) 0 (omega (arith, many_slots, length-map k.slots (λ x. x.start))) ∙ at) in
-      by ((k.each (start s)).1 c)
-    where
-      by : Contains kept (start s) → IsNumber s
-      by (p, b, e) =
-          let here : get_or kept p 0 ≡ start s = get_or_default kept p 0 (start s) b ∙ e in
-          let same : number s ≡ p = ap (place_in kept) (sym here) ∙ place_in-is kept p distinct b in
-          record { inside = omega (arith, same, b); is = ap (λ x. get_or kept x 0) same ∙ here }
+      IsAt-from kept (start s) distinct ((k.each (start s)).1 c)
 
   module _ (bound : ℤ) (m : HasMoments i t bound) (seat : ℕ → ℕ) (h : HasSeats n (head_at i) m.begin start seat) where
     abbrev lower : Instance
@@ -101,12 +91,9 @@ module _ (i : Instance) (t : IsLatenessShop i) (kept : List ℕ) (k : AreKept i 
         ends j l =
             let b = numbered (seat j) (h.inside j l) in
             let date = (job_at i j).due +ℤ bound in
-            let late = in_time_here kept k.rising (begin j) b.inside date (≤ℤ_trans (pos-le (later (get_or kept (begin j) 0) (m.begin j) (omega (arith, b.is, h.early j l)))) (m.in_time j l)) in
+            let late = in_time_here kept k.rising (begin j) b.inside date (≤ℤ_trans (pos-le (add-le-add (subst (λ x. x ≤ m.begin j) (sym b.is) (h.early j l)) (le_refl 1))) (m.in_time j l)) in
             subst₂ (λ x y. x ≤ℤ y) (sym (units.runs.ends j (omega (arith, l, many i t kept bound))))
             (sym (one-*ℤ ((job_at lower j).due +ℤ pos 0) ∙ +ℤ_idr (job_at lower j).due ∙ lower_due i t kept bound j l)) (pos-le (omega (arith, late)))
-          where
-            later : (a b : ℕ) → a ≤ b → a + 1 ≤ b + 1
-            later a b h = omega (arith, h)
 
 pub free_if_met : (i : Instance) → IsLatenessShop i → (kept : List ℕ) → AreKept i kept → (bound : ℤ) → CanMeet i bound → CanBeFree (squeezed_by kept bound i)
 free_if_met i t kept k bound met =

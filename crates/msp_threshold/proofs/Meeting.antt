@@ -1,6 +1,6 @@
 -- When a bound on the greatest lateness can be met: exactly where jobs can begin at whole moments, no more at a time than there are machines,
 -- so that each ends in time.
-use Rattle.std.proofs.Common.{◌≡◌, ℕ, ◌+◌, ◌<◌, ◌≤◌, List, length, map, IsPermutation, ℤ, pos, nat_abs, ◌+ℤ◌, ◌-ℤ◌, ◌*ℤ◌, ◌≤ℤ◌, ◌<ℤ◌, sym, ap, subst, subst₂, arith}
+use Rattle.std.proofs.Common.{◌≡◌, ℕ, ◌+◌, ◌<◌, ◌≤◌, List, length, map, IsPermutation, ℤ, pos, nat_abs, ◌+ℤ◌, ◌-ℤ◌, ◌*ℤ◌, ◌≤ℤ◌, ◌<ℤ◌, sym, ap, subst, subst₂, arith, add-le-add, le_refl}
 use Rattle.std.specs.List.{range_with_len}
 use Rattle.std.proofs.lemmas.Int.{ints}
 use Rattle.msp_class.specs.Crit.{is_greatest}
@@ -102,7 +102,4 @@ module _ (i : Instance) (t : IsLatenessShop i) where
   meets_moments heads slots all filled bound m =
       let (seat, h) = seats_in i heads slots all filled m.begin m.seated in
       meets_seats heads slots filled (heads_many i heads all)
-      bound seat h.inside h.once h.released (λ j l. ≤ℤ_trans (pos-le (later (start_in slots (seat j)) (m.begin j) (h.early j l))) (m.in_time j l))
-    where
-      later : (a b : ℕ) → a ≤ b → a + 1 ≤ b + 1
-      later a b h = omega (arith, h)
+      bound seat h.inside h.once h.released (λ j l. ≤ℤ_trans (pos-le (add-le-add (h.early j l) (le_refl 1))) (m.in_time j l))

@@ -1,13 +1,11 @@
 -- Counting in a rising list: the numbers that pass a test which all lesser ones pass stand first. And what the squeezed dates say of the
 -- kept moments.
-use Rattle.std.proofs.Common.{◌≡◌, ℕ, zero, suc, ◌+◌, ◌<◌, ◌≤◌, Bool, true, false, cond, ltb, List, [], ◌∷◌, length, get_or, count_by, All, AllPairs, inl, inr, ℤ, pos, ◌≤ℤ◌, refl, sym, ap, ◌∙◌, arith}
+use Rattle.std.proofs.Common.{◌≡◌, ℕ, zero, suc, ◌+◌, ◌<◌, ◌≤◌, Bool, true, false, cond, ltb, List, [], ◌∷◌, length, get_or, count_by, All, AllPairs, inl, inr, ℤ, pos, ◌≤ℤ◌, sym, ap, ◌∙◌, arith}
 use Rattle.std.specs.Prelude.{int_le}
-use Rattle.std.proofs.lemmas.Bool.{cases_lt, lt-ltb, le-ltb, ltb-true, false≢true}
+use Rattle.std.proofs.lemmas.Bool.{cases_lt, lt-ltb, le-ltb, ltb-true, false≢true, true_from_ne_false, false_from_ne_true, cases_Bool}
 use Rattle.std.proofs.lemmas.Int.{ints}
-use Rattle.std.proofs.lemmas.List.Elements.{All-head, All-tail}
 use Rattle.std.proofs.lemmas.List.Sums.{sum_by-cons}
-use Rattle.msp_class.proofs.Sums.{cond-le, AllPairs-head, AllPairs-tail}
-use Rattle.msp_class.proofs.IntegerRing.{≤ℤ_trans, pos-le}
+use Rattle.msp_class.proofs.Sums.{cond-le, AllPairs-head, AllPairs-tail, sum_by-none}
 use Rattle.msp_threshold.specs.Squeezed.{squeezed_release, squeezed_due}
 
 abbrev Rising : List ℕ → Type 0
@@ -18,12 +16,8 @@ module _ (p : ℕ → Bool) (down : (x y : ℕ) → x < y → p y ≡ true → p
   one x = cond (p x) 1 0
 
   none_pass : (x : ℕ) (xs : List ℕ) → All (λ y. x < y) xs → p x ≡ false → count_by p xs ≡ 0
-  none_pass x [] h e = refl
-  none_pass x (y ∷ ys) h e = by (p y) refl (none_pass x ys (All-tail (λ y. x < y) y ys h) e)
-    where
-      by : (b : Bool) → p y ≡ b → count_by p ys ≡ 0 → count_by p (y ∷ ys) ≡ 0
-      by true f none = absurd (false≢true (sym e ∙ down x y (All-head (λ y. x < y) y ys h) f))
-      by false f none = omega (arith, sum_by-cons one y ys, ap {B = ℕ} (λ b. cond b 1 0) f, none)
+  none_pass x xs h e = sum_by-none one xs
+      (λ k d l. ap {B = ℕ} (λ b. cond b 1 0) (false_from_ne_true (p (get_or xs k d)) (λ f. false≢true (sym e ∙ down x (get_or xs k d) (h k d l) f))))
 
   pub passes : (xs : List ℕ) → Rising xs → (k : ℕ) → k < length xs → p (get_or xs k 0) ≡ true → k < count_by p xs
   passes [] r k l e = absurd (omega (arith, l))
@@ -39,10 +33,6 @@ module _ (p : ℕ → Bool) (down : (x y : ℕ) → x < y → p y ≡ true → p
       let b : k < length xs = omega (arith, l) in
       omega (arith, sum_by-cons one x xs, cond-le (p x) 1, fails xs (AllPairs-tail (λ x y. x < y) x xs r) k b e)
 
-pub count_by-most : (p : ℕ → Bool) (xs : List ℕ) → count_by p xs ≤ length xs
-count_by-most p [] = omega arith
-count_by-most p (x ∷ xs) = omega (arith, sum_by-cons (λ x. cond (p x) 1 0) x xs, cond-le (p x) 1, count_by-most p xs)
-
 -- each number is at least its place
 pub no_less : (xs : List ℕ) → Rising xs → (k : ℕ) → k < length xs → k ≤ get_or xs k 0
 no_less xs r zero l = omega arith
@@ -53,17 +43,10 @@ before_down : (r x y : ℕ) → x < y → ltb y r ≡ true → ltb x r ≡ true
 before_down r x y h e = let less = ltb-true y r e in lt-ltb x r (omega (arith, h, less))
 
 int_le-true : (a b : ℤ) → a ≤ℤ b → int_le a b ≡ true
-int_le-true a b h = by (int_le a b) refl
-  where
-    by : (t : Bool) → int_le a b ≡ t → int_le a b ≡ true
-    by true e = e
-    by false e = absurd (omega (arith, ints, h, e))
-
-true-int_le : (a b : ℤ) → int_le a b ≡ true → a ≤ℤ b
-true-int_le a b e = omega (arith, ints, e)
+int_le-true a b h = true_from_ne_false (int_le a b) (λ e. omega (arith, ints, h, e))
 
 until_down : (d : ℤ) (x y : ℕ) → x < y → int_le (pos (y + 1)) d ≡ true → int_le (pos (x + 1)) d ≡ true
-until_down d x y h e = int_le-true (pos (x + 1)) d (≤ℤ_trans (pos-le (omega (arith, h))) (true-int_le (pos (y + 1)) d e))
+until_down d x y h e = int_le-true (pos (x + 1)) d (omega (arith, ints, h, e))
 
 module _ (kept : List ℕ) (rising : Rising kept) (k : ℕ) (l : k < length kept) where
   abbrev x : ℕ
@@ -79,11 +62,10 @@ module _ (kept : List ℕ) (rising : Rising kept) (k : ℕ) (l : k < length kept
   released_here r h = fails (λ y. ltb y r) (before_down r) kept rising k l (le-ltb x r h)
 
   pub in_time_there : (date : ℤ) → k < squeezed_due kept date → pos (x + 1) ≤ℤ date
-  in_time_there date h = by (int_le (pos (x + 1)) date) refl
-    where
-      by : (b : Bool) → int_le (pos (x + 1)) date ≡ b → pos (x + 1) ≤ℤ date
-      by true e = true-int_le (pos (x + 1)) date e
-      by false e = absurd (omega (arith, h, fails (λ y. int_le (pos (y + 1)) date) (until_down date) kept rising k l e))
+  in_time_there date h = elim (cases_Bool (int_le (pos (x + 1)) date)) [
+    | inl e ↦ omega (arith, ints, e)
+    | inr e ↦ absurd (omega (arith, h, fails (λ y. int_le (pos (y + 1)) date) (until_down date) kept rising k l e))
+  ]
 
   pub in_time_here : (date : ℤ) → pos (x + 1) ≤ℤ date → k < squeezed_due kept date
   in_time_here date h = passes (λ y. int_le (pos (y + 1)) date) (until_down date) kept rising k l (int_le-true (pos (x + 1)) date h)

@@ -1,25 +1,27 @@
 -- Jobs in the slots of the earliest schedule: in order of their release dates at first, then as they change places, and the bound that they
 -- meet.
-use Rattle.std.proofs.Common.{◌≡◌, ℕ, ◌+◌, ◌<◌, ◌≤◌, ◌⊎◌, inl, inr, List, ◌++◌, length, take, drop, get_or, map, All, AllPairs, Contains, IsPermutation, ℤ, pos, ◌+ℤ◌}
+use Rattle.std.proofs.Common.{◌≡◌, ℕ, ◌+◌, ◌<◌, ◌≤◌, ◌⊎◌, inl, inr, List, ◌++◌, length, take, drop, get_or, map, All, AllPairs, IsPermutation, ℤ, pos, ◌+ℤ◌}
 use Rattle.std.proofs.Common.{◌≤ℤ◌, sym, ap, subst, ◌∙◌, arith}
 use Rattle.std.specs.List.{range_with_len, SwappedAt}
 use Rattle.std.specs.List.Sorted.{IsNonDecreasing}
 use Rattle.std.proofs.Math.Seq.{take-append_seam}
 use Rattle.std.proofs.lemmas.Bool.{cases_lt}
-use Rattle.std.proofs.lemmas.List.{length-map, get_or-map, get_or_default, ext_get_or}
+use Rattle.std.proofs.lemmas.List.{length-map, get_or-map, ext_get_or}
 use Rattle.std.proofs.lemmas.List.FromFn.{get_or-map-range_with_len, length-map-range_with_len}
 use Rattle.std.proofs.lemmas.List.Sorted.{IsPermutation-map, IsPermutation-trans}
 use Rattle.msp_class.proofs.Sums.{OnceBelow, OnceBelow-from_permutation, OnceBelow-contains, OnceBelow-distinct, length-OnceBelow}
+use Rattle.msp_class.proofs.Cases.{same_or_not}
 use Rattle.msp_instance.specs.declared.Job.{Job}
 use Rattle.msp_instance.specs.declared.Instance.{Instance}
 use Rattle.msp_instance.specs.Instance.{no_job}
-use Rattle.msp_pieces.proofs.bounds.Certified.{place_in, place_in-is}
+use Rattle.msp_pieces.proofs.bounds.Certified.{place_in}
 use Rattle.msp_slots.specs.declared.earliest.Slot.{Slot}
 use Rattle.msp_slots.specs.Earliest.{start_in, AreSlots}
 use Rattle.msp_threshold.specs.Squeezed.{CanMeet}
 use Rattle.msp_threshold.specs.Search.{job_in, IsReleased, AreReleased, AreInSlots}
-use Rattle.msp_threshold.proofs.Facts.{IsLatenessShop}
+use Rattle.msp_threshold.proofs.Facts.{IsLatenessShop, IsAt, IsAt-from}
 use Rattle.msp_threshold.proofs.Meeting.{meets_seats}
+use Rattle.msp_route.proofs.KeyedJobs.{rises_or_stays}
 
 -- what a vector holds after its slice was written
 pub whole_slice : {X : Type 0} (n k : ℕ) (xs ys : List X) → length xs ≡ n → take n (xs ++ drop k ys) ≡ xs
@@ -54,13 +56,9 @@ module _ (i : Instance) (releases order heads : List ℕ) (r : releases ≡ map 
   heads_rising up a b d le l = elim (cases_lt a b) [
     | inl less ↦
         let lb : b < length order = omega (arith, l, heads_many) in
-        omega (arith, head_is a (omega (arith, less, lb)) d, head_is b lb d, in_turn (up a b 0 less lb))
+        omega (arith, head_is a (omega (arith, less, lb)) d, head_is b lb d, rises_or_stays (λ j. get_or releases j 0) order up a b 0 less lb)
     | inr more ↦ let e : a ≡ b = omega (arith, le, more) in omega (arith, ap (λ x. get_or heads x d) e)
   ]
-    where
-      in_turn : {x y : ℕ} {Q : Type 0} → (x < y) ⊎ ((x ≡ y) × Q) → x ≤ y
-      in_turn (inl less) = omega (arith, less)
-      in_turn (inr same) = omega (arith, same.0)
 
   pub in_slots : (slots : List Slot) → AreSlots i.machines heads slots → AreInSlots i slots order
   in_slots slots f = record {
@@ -89,33 +87,17 @@ module _ (i : Instance) (slots : List Slot) (order next : List ℕ) (h : AreInSl
 pub released-swapped : (jobs : List Job) (slots : List Slot) (order next : List ℕ) (a b : ℕ)
     → ((j k : ℕ) → j ≤ k → k < length slots → start_in slots j ≤ start_in slots k) → length order ≡ length slots → AreReleased jobs slots order
     → a ≤ b → b < length order → IsReleased jobs order (start_in slots a) b → length next ≡ length order → SwappedAt order next a b → AreReleased jobs slots next
-released-swapped jobs slots order next a b rises count h le l first same s k lk = elim (cases_lt a k) [
-  | inl above ↦ elim (cases_lt k b) [
-    | inl below ↦ kept (λ e. absurd (omega (arith, e, above))) (λ e. absurd (omega (arith, e, below)))
-    | inr more ↦ elim (cases_lt b k) [
-      | inl past ↦ kept (λ e. absurd (omega (arith, e, above))) (λ e. absurd (omega (arith, e, past)))
-      | inr last ↦
-          let e : b ≡ k = omega (arith, more, last) in
-          subst (λ x. (job_in jobs next x).release ≤ start_in slots x) e
-          (omega (arith, ap (λ x. (get_or jobs x no_job).release) (s.1 0), h a (omega (arith, le, l)), rises a b le (omega (arith, l, count))))
-    ]
-  ]
-  | inr more ↦ elim (cases_lt k a) [
-    | inl below ↦ kept (λ e. absurd (omega (arith, e, below))) (λ e. absurd (omega (arith, e, below, le)))
-    | inr last ↦
-        let e : a ≡ k = omega (arith, more, last) in
-        subst (λ x. (job_in jobs next x).release ≤ start_in slots x) e (omega (arith, ap (λ x. (get_or jobs x no_job).release) (s.0 0), first))
+released-swapped jobs slots order next a b rises count h le l first same s k lk = elim (same_or_not k a) [
+  | inl e ↦ subst (λ x. (job_in jobs next x).release ≤ start_in slots x) (sym e)
+      (omega (arith, ap (λ x. (get_or jobs x no_job).release) (s.0 0), first))
+  | inr x ↦ elim (same_or_not k b) [
+    | inl e ↦ subst (λ x. (job_in jobs next x).release ≤ start_in slots x) (sym e)
+        (omega (arith, ap (λ x. (get_or jobs x no_job).release) (s.1 0), h a (omega (arith, le, l)), rises a b le (omega (arith, l, count))))
+    | inr y ↦ omega (arith, ap (λ z. (get_or jobs z no_job).release) (s.2 k 0 x y), h k (omega (arith, lk, same)))
   ]
 ]
-  where
-    kept : (k ≡ a → ⊥) → (k ≡ b → ⊥) → (job_in jobs next k).release ≤ start_in slots k
-    kept x y = omega (arith, ap (λ z. (get_or jobs z no_job).release) (s.2 k 0 x y), h k (omega (arith, lk, same)))
 
 -- ---- the bound that they meet
-record IsAt (order : List ℕ) (j : ℕ) : Type 0 where
-  inside : place_in order j < length order
-  is : get_or order (place_in order j) 0 ≡ j
-
 pub met_in_slots : (i : Instance) (t : IsLatenessShop i) (slots : List Slot) (order next : List ℕ) (bound : ℤ) → AreInSlots i slots order → IsPermutation order next → AreReleased i.jobs slots next
     → ((k : ℕ) → k < length next → pos (start_in slots k + 1) ≤ℤ ((job_in i.jobs next k).due +ℤ bound)) → CanMeet i bound
 met_in_slots i t slots order next bound h p released late =
@@ -131,10 +113,4 @@ met_in_slots i t slots order next bound h p released late =
     size = length-OnceBelow once
 
     seated : (j : ℕ) → j < length i.jobs → IsAt next j
-    seated j l = by (OnceBelow-contains once j l)
-      where
-        by : Contains next j → IsAt next j
-        by (q, b, e) =
-            let here : get_or next q 0 ≡ j = get_or_default next q 0 j b ∙ e in
-            let same : place_in next j ≡ q = ap (place_in next) (sym here) ∙ place_in-is next q (OnceBelow-distinct once) b in
-            record { inside = omega (arith, same, b); is = ap (λ x. get_or next x 0) same ∙ here }
+    seated j l = IsAt-from next j (OnceBelow-distinct once) (OnceBelow-contains once j l)

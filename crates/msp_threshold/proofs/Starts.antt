@@ -1,5 +1,5 @@
 -- The moments at which slots begin, each once: the kept moments.
-use Rattle.std.proofs.Common.{◌≡◌, ◌≢◌, ℕ, ◌+◌, ◌*◌, ◌<◌, ◌≤◌, eqb, List, [], ◌∷◌, length, map, All, AllPairs, Contains, IsPermutation, sym, ap, subst, subst₂, arith}
+use Rattle.std.proofs.Common.{◌≡◌, ℕ, ◌+◌, ◌*◌, ◌<◌, ◌≤◌, eqb, List, [], ◌∷◌, length, map, All, AllPairs, Contains, IsPermutation, sym, ap, subst, subst₂, arith}
 use Rattle.std.specs.List.{dedup, dedup_from}
 use Rattle.std.proofs.lemmas.Bool.{cond_both, eqb-false}
 use Rattle.std.proofs.lemmas.List.{length-map, get_or-map}
@@ -7,6 +7,7 @@ use Rattle.std.proofs.lemmas.List.Elements.{All-cons, All-tail, All-map}
 use Rattle.std.proofs.lemmas.List.Filters.{All-dedup}
 use Rattle.std.proofs.lemmas.List.Kept.{AllPairs-cons, Contains-dedup_nat, Contains-from_dedup}
 use Rattle.std.proofs.lemmas.List.Sorted.{All-permutation}
+use Rattle.std.proofs.Math.Numerals.{lt_of_le_of_ne}
 use Rattle.msp_class.specs.declared.sizes.TheConstants.{MOST_JOBS, GREATEST}
 use Rattle.msp_class.proofs.Sums.{AllPairs-head, AllPairs-tail}
 use Rattle.msp_instance.specs.declared.Instance.{Instance}
@@ -14,7 +15,7 @@ use Rattle.msp_slots.specs.declared.earliest.Slot.{Slot}
 use Rattle.msp_slots.specs.Earliest.{no_slot, AreSlots}
 use Rattle.msp_slots.proofs.SlotPlaces.{heads_many}
 use Rattle.msp_threshold.specs.Squeezed.{AreKept}
-use Rattle.msp_threshold.proofs.Facts.{IsLatenessShop, release_small}
+use Rattle.msp_threshold.proofs.Facts.{IsLatenessShop}
 
 abbrev Up : List ℕ → Type 0
 Up xs = AllPairs (λ a b. a ≤ b) xs
@@ -28,12 +29,9 @@ dedup_rising k (x ∷ xs) h =
     cond_both (eqb x k) (dedup_from eqb k xs) (k ∷ dedup_from eqb x xs) (AllPairs (λ a b. a < b))
     (λ _. dedup_rising k xs (AllPairs-cons (λ a b. a ≤ b) k xs (All-tail (λ b. k ≤ b) x xs from_k) (AllPairs-tail (λ a b. a ≤ b) x xs rest)))
     (λ f.
-    let less : k < x = above k x (from_k 0 0 (omega arith)) (eqb-false x k f) in
+    let less : k < x = lt_of_le_of_ne (from_k 0 0 (omega arith)) (λ e. eqb-false x k f (sym e)) in
     AllPairs-cons (λ a b. a < b) k (dedup_from eqb x xs)
     (All-dedup eqb (λ y. k < y) (x ∷ xs) (All-cons (λ y. k < y) x xs less (λ m d l. omega (arith, less, AllPairs-head (λ a b. a ≤ b) x xs rest m d l)))) (dedup_rising x xs rest))
-  where
-    above : (k x : ℕ) → k ≤ x → x ≢ k → k < x
-    above k x h ne = grind arith
 
 rising : (xs : List ℕ) → Up xs → AllPairs (λ a b. a < b) (dedup eqb xs)
 rising [] h = λ i j d a b. absurd (omega (arith, b))
@@ -76,4 +74,5 @@ module _ (i : Instance) (t : IsLatenessShop i) (heads : List ℕ) (p : IsPermuta
   heads_few = omega (arith, heads_many i heads p, t.few)
 
   pub heads_low : All (λ r. r ≤ 2 * GREATEST) heads
-  heads_low = All-permutation (λ r. r ≤ 2 * GREATEST) (map (λ j. j.release) i.jobs) heads p (All-map (λ r. r ≤ 2 * GREATEST) (λ j. j.release) i.jobs (release_small i t))
+  heads_low = All-permutation (λ r. r ≤ 2 * GREATEST) (map (λ j. j.release) i.jobs) heads p
+      (All-map (λ r. r ≤ 2 * GREATEST) (λ j. j.release) i.jobs (λ k d l. (t.jobs k d l).release))

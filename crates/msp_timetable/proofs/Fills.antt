@@ -1,5 +1,5 @@
 -- The square is filled: the matrix, what the lines lack, and the padding from corner to corner.
-use Rattle.std.proofs.Common.{◌≡◌, ◌≢◌, ℕ, zero, suc, ◌+◌, ◌-◌, ◌*◌, ◌<◌, ◌≤◌, ◌⊎◌, inl, inr, refl, List, Bool, true, false, eqb, ltb, length, set, cond, ℤ, pos, nat_abs, ◌≤ℤ◌}
+use Rattle.std.proofs.Common.{◌≡◌, ◌≢◌, ℕ, zero, suc, ◌+◌, ◌-◌, ◌*◌, ◌<◌, ◌≤◌, ◌⊎◌, inl, inr, refl, List, Bool, true, false, eqb, ltb, length, set, cond, ℤ, pos, nat_abs}
 use Rattle.std.proofs.Common.{sym, ap, subst, ◌∙◌, arith}
 use Rattle.std.proofs.lemmas.Bool.{ne_eqb}
 use Rattle.std.proofs.lemmas.Bool.Decides.{nat_tests}
@@ -7,14 +7,15 @@ use Rattle.std.proofs.lemmas.Int.{ints}
 use Rattle.std.proofs.lemmas.List.{get_or-set_same, get_or-set_other, length-set}
 use Rattle.msp_class.specs.declared.sizes.TheConstants.{MOST_JOBS}
 use Rattle.msp_class.specs.Sums.{total_below}
-use Rattle.msp_class.proofs.Sums.{total_below-add, total_below-same, total_below-none, total_below-only, total_below-exchange, total_below-term, int_total_below-natural}
+use Rattle.msp_class.proofs.Sums.{total_below-add, total_below-same, total_below-none, total_below-only, total_below-exchange, total_below-term, int_total_below-natural, cond-le}
 use Rattle.msp_matching.specs.Passing.{at}
 use Rattle.msp_class.proofs.Cases.{same_or_not, less_or_not}
+use Rattle.msp_class.proofs.IntegerRing.{natural}
 use Rattle.msp_timetable.specs.declared.matrix.Matrix.{Matrix}
 use Rattle.msp_timetable.specs.declared.square.Square.{Square}
 use Rattle.msp_timetable.specs.Split.{cell, row_sum, column_sum, greatest_sum, IsMatrix, IsGreatestSum}
 use Rattle.msp_timetable.specs.Square.{cell_at, stocks, row_total, column_total, IsSpreadRow, IsSpread, HasSmallLines, IsGreatest, IsLacking, IsPadding, IsFilled, IsCornerFilled}
-use Rattle.msp_timetable.proofs.Places.{cell-same, cell-other, stocks-set, cond-one}
+use Rattle.msp_timetable.proofs.Places.{cell-same, cell-other, stocks-set}
 
 -- ---- the matrix is copied
 pub record IsSpreading (n : ℕ) (m : Matrix) (row : ℕ) (old now : List ℕ) (k : ℕ) : Type 0 where
@@ -22,9 +23,6 @@ pub record IsSpreading (n : ℕ) (m : Matrix) (row : ℕ) (old now : List ℕ) (
   pub cells : (c : ℕ) → c < k → pos (cell_at n now row c) ≡ cell m row c
   pub others : (r c : ℕ) → r < n → c < n → (r ≢ row) ⊎ (k ≤ c) → cell_at n now r c ≡ cell_at n old r c
   pub few : stocks now ≤ stocks old + k
-
-abs-is : (z : ℤ) → pos 0 ≤ℤ z → pos (nat_abs z) ≡ z
-abs-is z l = omega (arith, ints)
 
 pub IsSpreading-next : (n : ℕ) (m : Matrix) (row : ℕ) (old now : List ℕ) (k : ℕ) → length old ≡ n * n
     → row < n → k < n → IsSpreading n m row old now k → (v : ℕ) → pos v ≡ cell m row k → IsSpreading n m row old (set now (row * n + k) v) (k + 1)
@@ -34,21 +32,15 @@ IsSpreading-next n m row old now k size lr lk h v e = record {
     | inl q ↦ subst (λ x. pos (cell_at n (set now (row * n + k) v) row x) ≡ cell m row x) (sym q) (ap pos (cell-same n now row k v here lr lk) ∙ e)
     | inr q ↦ ap pos (cell-other n now row k v here lr lk row c (omega (arith, lk)) (inr q)) ∙ h.cells c (omega arith)
   ];
-  others = λ r c a b q. cell-other n now row k v here lr lk r c b (other r c q) ∙ h.others r c a b (weaker r c q);
-  few = let s = stocks-set n now row k v here lr lk in let o = cond-one (ltb 0 v) in omega (arith, s, o, h.few);
+  others = λ r c a b q. cell-other n now row k v here lr lk r c b (grind arith) ∙ h.others r c a b (grind arith);
+  few = let s = stocks-set n now row k v here lr lk in let o = cond-le (ltb 0 v) 1 in omega (arith, s, o, h.few);
 }
   where
     here : length now ≡ n * n
     here = h.size ∙ size
 
-    other : (r c : ℕ) → (r ≢ row) ⊎ (k + 1 ≤ c) → (r ≢ row) ⊎ (c ≢ k)
-    other r c q = grind arith
-
-    weaker : (r c : ℕ) → (r ≢ row) ⊎ (k + 1 ≤ c) → (r ≢ row) ⊎ (k ≤ c)
-    weaker r c q = grind arith
-
 pub cell-abs : (m : Matrix) (r c : ℕ) → IsMatrix m → r < m.rows → c < m.columns → pos (nat_abs (cell m r c)) ≡ cell m r c
-cell-abs m r c h lr lc = abs-is (cell m r c) (h.cells r c lr lc)
+cell-abs m r c h lr lc = sym (natural (cell m r c) (h.cells r c lr lc))
 
 -- the rows before k are copied
 pub record IsSpreadBelow (n : ℕ) (m : Matrix) (now : List ℕ) (k : ℕ) : Type 0 where
@@ -65,15 +57,9 @@ IsSpreadBelow-next n m now next k a b lk h s = record {
     | inl q ↦ subst (λ x. pos (cell_at n next x c) ≡ cell m x c) (sym q) (s.cells c lc)
     | inr q ↦ ap pos (s.others r c (omega (arith, lk, a)) (omega (arith, lc, b)) (inl q)) ∙ h.cells r c (omega arith) lc
   ];
-  outside = λ r c lr lc q. s.others r c lr lc (other r c q) ∙ h.outside r c lr lc (weaker r c q);
+  outside = λ r c lr lc q. s.others r c lr lc (grind arith) ∙ h.outside r c lr lc (grind arith);
   few = omega (arith, s.few, h.few);
 }
-  where
-    other : (r c : ℕ) → (k + 1 ≤ r) ⊎ (m.columns ≤ c) → (r ≢ k) ⊎ (m.columns ≤ c)
-    other r c q = grind arith
-
-    weaker : (r c : ℕ) → (k + 1 ≤ r) ⊎ (m.columns ≤ c) → (k ≤ r) ⊎ (m.columns ≤ c)
-    weaker r c q = grind arith
 
 -- ---- lines
 pub total_below-part : (n k : ℕ) (f : ℕ → ℕ) → k < n → total_below k f + f k ≤ total_below n f
@@ -107,17 +93,14 @@ module _ (n : ℕ) (m : Matrix) (given : List ℕ) (a : m.rows ≤ n) (b : m.col
   pub column-none : (c : ℕ) → m.columns ≤ c → c < n → column_total n given c ≡ 0
   column-none c l ln = total_below-none n (λ r. cell_at n given r c) (λ r lr. h.outside r c lr ln (inr l))
 
-  natural_most : (x : ℕ) (z : ℤ) (g : ℕ) → z ≡ pos x → z ≤ℤ pos g → x ≤ g
-  natural_most x z g e l = omega (arith, ints)
-
   pub HasSmallLines-matrix : IsMatrix m → HasSmallLines n given
   HasSmallLines-matrix q = record {
     rows = λ r l. elim (less_or_not r m.rows) [
-      | inl s ↦ natural_most (row_total n given r) (row_sum m r) greatest_sum (row-is r s) (q.row_sums r s)
+      | inl s ↦ omega (arith, ints, row-is r s, q.row_sums r s)
       | inr s ↦ let z = row-none r s l in omega (arith, z)
     ];
     columns = λ c l. elim (less_or_not c m.columns) [
-      | inl s ↦ natural_most (column_total n given c) (column_sum m c) greatest_sum (column-is c s) (q.column_sums c s)
+      | inl s ↦ omega (arith, ints, column-is c s, q.column_sums c s)
       | inr s ↦ let z = column-none c s l in omega (arith, z)
     ];
   }
@@ -149,9 +132,6 @@ module _ (n : ℕ) (rows columns : List ℕ) where
     pub column_here : j ≤ n
 
   module _ (padding d e padding2 d2 e2 : List ℕ) (i j : ℕ) (done : Bool) (h : IsCorner padding d e i j) (li : i < n) (lj : j < n) (s : IsCornerFilled n i j padding d e padding2 d2 e2 done) where
-    x : ℕ
-    x = s.both
-
     cells : (r c : ℕ) → r < n → c < n → cell_at n padding2 r c ≡ cell_at n padding r c + cond (eqb i r) (cond (eqb j c) s.both 0) 0
     cells r c lr lc = rw s.padding
         (grind (arith, nat_tests, cell-same n padding i j (cell_at n padding i j + s.both) h.size li lj, cell-other n padding i j (cell_at n padding i j + s.both) h.size li lj r c lc))
@@ -160,11 +140,6 @@ module _ (n : ℕ) (rows columns : List ℕ) where
     only true k l = total_below-only n (λ _. s.both) k l
     only false k l = total_below-none n (λ c. 0) (λ c lc. refl)
 
-    turn : (b c : Bool) → cond b (cond c s.both 0) 0 ≡ cond c (cond b s.both 0) 0
-    turn true c = refl
-    turn false true = refl
-    turn false false = refl
-
     row_more : (r : ℕ) → r < n → row_total n padding2 r ≡ row_total n padding r + cond (eqb i r) s.both 0
     row_more r l = total_below-same n (λ c. cell_at n padding2 r c) (λ c. cell_at n padding r c + cond (eqb i r) (cond (eqb j c) s.both 0) 0) (λ c lc. cells r c l lc)
         ∙ total_below-add n (λ c. cell_at n padding r c) (λ c. cond (eqb i r) (cond (eqb j c) s.both 0) 0)
@@ -172,7 +147,7 @@ module _ (n : ℕ) (rows columns : List ℕ) where
 
     column_more : (c : ℕ) → c < n → column_total n padding2 c ≡ column_total n padding c + cond (eqb j c) s.both 0
     column_more c l = total_below-same n (λ r. cell_at n padding2 r c) (λ r. cell_at n padding r c + cond (eqb j c) (cond (eqb i r) s.both 0) 0)
-        (λ r lr. cells r c lr l ∙ ap (λ k. cell_at n padding r c + k) (turn (eqb i r) (eqb j c)))
+        (λ r lr. grind (arith, nat_tests, cells r c lr l))
         ∙ total_below-add n (λ r. cell_at n padding r c) (λ r. cond (eqb j c) (cond (eqb i r) s.both 0) 0)
         ∙ ap (λ k. column_total n padding c + k) (only (eqb j c) i li)
 
@@ -197,7 +172,7 @@ module _ (n : ℕ) (rows columns : List ℕ) where
     few_more =
         let v = cell_at n padding i j + s.both in
         let c = stocks-set n padding i j v h.size li lj in
-        let o = cond-one (ltb 0 v) in
+        let o = cond-le (ltb 0 v) 1 in
         let q : stocks padding2 ≡ stocks (set padding (i * n + j) v) = ap stocks s.padding in
         omega (arith, c, o, q, h.few)
 
@@ -216,17 +191,14 @@ module _ (n : ℕ) (rows columns : List ℕ) where
       column_here = b;
     }
 
-    still_done : (xs ys : List ℕ) (k : ℕ) → ((r : ℕ) → at ys r + cond (eqb k r) s.both 0 ≡ at xs r) → (r : ℕ) → at xs r ≡ 0 → at ys r ≡ 0
-    still_done xs ys k q r z = let w = q r in omega (arith, w, z)
-
     done_next : (xs ys : List ℕ) (k : ℕ) → ((r : ℕ) → at ys r + cond (eqb k r) s.both 0 ≡ at xs r) → at xs k ≡ s.both → ((r : ℕ) → r < k → at xs r ≡ 0) → (r : ℕ) → r < k + 1 → at ys r ≡ 0
     done_next xs ys k q z f r l = grind (arith, nat_tests, q r, z, f r)
 
     pub IsCorner-row : done ≡ true → IsCorner padding2 d2 e2 (i + 1) j
-    IsCorner-row q = moved (i + 1) j (done_next d d2 i d_low (s.yes q) h.rows_done) (λ c l. still_done e e2 j e_low c (h.columns_done c l)) (omega arith) (omega arith) h.column_here
+    IsCorner-row q = moved (i + 1) j (done_next d d2 i d_low (s.yes q) h.rows_done) (λ c l. omega (arith, e_low c, h.columns_done c l)) (omega arith) (omega arith) h.column_here
 
     pub IsCorner-column : done ≡ false → IsCorner padding2 d2 e2 i (j + 1)
-    IsCorner-column q = moved i (j + 1) (λ r l. still_done d d2 i d_low r (h.rows_done r l)) (done_next e e2 j e_low (s.no q) h.columns_done) (omega arith) h.row_here (omega arith)
+    IsCorner-column q = moved i (j + 1) (λ r l. omega (arith, d_low r, h.rows_done r l)) (done_next e e2 j e_low (s.no q) h.columns_done) (omega arith) h.row_here (omega arith)
 
   all_zero : (f g : ℕ → ℕ) → total_below n f ≡ total_below n g → ((r : ℕ) → r < n → f r ≡ 0) → (c : ℕ) → c < n → g c ≡ 0
   all_zero f g e z c l = let t = total_below-term n g c l in let s = total_below-none n f z in omega (arith, t, s, e)
@@ -302,16 +274,10 @@ IsFilled-made m s g d e small spread greatest l p = record {
 pub IsLacking-small : (n : ℕ) (given : List ℕ) (g : ℕ) (d e : List ℕ) → IsGreatest n given g → IsLacking n given g d e → (r : ℕ) → r < n → at d r ≤ greatest_sum
 IsLacking-small n given g d e b l r lr = omega (arith, b.low, l.each_row r lr)
 
-at_zero : (x : ℤ) (k : ℕ) → x ≡ pos k → k ≤ 0 → x ≡ pos 0
-at_zero x k e l = omega (arith, ints)
-
 -- the greatest sum of a line of the square is that of the matrix
 module _ (m : Matrix) (n : ℕ) (given : List ℕ) (g : ℕ) (a : m.rows ≤ n) (b : m.columns ≤ n) (some : 1 ≤ m.rows) (s : IsSpread n m given) (h : IsGreatest n given g) where
-  most : (z : ℤ) (x : ℕ) → z ≡ pos x → x ≤ g → z ≤ℤ pos g
-  most z x e l = omega (arith, ints)
-
   zero_line : g ≡ 0 → ((r : ℕ) × (r < m.rows) × (row_sum m r ≡ pos g)) ⊎ ((c : ℕ) × (c < m.columns) × (column_sum m c ≡ pos g))
-  zero_line e = inl (0, omega arith, at_zero (row_sum m 0) (row_total n given 0) (row-is n m given a b s 0 (omega arith)) (let q = h.rows 0 (omega arith) in omega (arith, q, e)) ∙ ap pos (sym e))
+  zero_line e = inl (0, omega arith, omega (arith, ints, row-is n m given a b s 0 (omega arith), h.rows 0 (omega arith), e))
 
   line_of : (l : ℕ) → l < n → (row_total n given l ≡ g) ⊎ (column_total n given l ≡ g) → ((r : ℕ) × (r < m.rows) × (row_sum m r ≡ pos g)) ⊎ ((c : ℕ) × (c < m.columns) × (column_sum m c ≡ pos g))
   line_of l ll (inl e) = elim (less_or_not l m.rows) [
@@ -325,8 +291,8 @@ module _ (m : Matrix) (n : ℕ) (given : List ℕ) (g : ℕ) (a : m.rows ≤ n) 
 
   pub IsGreatestSum-square : IsGreatestSum m (pos g)
   IsGreatestSum-square = record {
-    rows = λ r l. most (row_sum m r) (row_total n given r) (row-is n m given a b s r l) (h.rows r (omega (arith, l, a)));
-    columns = λ c l. most (column_sum m c) (column_total n given c) (column-is n m given a b s c l) (h.columns c (omega (arith, l, b)));
+    rows = λ r l. omega (arith, ints, row-is n m given a b s r l, h.rows r (omega (arith, l, a)));
+    columns = λ c l. omega (arith, ints, column-is n m given a b s c l, h.columns c (omega (arith, l, b)));
     line = elim h.line [
       | inl e ↦ zero_line e
       | inr w ↦ line_of w.0 w.1 w.2

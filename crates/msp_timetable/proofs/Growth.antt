@@ -1,7 +1,7 @@
 -- The search grows, and never runs dry: Hall's count.
-use Rattle.std.proofs.Common.{◌≡◌, ◌≢◌, ℕ, zero, suc, ◌+◌, ◌*◌, ◌<◌, ◌≤◌, ◌⊎◌, inl, inr, refl, List, [], ◌∷◌, ◌++◌, Bool, true, false, eqb, ltb, length, set, map, Contains, All}
+use Rattle.std.proofs.Common.{◌≡◌, ◌≢◌, ℕ, zero, suc, ◌+◌, ◌*◌, ◌<◌, ◌≤◌, ◌⊎◌, inl, inr, refl, List, [], ◌∷◌, ◌++◌, Bool, true, false, eqb, ltb, length, set, map, Contains, All, le_trans, le-mul_of_pos_right}
 use Rattle.std.proofs.Common.{cond, count_by, sum_by, get_or, sym, ap, subst, ◌∙◌, arith}
-use Rattle.std.proofs.lemmas.Bool.{ltb-true, eq-eqb}
+use Rattle.std.proofs.lemmas.Bool.{ltb-true, eq-eqb, lt-ltb}
 use Rattle.std.proofs.lemmas.Bool.Decides.{nat_tests}
 use Rattle.std.proofs.lemmas.List.{get_or-set_same, get_or-set_other, length-set, get_or_append_left, length-append, get_or-map, length-map, get_or_default}
 use Rattle.std.proofs.Math.Seq.{get_or-append_seam}
@@ -12,16 +12,11 @@ use Rattle.msp_class.proofs.Sums.{sum_by-cond, sum_by-distinct_test, cond-yes}
 use Rattle.msp_matching.specs.Passing.{at}
 use Rattle.msp_class.proofs.Cases.{same_or_not}
 use Rattle.msp_timetable.specs.Square.{IsPermuted, IsOwners, IsBalanced, IsGrowing, IsSearch, IsFound}
-use Rattle.msp_timetable.proofs.Places.{ltb-yes}
 use Rattle.msp_timetable.proofs.Lists.{all_at, pairs_at, distinct_short, same_back_to_back}
 
 -- the rows of a tree are at most n
 pub IsGrowing-short : (n : ℕ) (f : ℕ → ℕ → ℕ) (column from tree : List ℕ) → IsGrowing n f column from tree → length tree ≤ n
 IsGrowing-short n f column from tree g = distinct_short n tree (all_at (λ x. x < n) tree g.rows) (pairs_at (λ x y. x ≢ y) tree g.apart)
-
--- a term that is reached
-numbered : (n : ℕ) (xs : List ℕ) (k c : ℕ) → k < length xs → at xs k ≡ c → Contains xs c
-numbered n xs k c l e = subst (Contains xs) e (Contains-get_or xs k 0 l)
 
 module _ (n : ℕ) (f : ℕ → ℕ → ℕ) (left : ℕ) (b : IsBalanced n f left) where
   module _ (tree ys : List ℕ) (test : ℕ → Bool)
@@ -33,12 +28,11 @@ module _ (n : ℕ) (f : ℕ → ℕ → ℕ) (left : ℕ) (b : IsBalanced n f le
     abbrev held : ℕ → ℕ
     held c = cond (test c) (sum_by (λ r. f r c) tree) 0
 
-    all_in : (r c : ℕ) → (0 < f r c → test c ≡ true) → f r c ≤ cond (test c) (f r c) 0
-    all_in r c h = grind (arith, nat_tests)
-
     -- a row of the tree adds up to what it holds there
     row_in : (k : ℕ) → k < length tree → left ≤ total_below n (λ c. cond (test c) (f (at tree k) c) 0)
-    row_in k l = omega (arith, b.rows (at tree k) (rows k l), total_below-mono n (λ c. f (at tree k) c) (λ c. cond (test c) (f (at tree k) c) 0) (λ c lc. all_in (at tree k) c (within k c l lc)))
+    row_in k l =
+        let m = total_below-mono n (λ c. f (at tree k) c) (λ c. cond (test c) (f (at tree k) c) 0) (λ c lc. grind (arith, nat_tests, within k c l lc)) in
+        omega (arith, b.rows (at tree k) (rows k l), m)
 
     rows_in : length tree * left ≤ total_below n (λ c. held c)
     rows_in =
@@ -62,10 +56,7 @@ module _ (n : ℕ) (f : ℕ → ℕ → ℕ) (left : ℕ) (b : IsBalanced n f le
         by : (v : Bool) → (v ≡ true → Contains ys c) → cond v (sum_by (λ r. f r c) tree) 0 ≤ 1 * count_by (λ y. eqb y c) ys * left
         by true h =
             let some : 1 ≤ count_by (λ y. eqb y c) ys = omega (arith, sum_by-contains (λ y. cond (eqb y c) 1 0) ys c (h refl), cond-yes 1 (eq-eqb c c refl)) in
-            times (count_by (λ y. eqb y c) ys) left _ some (column_most c l)
-          where
-            times : (k m x : ℕ) → 1 ≤ k → x ≤ m → x ≤ 1 * k * m
-            times k m x a d = grind arith
+            le_trans (column_most c l) (le_trans (le-mul_of_pos_right left some) (omega arith))
         by false h = omega arith
 
     columns_most : total_below n (λ c. held c) ≤ length ys * left
@@ -78,10 +69,7 @@ module _ (n : ℕ) (f : ℕ → ℕ → ℕ) (left : ℕ) (b : IsBalanced n f le
         omega (arith, m, s, ap (λ k. k * left) same)
 
     pub never_dry : 0 < left → ⊥
-    never_dry p = short (length ys) (length tree) left fewer p (omega (arith, rows_in, columns_most))
-      where
-        short : (k m x : ℕ) → k + 1 ≡ m → 0 < x → m * x ≤ k * x → ⊥
-        short k m x e q h = omega (arith, ap (λ i. i * x) e)
+    never_dry p = omega (arith, rows_in, columns_most, p, ap (λ i. i * left) fewer)
 
 module _ (n : ℕ) (f : ℕ → ℕ → ℕ) (column owner : List ℕ) (p : IsPermuted n column) (o : IsOwners n column owner)
     (start place c : ℕ) (from tree : List ℕ) (h : IsSearch n f column start place c from tree)
@@ -210,7 +198,7 @@ IsSearch-goes_on n f left b positive column p start place from (x ∷ rest) h = 
       (λ k d l. inside k d l)
       (omega (arith, length-map rest (at column)))
       (λ d ld q. named d (h.owned d ld (ltb-true (at from d) n q)))
-      (λ k d l ld q. ltb-yes (at from d) n (h.closed k d (omega arith) ld q)) positive)
+      (λ k d l ld q. lt-ltb (at from d) n (h.closed k d (omega arith) ld q)) positive)
 ]
   where
     mapped : (k : ℕ) → k < length rest → at (map (at column) rest) k ≡ at column (at rest k)
@@ -222,7 +210,8 @@ IsSearch-goes_on n f left b positive column p start place from (x ∷ rest) h = 
 
     named : (d : ℕ) → ((k : ℕ) × (1 ≤ k) × (k < length (x ∷ rest)) × (at column (at (x ∷ rest) k) ≡ d)) → Contains (map (at column) rest) d
     named d (zero, a, l, e) = absurd (omega arith)
-    named d (suc k, a, l, e) = let m : k < length rest = omega arith in numbered n (map (at column) rest) k d (omega (arith, length-map rest (at column))) (mapped k m ∙ e)
+    named d (suc k, a, l, e) = let m : k < length rest = omega arith in
+        subst (Contains (map (at column) rest)) (mapped k m ∙ e) (Contains-get_or (map (at column) rest) k 0 (omega (arith, length-map rest (at column))))
 
 pub IsSearch-start : (n : ℕ) (f : ℕ → ℕ → ℕ) (column : List ℕ) (start : ℕ) → start < n → f start (at column start) ≡ 0
     → (from tree : List ℕ) → length from ≡ n → ((d : ℕ) → d < n → at from d ≡ n) → tree ≡ start ∷ [] → IsSearch n f column start 0 0 from tree

@@ -4,7 +4,6 @@ pub mod Owners
 pub mod Places
 pub mod Cuts
 pub mod Slices
-pub mod Tables
 pub mod Fills
 pub mod Greatest
 pub mod Ways

@@ -1,5 +1,5 @@
 -- Lists of numbers: distinct numbers, rearranged columns, and sums.
-use Rattle.std.proofs.Common.{◌≡◌, ◌≢◌, ℕ, suc, ◌+◌, ◌*◌, ◌<◌, ◌≤◌, ◌⊎◌, inl, inr, refl, List, [], ◌∷◌, eqb, length, get_or, All, AllPairs, IsPermutation}
+use Rattle.std.proofs.Common.{◌≡◌, ◌≢◌, ℕ, ◌+◌, ◌*◌, ◌<◌, ◌≤◌, ◌⊎◌, inl, inr, refl, List, [], ◌∷◌, eqb, length, get_or, All, AllPairs, IsPermutation, one-add}
 use Rattle.std.proofs.Common.{count_by, sum_by, min, max, sym, ap, subst, ◌∙◌, arith}
 use Rattle.std.proofs.lemmas.List.{get_or_default}
 use Rattle.std.proofs.lemmas.List.Sorted.{All-permutation, length_permutation}
@@ -70,23 +70,17 @@ same_case m a b x e (inr q) = inr (q ∙ e)
 
 -- a sum over a list, place by place
 pub sum_at : (f : ℕ → ℕ) (xs : List ℕ) (n : ℕ) → length xs ≡ n → sum_by f xs ≡ total_below n (λ r. f (at xs r))
-sum_at f xs n e = sum_at_take xs n (omega arith) ∙ refl
-  where
-    sum_at_take : (ys : List ℕ) (k : ℕ) → length ys ≡ k → sum_by f ys ≡ total_below k (λ r. f (at ys r))
-    sum_at_take [] k q = let z : k ≡ 0 = omega arith in subst (λ m. sum_by f [] ≡ total_below m (λ r. f (at [] r))) (sym z) refl
-    sum_at_take (y ∷ ys) k q =
-        let z : k ≡ 1 + length ys = omega arith in
-        subst (λ m. sum_by f (y ∷ ys) ≡ total_below m (λ r. f (at (y ∷ ys) r))) (sym z)
-        (omega (
-          arith,
-          sum_by-cons f y ys,
-          sum_at_take ys (length ys) refl,
-          total_below-split 1 (length ys) (λ r. f (at (y ∷ ys) r)),
-          total_below-same (length ys) (λ r. f (at (y ∷ ys) (1 + r))) (λ r. f (at ys r)) (λ r l. ap (λ t. f (at (y ∷ ys) t)) (one r)),
-        ))
-      where
-        one : (r : ℕ) → 1 + r ≡ suc r
-        one r = omega arith
+sum_at f [] n e = let z : n ≡ 0 = omega arith in subst (λ m. sum_by f [] ≡ total_below m (λ r. f (at [] r))) (sym z) refl
+sum_at f (y ∷ ys) n e =
+    let z : n ≡ 1 + length ys = omega arith in
+    subst (λ m. sum_by f (y ∷ ys) ≡ total_below m (λ r. f (at (y ∷ ys) r))) (sym z)
+    (omega (
+      arith,
+      sum_by-cons f y ys,
+      sum_at f ys (length ys) refl,
+      total_below-split 1 (length ys) (λ r. f (at (y ∷ ys) r)),
+      total_below-same (length ys) (λ r. f (at (y ∷ ys) (1 + r))) (λ r. f (at ys r)) (λ r l. ap (λ t. f (at (y ∷ ys) t)) (one-add r)),
+    ))
 
 pub max-lines : (g b c m x y : ℕ) → b ≡ x → c ≡ y → m ≡ max (max b c) g → (g ≤ m) × (x ≤ m) × (y ≤ m) × ((m ≡ g) ⊎ ((m ≡ x) ⊎ (m ≡ y)))
 max-lines g b c m x y e f h = (omega arith, omega arith, omega arith, grind arith)

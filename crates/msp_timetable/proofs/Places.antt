@@ -1,7 +1,6 @@
 -- The cells of a square that stands in a list: their places differ, and what a write does to them, to the lines and to the count.
-use Rattle.std.proofs.Common.{◌≡◌, ◌≢◌, ℕ, ◌+◌, ◌*◌, ◌<◌, ◌≤◌, ◌⊎◌, List, Bool, true, false, ltb, length, set, cond, arith}
+use Rattle.std.proofs.Common.{◌≡◌, ◌≢◌, ℕ, ◌+◌, ◌*◌, ◌<◌, ◌≤◌, ◌⊎◌, List, ltb, length, set, cond, arith}
 use Rattle.std.proofs.Math.Nat.{mul-le-mul_left}
-use Rattle.std.proofs.lemmas.Bool.Decides.{nat_tests}
 use Rattle.std.proofs.lemmas.List.{get_or-set_same, get_or-set_other}
 use Rattle.std.proofs.lemmas.List.Sums.{sum_by-set}
 use Rattle.msp_timetable.specs.Square.{cell_at, stocks}
@@ -17,9 +16,6 @@ pub places_apart : (n r c i j : ℕ) → c < n → j < n → (r ≢ i) ⊎ (c �
 places_apart n r c i j lc lj h e = grind (arith, rows_apart n r i c j, rows_apart n i r j c)
 
 module _ (n : ℕ) (xs : List ℕ) (i j v : ℕ) (size : length xs ≡ n * n) (li : i < n) (lj : j < n) where
-  written : List ℕ
-  written = set xs (i * n + j) v
-
   inside : i * n + j < length xs
   inside = omega (arith, place_inside n n i j li lj, size)
 
@@ -32,20 +28,3 @@ module _ (n : ℕ) (xs : List ℕ) (i j v : ℕ) (size : length xs ≡ n * n) (l
   -- a stock that is replaced
   pub stocks-set : stocks (set xs (i * n + j) v) + cond (ltb 0 (cell_at n xs i j)) 1 0 ≡ stocks xs + cond (ltb 0 v) 1 0
   stocks-set = sum_by-set (λ x. cond (ltb 0 x) 1 0) xs (i * n + j) v 0 inside
-
-pub positive-one : (x : ℕ) → 0 < x → 1 ≤ cond (ltb 0 x) 1 0
-positive-one x l = grind (arith, nat_tests)
-
-pub cond-one : (b : Bool) → cond b 1 0 ≤ 1
-cond-one true = omega arith
-cond-one false = omega arith
-
-pub ltb-yes : (a b : ℕ) → a < b → ltb a b ≡ true
-ltb-yes a b l = grind (arith, nat_tests)
-
-pub ltb-no : (a b : ℕ) → b ≤ a → ltb a b ≡ false
-ltb-no a b l = grind (arith, nat_tests)
-
--- below the next number or below this one is the same for another
-pub ltb-next : (a k : ℕ) → a ≢ k → ltb a (k + 1) ≡ ltb a k
-ltb-next a k h = grind (arith, nat_tests)

@@ -1,6 +1,6 @@
 -- One more slice: what it takes, and what is left.
-use Rattle.std.proofs.Common.{◌≡◌, ℕ, ◌+◌, ◌-◌, ◌<◌, ◌≤◌, ◌⊎◌, inl, inr, refl, List, [], ◌∷◌, ◌++◌, Bool, true, false, eqb, ltb, length, cond, ℤ, pos, ◌+ℤ◌, ◌≤ℤ◌, sym, ap, subst, ◌∙◌, arith}
-use Rattle.std.proofs.lemmas.Bool.{eq-eqb, ne_eqb, ltb-true, ltb-false}
+use Rattle.std.proofs.Common.{◌≡◌, ℕ, ◌+◌, ◌-◌, ◌<◌, ◌≤◌, ◌⊎◌, inl, inr, List, [], ◌∷◌, ◌++◌, eqb, ltb, length, cond, ℤ, pos, ◌+ℤ◌, ◌≤ℤ◌, sym, ap, subst, ◌∙◌, arith}
+use Rattle.std.proofs.lemmas.Bool.{eq-eqb, ne_eqb, lt-ltb, le-ltb, cond-true, cond-false}
 use Rattle.std.proofs.lemmas.Bool.Decides.{nat_tests}
 use Rattle.std.proofs.lemmas.Int.{ints}
 use Rattle.std.proofs.lemmas.List.{length-append}
@@ -9,13 +9,13 @@ use Rattle.msp_class.specs.Sums.{total_below}
 use Rattle.msp_class.proofs.Sums.{total_below-add, total_below-same, total_below-only, total_below-term, sum_by-OnceBelow, OnceBelow}
 use Rattle.msp_matching.specs.Passing.{at}
 use Rattle.msp_class.proofs.Cases.{same_or_not, less_or_not}
+use Rattle.msp_class.proofs.IntegerRing.{+ℤ_idr, +ℤ_idl, pos-le}
 use Rattle.msp_timetable.specs.declared.matrix.Matrix.{Matrix}
 use Rattle.msp_timetable.specs.declared.matrix.Slice.{Slice}
 use Rattle.msp_timetable.specs.declared.square.Square.{Square}
 use Rattle.msp_timetable.specs.Split.{cell, column_of, total, time_at, greatest_sum, IsSlice, IsGreatestSum, IsSplit}
 use Rattle.msp_timetable.specs.Square.{cell_at, stock, used, given_share, padding_share, IsPermuted, IsOwners, IsBalanced, IsLeastUsed, IsEntries, IsCut, IsFilled, IsSplitting}
 use Rattle.msp_timetable.proofs.Lists.{sum_at, OnceBelow-permuted}
-use Rattle.msp_timetable.proofs.Places.{ltb-yes, ltb-no}
 use Rattle.msp_timetable.proofs.Fills.{IsGreatestSum-square}
 
 pub total-push : (f : Slice → ℤ) (xs : List Slice) (x : Slice) → total f (xs ++ x ∷ []) ≡ total f xs +ℤ f x
@@ -41,11 +41,8 @@ module _ (s t : Square) (column : List ℕ) (p : IsPermuted s.size column) (d : 
 
   column_share : (k : ℕ) → k < s.size → total_below s.size (λ r. share r k) ≡ d
   column_share k l = at_total (λ y. cond (eqb y k) d 0) column s.size (OnceBelow-permuted s.size column p) p.size
-      ∙ total_below-same s.size (λ y. cond (eqb y k) d 0) (λ y. cond (eqb k y) d 0) (λ y m. turn y)
+      ∙ total_below-same s.size (λ y. cond (eqb y k) d 0) (λ y. cond (eqb k y) d 0) (λ y m. grind (arith, nat_tests))
       ∙ total_below-only s.size (λ _. d) k l
-    where
-      turn : (y : ℕ) → cond (eqb y k) d 0 ≡ cond (eqb k y) d 0
-      turn y = grind (arith, nat_tests)
 
   pub IsBalanced-cut : (left : ℕ) → IsBalanced s.size (stock s) left → IsBalanced t.size (stock t) (left - d)
   IsBalanced-cut left b = subst (λ n. IsBalanced n (λ r k. cell_at n t.given.items r k + cell_at n t.padding.items r k) (left - d)) (sym c.size) record {
@@ -90,23 +87,19 @@ module _ (m : Matrix) (s : Square) (column entries : List ℕ) (p : IsPermuted s
   -- a row has its column, where it uses its part of the matrix there, or none
   has : (r : ℕ) → r < m.rows → ((0 < cell_at s.size s.given.items r (at column r)) × (at entries r ≡ at column r) × (at column r < m.columns))
       ⊎ ((cell_at s.size s.given.items r (at column r) ≡ 0) × (at entries r ≡ m.columns))
-  has r l = by (ltb 0 (cell_at s.size s.given.items r (at column r))) refl (h.each r l)
-    where
-      by : (v : Bool) → ltb 0 (cell_at s.size s.given.items r (at column r)) ≡ v → at entries r ≡ cond v (at column r) m.columns
-          → ((0 < cell_at s.size s.given.items r (at column r)) × (at entries r ≡ at column r) × (at column r < m.columns))
-          ⊎ ((cell_at s.size s.given.items r (at column r) ≡ 0) × (at entries r ≡ m.columns))
-      by true e q = let some = ltb-true 0 (cell_at s.size s.given.items r (at column r)) e in inl (some, q, small some)
-        where
-          small : 0 < cell_at s.size s.given.items r (at column r) → at column r < m.columns
-          small a = elim (less_or_not (at column r) m.columns) [
-            | inl y ↦ y
-            | inr y ↦ let z = outside r (at column r) (omega (arith, l, rows)) (p.inside r (omega (arith, l, rows))) (inr y) in absurd (omega (arith, a, z))
-          ]
-      by false e q = inr (omega (arith, ltb-false 0 (cell_at s.size s.given.items r (at column r)) e), q)
+  has r l = elim (less_or_not 0 (cell_at s.size s.given.items r (at column r))) [
+    | inl some ↦
+        let small : at column r < m.columns = elim (less_or_not (at column r) m.columns) [
+          | inl y ↦ y
+          | inr y ↦ let z = outside r _ (omega (arith, l, rows)) (p.inside r (omega (arith, l, rows))) (inr y) in absurd (omega (arith, some, z))
+        ] in
+        inl (some, h.each r l ∙ cond-true _ (at column r) m.columns (lt-ltb 0 _ some), small)
+    | inr none ↦ inr (omega (arith, none), h.each r l ∙ cond-false _ (at column r) m.columns (le-ltb 0 _ none))
+  ]
 
   pub IsSlice-made : (x : Slice) (d : ℕ) → x.length ≡ pos d → x.column ≡ entries → 0 < d → IsSlice m.rows m.columns x
   IsSlice-made x d el ec positive = record {
-    lasts = subst (λ z. pos 1 ≤ℤ z) (sym el) (long d positive);
+    lasts = subst (λ z. pos 1 ≤ℤ z) (sym el) (pos-le positive);
     all = ap length ec ∙ h.all;
     inside = λ r l. subst (λ xs. at xs r ≤ m.columns) (sym ec) (elim (has r l) [
       | inl w ↦ omega (arith, w.1, w.2)
@@ -115,9 +108,6 @@ module _ (m : Matrix) (s : Square) (column entries : List ℕ) (p : IsPermuted s
     apart = λ q r l lr e. subst (λ xs. at xs q ≡ m.columns) (sym ec) (different q r l lr (subst (λ xs. at xs q ≡ at xs r) ec e));
   }
     where
-      long : (k : ℕ) → 0 < k → pos 1 ≤ℤ pos k
-      long k l = omega (arith, ints)
-
       different : (q r : ℕ) → q < r → r < m.rows → at entries q ≡ at entries r → at entries q ≡ m.columns
       different q r l lr e = elim (has q (omega arith)) [
         | inr w ↦ w.1
@@ -133,10 +123,10 @@ module _ (m : Matrix) (s : Square) (column entries : List ℕ) (p : IsPermuted s
     | inl e ↦ elim (has r lr) [
       | inl w ↦ ap (λ b. cond b (pos d) (pos 0)) (eq-eqb (at entries r) c (w.1 ∙ e))
           ∙ sym (ap pos (ap (λ b. cond b (cond (ltb 0 (cell_at s.size s.given.items r c)) d 0) 0) (eq-eqb (at column r) c e)
-          ∙ ap (λ b. cond b d 0) (ltb-yes 0 (cell_at s.size s.given.items r c) (subst (λ k. 0 < cell_at s.size s.given.items r k) e w.0))))
+          ∙ ap (λ b. cond b d 0) (lt-ltb 0 (cell_at s.size s.given.items r c) (subst (λ k. 0 < cell_at s.size s.given.items r k) e w.0))))
       | inr w ↦ ap (λ b. cond b (pos d) (pos 0)) (ne_eqb (at entries r) c (λ q. omega (arith, w.1, q)))
           ∙ sym (ap pos (ap (λ b. cond b (cond (ltb 0 (cell_at s.size s.given.items r c)) d 0) 0) (eq-eqb (at column r) c e)
-          ∙ ap (λ b. cond b d 0) (ltb-no 0 (cell_at s.size s.given.items r c) (subst (λ k. cell_at s.size s.given.items r k ≤ 0) e (omega (arith, w.0))))))
+          ∙ ap (λ b. cond b d 0) (le-ltb 0 (cell_at s.size s.given.items r c) (subst (λ k. cell_at s.size s.given.items r k ≤ 0) e (omega (arith, w.0))))))
     ]
     | inr e ↦ ap (λ b. cond b (pos d) (pos 0)) (ne_eqb (at entries r) c (λ q. e (other q)))
         ∙ sym (ap pos (ap (λ b. cond b (cond (ltb 0 (cell_at s.size s.given.items r c)) d 0) 0) (ne_eqb (at column r) c e)))
@@ -191,16 +181,10 @@ IsSplit-end m s column owner slices h = record {
   cells = λ r c lr lc.
       let t = total_below-term s.size (λ k. stock s r k) c (omega (arith, lc, h.columns)) in
       let b = h.balanced.rows r (omega (arith, lr, h.rows)) in
-      nothing (total (time_at r c) slices) (cell m r c) (cell_at s.size s.given.items r c) (omega (arith, t, b)) (h.cells r c lr lc);
-  lengths = subst (IsGreatestSum m) (plain (total (λ y. y.length) slices)) h.lengths;
+      omega (arith, ints, t, b, h.cells r c lr lc);
+  lengths = subst (IsGreatestSum m) (+ℤ_idr (total (λ y. y.length) slices)) h.lengths;
   few = omega (arith, h.few, h.most);
 }
-  where
-    nothing : (a y : ℤ) (v : ℕ) → v ≡ 0 → a +ℤ pos v ≡ y → a ≡ y
-    nothing a y v z e = omega (arith, ints)
-
-    plain : (a : ℤ) → a +ℤ pos 0 ≡ a
-    plain a = omega (arith, ints)
 
 -- the same, as the lists are read
 pub IsSplitting-read : (m : Matrix) (s t : Square) (column column2 column3 owner owner2 entries : List ℕ) (slices slices2 : List Slice) (x : Slice) (left d : ℕ)
@@ -234,14 +218,8 @@ IsSplitting-start m s g column owner slices some size f p o e = subst (λ xs. Is
   balanced = f.balanced;
   outside = f.spread.outside;
   each = All-nil (IsSlice m.rows m.columns);
-  cells = λ r c lr lc. from_none (cell_at s.size s.given.items r c) (cell m r c) (f.spread.cells r c lr lc);
-  lengths = subst (IsGreatestSum m) (none_left g) (IsGreatestSum-square m s.size s.given.items g size.0 size.1 some f.spread f.greatest);
+  cells = λ r c lr lc. +ℤ_idl (pos (cell_at s.size s.given.items r c)) ∙ f.spread.cells r c lr lc;
+  lengths = subst (IsGreatestSum m) (sym (+ℤ_idl (pos g))) (IsGreatestSum-square m s.size s.given.items g size.0 size.1 some f.spread f.greatest);
   low = f.greatest.low;
   few = omega (arith, f.few);
 }
-  where
-    from_none : (v : ℕ) (y : ℤ) → pos v ≡ y → pos 0 +ℤ pos v ≡ y
-    from_none v y q = omega (arith, ints)
-
-    none_left : (v : ℕ) → pos v ≡ pos 0 +ℤ pos v
-    none_left v = omega (arith, ints)

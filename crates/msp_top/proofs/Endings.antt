@@ -7,21 +7,19 @@ use Rattle.msp_io.specs.declared.whole.WriteFault.{WriteFault}
 use Rattle.msp_report.specs.RowsText.{rows_report}
 use Rattle.msp_top.specs.declared.answers.Report.{Report}
 use Rattle.msp_top.specs.declared.refusal.Refusal.{Refusal}
-use Rattle.msp_top.specs.declared.notes.Note.TheVariants.{TooLong, Usage}
+use Rattle.msp_top.specs.declared.notes.Note.TheVariants.{TooLong}
 use Rattle.msp_top.specs.declared.command.Command.{Command}
 use Rattle.msp_top.specs.declared.command.Command.TheVariants.{Answer}
 use Rattle.msp_top.specs.declared.command.Request.{Request}
-use Rattle.msp_top.specs.declared.command.Request.TheVariants.{Rows, Trial as IsTrial, Labels, Command as IsCommand}
 use Rattle.msp_top.specs.declared.command.Trial.{Trial}
 use Rattle.msp_top.specs.declared.command.Question.TheVariants.{Label}
-use Rattle.msp_top.specs.declared.words.Misfit.{Misfit}
 use Rattle.msp_top.specs.Commands.{Asks, AsksForRows, AsksForTrial}
 use Rattle.msp_top.specs.Outcome.{Outcome, report}
 use Rattle.msp_top.specs.Trials.{TrialIsRight}
 use Rattle.msp_top.specs.Run.{Passed, limit_of, IsRightWithin, short, IsRightReport, of_input, of_trial, of_rows, Refuses}
 use Rattle.msp_top.specs.Run.{input_refused, past_the_limit, trial_refused}
 use Rattle.msp_top.specs.Note.{note_text}
-use Rattle.msp_top.specs.Refusals.{of_misfit, of_taken, of_write_fault, out_of_memory}
+use Rattle.msp_top.specs.Refusals.{of_taken, of_write_fault, out_of_memory}
 use Rattle.msp_top.specs.Answers.{Answers, IsInRange}
 use Rattle.msp_top.specs.Words.{AsksForLabels, ReadsWords}
 use Rattle.msp_top.specs.Ending.{unread, TakesMemory, to_answer, to_try, Serves, misfit, cannot_read, no_memory, refuses, cannot_write, writes}
@@ -31,41 +29,22 @@ use Rattle.msp_top.proofs.OutcomeStatuses.{within_status, trial_status}
 pub right_same : (command : Command) (passed input : List ℕ) (outcome : Outcome) → passed ≡ input → IsRightWithin command passed outcome → IsRightWithin command input outcome
 right_same command passed input outcome e h = let P : List ℕ → Type 0 = λ l. IsRightWithin command l outcome in subst P e h
 
-pub answered_same : (command : Command) (passed input : List ℕ) (first why : Refusal)
-    → passed ≡ input → why ≡ first → Answers (IsRightWithin command passed) (Err first) → Answers (IsRightWithin command input) (Err why)
-answered_same command passed input first why e same h =
-    subst (λ (l : List ℕ). Answers (IsRightWithin command l) (Err why)) e (subst (λ (r : Refusal). Answers (IsRightWithin command passed) (Err r)) (sym same) h)
+pub answered_same : (command : Command) (passed input : List ℕ) (why : Refusal)
+    → passed ≡ input → Answers (IsRightWithin command passed) (Err why) → Answers (IsRightWithin command input) (Err why)
+answered_same command passed input why e h = subst (λ (l : List ℕ). Answers (IsRightWithin command l) (Err why)) e h
 
 pub refused_is_no_usage : (command : Command) (input : List ℕ) (why : Refusal) → Answers (IsRightWithin command input) (Err why) → why.status ≢ 2
 refused_is_no_usage command input why (inl wanting) is = omega (arith, wanting.0, is)
 refused_is_no_usage command input why (inr right) is = omega (arith, (within_status command input _ right).0, is)
 
--- the same refusal
-serves_as : (words : List (List ℕ)) (call : Passed) (read wrote : Type 0) (first why : Refusal) → why ≡ first → Serves words call read wrote (Err first) → Serves words call read wrote (Err why)
-serves_as words call read wrote first why same h = subst (λ (r : Refusal). Serves words call read wrote (Err r)) (sym same) h
-
--- the words ask for nothing
-pub serves_misfit : (words : List (List ℕ)) (call : Passed) (read wrote : Type 0) (first : Misfit) (why : Refusal)
-    → ReadsWords words (Err first) → why ≡ of_misfit first → Serves words call read wrote (Err why)
-serves_misfit words call read wrote first why h same = serves_as words call read wrote _ why same (misfit (Usage first) h.0 h.1)
-
 -- there was no memory for the classes that are named
-pub serves_unnamed : (words : List (List ℕ)) (call : Passed) (read wrote : Type 0) (why : Refusal) → call.gave [] → AsksForLabels words → why ≡ out_of_memory → Serves words call read wrote (Err why)
-serves_unnamed words call read wrote why untouched (classes, asked) same =
-    serves_as words call read wrote _ why same (no_memory out_of_memory (to_answer (Answer (Label classes)) asked ([], inl untouched, omega arith)) (refl, refl))
+pub serves_unnamed : (words : List (List ℕ)) (call : Passed) (read wrote : Type 0) → call.gave [] → AsksForLabels words → Serves words call read wrote (Err out_of_memory)
+serves_unnamed words call read wrote untouched (classes, asked) =
+    no_memory out_of_memory (to_answer (Answer (Label classes)) asked ([], inl untouched, omega arith)) (refl, refl)
 
 -- what the words ask for, as the code has taken it apart
-pub asks_for_rows : (words : List (List ℕ)) (request : Request) → ReadsWords words (Ok request) → request ≡ Rows → AsksForRows words
-asks_for_rows words request h e = let P : Request → Type 0 = λ r. ReadsWords words (Ok r) in subst P e h
-
-pub asks_for_labels : (words : List (List ℕ)) (request : Request) → ReadsWords words (Ok request) → request ≡ Labels → AsksForLabels words
-asks_for_labels words request h e = let P : Request → Type 0 = λ r. ReadsWords words (Ok r) in subst P e h
-
-pub asks_for : (words : List (List ℕ)) (request : Request) (command : Command) → ReadsWords words (Ok request) → request ≡ IsCommand command → Asks words command
-asks_for words request command h e = let P : Request → Type 0 = λ r. ReadsWords words (Ok r) in subst P e h
-
-pub asks_for_trial : (words : List (List ℕ)) (request : Request) (trial : Trial) → ReadsWords words (Ok request) → request ≡ IsTrial trial → AsksForTrial words trial
-asks_for_trial words request trial h e = let P : Request → Type 0 = λ r. ReadsWords words (Ok r) in subst P e h
+pub reads_as : (words : List (List ℕ)) (first request : Request) → ReadsWords words (Ok first) → first ≡ request → ReadsWords words (Ok request)
+reads_as words first request h e = let P : Request → Type 0 = λ r. ReadsWords words (Ok r) in subst P e h
 
 pub trial_in_range : (words : List (List ℕ)) (trial : Trial) → AsksForTrial words trial → IsInRange trial
 trial_in_range words trial h = record { jobs = (h.jobs.low, h.jobs.high); seed = h.seed.high }
@@ -81,7 +60,7 @@ pub serves_taken : (words : List (List ℕ)) (call : Passed) (read wrote : Type 
     (bytes : List ℕ) × IsStop call.gave call.broke cause limit bytes → Serves words call read wrote (Err why)
 serves_taken words call read wrote command limit cause why asked same e failed stop =
     let Q : ℕ → Type 0 = λ n. (bytes : List ℕ) × IsStop call.gave call.broke cause n bytes in
-    serves_as words call read wrote _ why (e ∙ ap (λ n. of_taken n cause) same) (by_cause cause failed (subst Q same stop))
+    subst (λ (r : Refusal). Serves words call read wrote (Err r)) (sym (e ∙ ap (λ n. of_taken n cause) same)) (by_cause cause failed (subst Q same stop))
   where
     by_cause : (cause : Taken) → (cause ≡ taken.ReadFault → read)
         → (bytes : List ℕ) × IsStop call.gave call.broke cause (limit_of command) bytes → Serves words call read wrote (Err (of_taken (limit_of command) cause))
@@ -99,7 +78,7 @@ serves_refused words call read wrote command input why asked given within (inr r
     refuses why.status why.note range.0 range.1 (input_refused command input why.status (note_text why.note) asked given within right)
 
 -- the report of the whole input is right
-right_report : (words : List (List ℕ)) (call : Passed) (command : Command) (input : List ℕ) (made : Report) → Asks words command → call.finished input → length input ≤ limit_of command →
+pub right_report : (words : List (List ℕ)) (call : Passed) (command : Command) (input : List ℕ) (made : Report) → Asks words command → call.finished input → length input ≤ limit_of command →
     IsRightWithin command input (report made.status made.text.items) → IsRightReport words call made.status made.text.items
 right_report words call command input made asked given within right = of_input command input made.status made.text.items asked given (short _ within right)
 
@@ -110,48 +89,28 @@ pub serves_written : (words : List (List ℕ)) (call : Passed) (read wrote : Typ
 serves_written words call read wrote command input made bytes asked given within right e grown =
     writes made.status (within_status command input _ right) (made.text.items, right_report words call command input made asked given within right, subst call.took e grown)
 
-breaks_off : (words : List (List ℕ)) (call : Passed) (read wrote : Type 0) (status : ℕ) (text bytes : List ℕ) (fault : WriteFault) (why : Refusal)
-    → IsRightReport words call status text → bytes ≡ text → Puts call.took call.broke_off bytes (Err fault) → wrote → why ≡ of_write_fault → Serves words call read wrote (Err why)
-breaks_off words call read wrote status text bytes fault why right e put failed is =
+pub breaks_off : (words : List (List ℕ)) (call : Passed) (read wrote : Type 0) (status : ℕ) (text bytes : List ℕ) (fault : WriteFault)
+    → IsRightReport words call status text → bytes ≡ text → Puts call.took call.broke_off bytes (Err fault) → wrote → Serves words call read wrote (Err of_write_fault)
+breaks_off words call read wrote status text bytes fault right e put failed =
     let all : Puts call.took call.broke_off text (Err fault) = subst (λ b. Puts call.took call.broke_off b (Err fault)) e put in
-    serves_as words call read wrote _ why is (cannot_write (record { status = status; text = text; count = all.stopped.0; right = right; short = all.stopped.1; part = all.stopped.2 }) failed)
-
--- a report was begun, and the sink failed
-pub serves_broken : (words : List (List ℕ)) (call : Passed) (read wrote : Type 0) (command : Command) (input : List ℕ) (made : Report) (bytes : List ℕ) (fault : WriteFault) (why : Refusal)
-    → Asks words command → call.finished input →
-    length input ≤ limit_of command → IsRightWithin command input (report made.status made.text.items)
-    → bytes ≡ made.text.items → Puts call.took call.broke_off bytes (Err fault) → wrote → why ≡ of_write_fault → Serves words call read wrote (Err why)
-serves_broken words call read wrote command input made bytes fault why asked given within right e put failed is =
-    breaks_off words call read wrote made.status made.text.items bytes fault why (right_report words call command input made asked given within right) e put failed is
+    cannot_write (record { status = status; text = text; count = all.stopped.0; right = right; short = all.stopped.1; part = all.stopped.2 }) failed
 
 -- the table of rows was written whole, or the sink failed
 pub serves_rows : (words : List (List ℕ)) (call : Passed) (read wrote : Type 0) (bytes : List ℕ) → AsksForRows words → bytes ≡ rows_report → call.took bytes → Serves words call read wrote (Ok 0)
 serves_rows words call read wrote bytes asked e grown = writes 0 (omega arith) (rows_report, of_rows asked, subst call.took e grown)
 
-pub serves_rows_broken : (words : List (List ℕ)) (call : Passed) (read wrote : Type 0) (bytes : List ℕ) (fault : WriteFault) (why : Refusal) → AsksForRows words
-    → bytes ≡ rows_report → Puts call.took call.broke_off bytes (Err fault) → wrote → why ≡ of_write_fault → Serves words call read wrote (Err why)
-serves_rows_broken words call read wrote bytes fault why asked e put failed is = breaks_off words call read wrote 0 rows_report bytes fault why (of_rows asked) e put failed is
-
 -- a trial was not solved, or memory was wanting
-pub serves_untried : (words : List (List ℕ)) (call : Passed) (read wrote : Type 0) (trial : Trial) (first why : Refusal)
-    → AsksForTrial words trial → Answers (TrialIsRight trial) (Err first) → why ≡ first → Serves words call read wrote (Err why)
-serves_untried words call read wrote trial first why asked h same = serves_as words call read wrote first why same (by_cause h)
-  where
-    by_cause : Answers (TrialIsRight trial) (Err first) → Serves words call read wrote (Err first)
-    by_cause (inl memory) = no_memory first (to_try trial asked) memory
-    by_cause (inr right) = let range = trial_status trial _ right in refuses first.status first.note range.0 range.1 (trial_refused trial first.status (note_text first.note) asked right)
+pub serves_untried : (words : List (List ℕ)) (call : Passed) (read wrote : Type 0) (trial : Trial) (why : Refusal)
+    → AsksForTrial words trial → Answers (TrialIsRight trial) (Err why) → Serves words call read wrote (Err why)
+serves_untried words call read wrote trial why asked (inl memory) = no_memory why (to_try trial asked) memory
+serves_untried words call read wrote trial why asked (inr right) =
+    let range = trial_status trial _ right in refuses why.status why.note range.0 range.1 (trial_refused trial why.status (note_text why.note) asked right)
 
 -- the report of a trial was written whole, or the sink failed
 pub serves_trial : (words : List (List ℕ)) (call : Passed) (read wrote : Type 0) (trial : Trial) (made : Report) (bytes : List ℕ) → AsksForTrial words trial
     → TrialIsRight trial (report made.status made.text.items) → bytes ≡ made.text.items → call.took bytes → Serves words call read wrote (Ok made.status)
 serves_trial words call read wrote trial made bytes asked right e grown =
     writes made.status (trial_status trial _ right) (made.text.items, of_trial trial made.status made.text.items asked right, subst call.took e grown)
-
-pub serves_trial_broken : (words : List (List ℕ)) (call : Passed) (read wrote : Type 0) (trial : Trial) (made : Report) (bytes : List ℕ) (fault : WriteFault) (why : Refusal)
-    → AsksForTrial words trial → TrialIsRight trial (report made.status made.text.items)
-    → bytes ≡ made.text.items → Puts call.took call.broke_off bytes (Err fault) → wrote → why ≡ of_write_fault → Serves words call read wrote (Err why)
-serves_trial_broken words call read wrote trial made bytes fault why asked right e put failed is =
-    breaks_off words call read wrote made.status made.text.items bytes fault why (of_trial trial made.status made.text.items asked right) e put failed is
 
 -- ---- what serving without the source says is so whatever the source gave
 report_of_any : (words : List (List ℕ)) (call : Passed) (status : ℕ) (text : List ℕ) → IsRightReport words (unread call.took call.broke_off) status text → IsRightReport words call status text

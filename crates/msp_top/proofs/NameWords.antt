@@ -10,11 +10,8 @@ use Rattle.msp_class.specs.declared.class.Class.{Class}
 use Rattle.msp_name.specs.declared.fault.NameFault.{NameFault}
 use Rattle.msp_name.specs.Names.{NameOf}
 use Rattle.msp_name.specs.Reading.{reading_of}
-use Rattle.msp_top.specs.declared.words.Misfit.{Misfit}
 use Rattle.msp_top.specs.Commands.{IsNameWord}
 use Rattle.msp_top.specs.Usage.{names_text, name_then, text_of_reading, misspelled_text, misfit_text}
-use Rattle.msp_top.specs.Note.{usage_note}
-use Rattle.msp_top.specs.Words.{AreNames}
 
 -- the text of a word that is to be a name, where it is short
 pub name_then-short : (place : ℕ) (word later : List ℕ) → length word < PLACES → name_then place word later ≡ text_of_reading place (reading_of word) later
@@ -64,11 +61,8 @@ HasNames-next f xs k x word c l is e named step h = record {
   front = subst (λ ws. AllZip IsNameWord ws (h.classes ++ c ∷ []))
       (sym (front_at f xs k x l is)) (AllZip-more IsNameWord (take k (map f xs)) h.classes (f x) c h.front (subst (λ w. IsNameWord w c) e named));
   text = h.text ∙ ap (names_text (k + 2)) (rest_at f xs k x l is) ∙ ap (λ w. names_text (k + 2) (w ∷ drop (k + 1) (map f xs))) (sym e)
-      ∙ step (names_text ((k + 2) + 1) (drop (k + 1) (map f xs))) ∙ ap (λ n. names_text n (drop (k + 1) (map f xs))) (places k);
+      ∙ step (names_text ((k + 2) + 1) (drop (k + 1) (map f xs))) ∙ ap (λ n. names_text n (drop (k + 1) (map f xs))) (omega arith);
 }
-  where
-    places : (k : ℕ) → (k + 2) + 1 ≡ (k + 1) + 2
-    places k = omega arith
 
 pub HasNames-fault : {X : Type 0} (f : X → List ℕ) (xs : List X) (k : ℕ) (x : X) (word text : List ℕ) → k < length xs → x ≡ get_or xs k x → word ≡ f x →
     ((later : List ℕ) → text ≡ name_then (k + 2) word later) → HasNames (map f xs) k → text ≡ names_text 2 (map f xs)
@@ -93,20 +87,7 @@ classes_more f xs k x word c before after l is e named grown h =
 pub all_classes : (words : List (List ℕ)) (k : ℕ) (classes : List Class) → k ≡ length words → AllZip IsNameWord (take k words) classes → AllZip IsNameWord words classes
 all_classes words k classes all h = subst (λ ws. AllZip IsNameWord ws classes) (take_all k words (omega (arith, all))) h
 
--- all words are names
-pub are_names : (words : List (List ℕ)) (k : ℕ) (done : Unit {0}) → k ≡ length words → HasNames words k → AreNames words (Ok done)
-are_names words k done all h = (h.classes, all_classes words k h.classes all h.front)
-
--- a word that is no name
-pub refuses_names : (words : List (List ℕ)) (first why : Misfit)
-    → usage_note first ≡ names_text 2 words → ((classes : List Class) → ¬ AllZip IsNameWord words classes) → why ≡ first → AreNames words (Err why)
-refuses_names words first why text none is =
-    subst (λ (r : Misfit). AreNames words (Err r)) (sym is) (none, text)
-
 -- a word that is refused is no name
 pub no_name_word : (word bytes : List ℕ) (r : Result Class NameFault) (fault : NameFault)
     → bytes ≡ word → r ≡ Err fault → ((c : Class) → (r ≡ Ok c) ↔ NameOf bytes c) → (c : Class) → ¬ IsNameWord word c
-no_name_word word bytes r fault e is named c h = ok_is_not_err (sym ((named c).1 (subst (λ w. NameOf w c) (sym e) h.named)) ∙ is)
-  where
-    ok_is_not_err : {d : Class} {f : NameFault} → Ok d ≡ Err f → ⊥
-    ok_is_not_err q = cc
+no_name_word word bytes r fault e is named c h = let read = (named c).1 (subst (λ w. NameOf w c) (sym e) h.named) in absurd cc

@@ -57,7 +57,6 @@ pub rows_are_no_command : {X : Type 0} (words : List (List ℕ)) (command : Comm
 rows_are_no_command words command h asked = by_command command (cons_heads (sym h ∙ (asks_first words command asked).1))
   where
     by_command : {X : Type 0} (command : Command) → rows_word ≡ first_word command → X
-    by_command Check e = not_word rows_word check_word refl e
     by_command (Answer Frontier) e = not_word rows_word frontier_word refl e
     by_command command e = not_word rows_word (first_word command) refl e
 

@@ -1,11 +1,7 @@
 -- The statuses of right outcomes: 0 or 1 of a report, 3 to 6 of a refusal.
-use Rattle.std.proofs.Common.{◌≢◌, ℕ, ◌≤◌, List, Option, refl, arith}
-use Rattle.msp_class.specs.declared.class.Class.{Class}
+use Rattle.std.proofs.Common.{◌≢◌, ℕ, ◌≤◌, List, refl, arith}
 use Rattle.msp_grammar.specs.declared.lines.fault.FileFault.{FileFault}
 use Rattle.msp_grammar.specs.declared.lines.fault.FileFault.TheVariants.{Memory as FileMemory}
-use Rattle.msp_instance.specs.declared.Instance.{Instance}
-use Rattle.msp_grammar.specs.declared.filed.Stated.{Stated}
-use Rattle.msp_closure.specs.declared.entry.Entry.{Entry}
 use Rattle.msp_dispatch.specs.declared.Cannot.{Cannot}
 use Rattle.msp_dispatch.specs.declared.Cannot.TheVariants.{Memory as CannotMemory}
 use Rattle.msp_dispatch.specs.declared.Uncertified.{Uncertified}
@@ -15,17 +11,15 @@ use Rattle.msp_results.specs.declared.fault.ResultFault.TheVariants.{Memory}
 use Rattle.msp_top.specs.declared.command.Command.{Command}
 use Rattle.msp_top.specs.declared.command.Command.TheVariants.{Solve, Certify, Check, Accept, Answer}
 use Rattle.msp_top.specs.declared.command.Trial.{Trial}
-use Rattle.msp_top.specs.declared.command.Question.{Question}
 use Rattle.msp_top.specs.Files.{file_status}
 use Rattle.msp_top.specs.Cannots.{cannot_status, uncertified_status}
 use Rattle.msp_top.specs.Results.{results_status}
 use Rattle.msp_top.specs.Outcome.{Outcome, report, refusal}
-use Rattle.msp_top.specs.Solves.{SolveIsRight, solved, misread, unsolved}
-use Rattle.msp_top.specs.Certifies.{CertifyIsRight, certified, misread as misread_instance, uncertified}
-use Rattle.msp_top.specs.Checks.{HasCheckStatus, holds, fails, CheckIsRight, checked, misread_front, unchecked, misread_rest}
-use Rattle.msp_cert.specs.declared.Certificate.{Certificate}
-use Rattle.msp_top.specs.Accepts.{IsAcceptReport, accepted, rejected, AcceptIsRight, judged, misread_front as misread_first, misread_rest as misread_later}
-use Rattle.msp_top.specs.Reports.{HasClashStatus, contradicts, agrees, ReadsResults, reported, misread as misread_results}
+use Rattle.msp_top.specs.Solves.{solved, misread, unsolved}
+use Rattle.msp_top.specs.Certifies.{certified, misread as misread_instance, uncertified}
+use Rattle.msp_top.specs.Checks.{holds, fails, checked, misread_front, unchecked, misread_rest}
+use Rattle.msp_top.specs.Accepts.{accepted, rejected, judged, misread_front as misread_first, misread_rest as misread_later}
+use Rattle.msp_top.specs.Reports.{contradicts, agrees, reported, misread as misread_results}
 use Rattle.msp_top.specs.Trials.{TrialIsRight, solved as trial_solved, unsolved as trial_unsolved}
 use Rattle.msp_top.specs.Run.{IsRightWithin}
 
@@ -49,49 +43,25 @@ uncertified_range : (why : Uncertified) → why ≢ CertifyMemory → (3 ≤ unc
 uncertified_range CertifyMemory other = absurd (other refl)
 uncertified_range _ other = (omega arith, omega arith)
 
-certify_status : (input : List ℕ) (outcome : Outcome) → CertifyIsRight input outcome → HasStatus outcome
-certify_status input (report status text) (certified t is) = omega arith
-certify_status input (refusal status note) (misread_instance fault other first) = file_range fault other
-certify_status input (refusal status note) (uncertified names i why read other h) = uncertified_range why other
-
-solve_status : (input : List ℕ) (at : Option Class) (outcome : Outcome) → SolveIsRight input at outcome → HasStatus outcome
-solve_status input at (report status text) (solved t is) = omega arith
-solve_status input at (refusal status note) (misread fault other first) = file_range fault other
-solve_status input at (refusal status note) (unsolved names i cannot read other fault) = cannot_range cannot other
-
-feasible_status : (i : Instance) (s : Stated) (status : ℕ) → HasCheckStatus i s status → status ≤ 1
-feasible_status i s status (holds h e) = omega arith
-feasible_status i s status (fails h) = omega arith
-
-judged_status : (i : Instance) (c : Certificate) (status : ℕ) (text : List ℕ) → IsAcceptReport i c status text → status ≤ 1
-judged_status i c status text (accepted t h r) = omega arith
-judged_status i c status text (rejected t h r) = omega arith
-
-check_status : (input : List ℕ) (outcome : Outcome) → CheckIsRight input outcome → HasStatus outcome
-check_status input (report status text) (checked filed s line rest n t begins may read is r) = feasible_status filed.instance s status is
-check_status input (refusal status note) (misread_front fault other first) = file_range fault other
-check_status input (refusal status note) (unchecked filed line rest begins cut) = (omega arith, omega arith)
-check_status input (refusal status note) (misread_rest filed line rest fault begins may other first) = file_range fault other
-
-accept_status : (input : List ℕ) (outcome : Outcome) → AcceptIsRight input outcome → HasStatus outcome
-accept_status input (report status text) (judged filed c line rest n t begins read is) = judged_status filed.instance c status text is
-accept_status input (refusal status note) (misread_first fault other first) = file_range fault other
-accept_status input (refusal status note) (misread_later filed line rest fault begins other first) = file_range fault other
-
-clash_status : (entries : List Entry) (status : ℕ) → HasClashStatus entries status → status ≤ 1
-clash_status entries status (contradicts h) = omega arith
-clash_status entries status (agrees h g) = omega arith
-
-question_status : (question : Question) (input : List ℕ) (outcome : Outcome) → ReadsResults question input outcome → HasStatus outcome
-question_status question input (report status text) (reported entries s t read is r) = clash_status entries status is
-question_status question input (refusal status note) (misread_results fault other first) = results_range fault other
-
 pub within_status : (command : Command) (input : List ℕ) (outcome : Outcome) → IsRightWithin command input outcome → HasStatus outcome
-within_status (Solve at) input outcome h = solve_status input at outcome h
-within_status Certify input outcome h = certify_status input outcome h
-within_status Check input outcome h = check_status input outcome h
-within_status Accept input outcome h = accept_status input outcome h
-within_status (Answer question) input outcome h = question_status question input outcome h
+within_status (Solve at) input (report status text) (solved t is) = omega arith
+within_status (Solve at) input (refusal status note) (misread fault other first) = file_range fault other
+within_status (Solve at) input (refusal status note) (unsolved names i cannot read other fault) = cannot_range cannot other
+within_status Certify input (report status text) (certified t is) = omega arith
+within_status Certify input (refusal status note) (misread_instance fault other first) = file_range fault other
+within_status Certify input (refusal status note) (uncertified names i why read other h) = uncertified_range why other
+within_status Check input (report status text) (checked filed s line rest n t begins may read (holds h e) r) = omega arith
+within_status Check input (report status text) (checked filed s line rest n t begins may read (fails h) r) = omega arith
+within_status Check input (refusal status note) (misread_front fault other first) = file_range fault other
+within_status Check input (refusal status note) (unchecked filed line rest begins cut) = (omega arith, omega arith)
+within_status Check input (refusal status note) (misread_rest filed line rest fault begins may other first) = file_range fault other
+within_status Accept input (report status text) (judged filed c line rest n t begins read (accepted u h r)) = omega arith
+within_status Accept input (report status text) (judged filed c line rest n t begins read (rejected u h r)) = omega arith
+within_status Accept input (refusal status note) (misread_first fault other first) = file_range fault other
+within_status Accept input (refusal status note) (misread_later filed line rest fault begins other first) = file_range fault other
+within_status (Answer question) input (report status text) (reported entries s t read (contradicts h) r) = omega arith
+within_status (Answer question) input (report status text) (reported entries s t read (agrees h g) r) = omega arith
+within_status (Answer question) input (refusal status note) (misread_results fault other first) = results_range fault other
 
 pub trial_status : (trial : Trial) (outcome : Outcome) → TrialIsRight trial outcome → HasStatus outcome
 trial_status trial (report status text) (trial_solved answer t answered e) = omega arith

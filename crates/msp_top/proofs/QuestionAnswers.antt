@@ -1,10 +1,7 @@
 -- The answers to questions about a file of results.
-use Rattle.std.proofs.Common.{◌≡◌, ℕ, ◌+◌, ◌<◌, List, [], ◌∷◌, ◌++◌, length, get_or, Bool, true, false, Option, Some, None, IfOk, is_some, Result, Ok, Err, ◌⊎◌, inl, inr, refl}
-use Rattle.std.proofs.Common.{sym, ap, ◌∙◌, subst, arith}
+use Rattle.std.proofs.Common.{◌≡◌, ℕ, ◌<◌, List, [], ◌∷◌, length, Bool, true, false, Option, Some, None, IfOk, is_some, Result, Ok, Err, ◌⊎◌, inl, inr, refl}
+use Rattle.std.proofs.Common.{sym, ◌∙◌}
 use Rattle.std.specs.Prelude.{slice_index_or}
-use Rattle.std.proofs.lemmas.Bool.{cases_lt}
-use Rattle.std.proofs.lemmas.List.{get_or_append_left, length-append}
-use Rattle.std.proofs.Math.Seq.{get_or-append_seam}
 use Rattle.msp_class.specs.declared.class.Class.{Class}
 use Rattle.msp_class.specs.Rank.{rank_of}
 use Rattle.msp_table.specs.declared.row.Chain.{Chain}
@@ -21,9 +18,7 @@ use Rattle.msp_results.specs.declared.fault.ResultFault.{ResultFault}
 use Rattle.msp_results.specs.declared.fault.ResultFault.TheVariants.{Memory}
 use Rattle.msp_results.specs.Reading.{results_of}
 use Rattle.msp_top.specs.declared.command.Question.{Question}
-use Rattle.msp_top.specs.declared.refusal.Refusal.{Refusal}
-use Rattle.msp_top.specs.Results.{AreAllClasses}
-use Rattle.msp_top.specs.Reports.{AreClashes, HasClashStatus, contradicts, agrees, AreShown, IsLabelReport, IsFrontierReport, IsWhyReport, ReadsResults, misread}
+use Rattle.msp_top.specs.Reports.{AreClashes, HasClashStatus, contradicts, agrees, IsFrontierReport, IsWhyReport, ReadsResults, misread}
 use Rattle.msp_top.specs.Refusals.{of_result_fault}
 use Rattle.msp_top.specs.Answers.{Answers}
 
@@ -31,21 +26,6 @@ use Rattle.msp_top.specs.Answers.{Answers}
 pub record HasClasses (classes : List Class) (n : ℕ) : Type 0 where
   pub all : length classes ≡ n
   pub ranks : (k : ℕ) (d : Class) → k < length classes → rank_of (slice_index_or classes k d) ≡ k
-
-pub HasClasses-none : HasClasses [] 0
-HasClasses-none = record { all = refl; ranks = λ k d l. absurd (omega (arith, l)) }
-
-last_rank : (xs : List Class) (c d : Class) (k : ℕ) → k ≡ length xs → get_or (xs ++ c ∷ []) k d ≡ c
-last_rank xs c d k e = ap (λ n. get_or (xs ++ c ∷ []) n d) e ∙ get_or-append_seam xs c [] d
-
-pub HasClasses-next : (xs ys : List Class) (n : ℕ) (c : Class) → rank_of c ≡ n → ys ≡ xs ++ c ∷ [] → HasClasses xs n → HasClasses ys (n + 1)
-HasClasses-next xs ys n c rank e h = subst (λ zs. HasClasses zs (n + 1)) (sym e) (record { all = omega (arith, length-append xs (c ∷ []), h.all); ranks = ranks })
-  where
-    ranks : (k : ℕ) (d : Class) → k < length (xs ++ c ∷ []) → rank_of (slice_index_or (xs ++ c ∷ []) k d) ≡ k
-    ranks k d l = elim (cases_lt k (length xs)) [
-      | inl lower ↦ ap rank_of (get_or_append_left xs (c ∷ []) d k lower) ∙ h.ranks k d lower
-      | inr upper ↦ ap rank_of (last_rank xs c d k (omega (arith, length-append xs (c ∷ [])))) ∙ rank ∙ omega (arith, length-append xs (c ∷ []), h.all)
-    ]
 
 -- ---- the status
 
@@ -64,18 +44,6 @@ pub status_none : (entries : List Entry) (clash strong_clash : Option Chain) →
 status_none entries None None e f h = agrees h.clash_is h.strong_clash_is
 status_none entries None (Some strong_clash) e f h = cc
 status_none entries (Some clash) strong_clash e f h = cc
-
--- ---- the labels
-
-pub all_shown : {V E : Type 0} (items : V → List ℕ) (classes all : List Class) (entries : List Entry) (r : Result V E) → length classes ≡ 0 → AreAllClasses all →
-    ((shown : List Class) → AreShown shown all → IfOk r (λ text. IsLabelReport shown entries (items text))) → IfOk r (λ text. IsLabelReport classes entries (items text))
-all_shown items [] all entries r l h report = report [] h
-all_shown items (c ∷ cs) all entries r l h report = absurd (omega (arith, l))
-
-pub named_shown : {V E : Type 0} (items : V → List ℕ) (classes : List Class) (entries : List Entry) (r : Result V E) → (length classes ≡ 0 → ⊥) →
-    ((shown : List Class) → AreShown shown classes → IfOk r (λ text. IsLabelReport shown entries (items text))) → IfOk r (λ text. IsLabelReport classes entries (items text))
-named_shown items [] entries r l report = absurd (l refl)
-named_shown items (c ∷ cs) entries r l report = report (c ∷ cs) refl
 
 -- ---- the frontier
 
@@ -122,8 +90,7 @@ first_fault question input fault (inr first) = inr (misread fault (λ e. cc) fir
 err_same : {T : Type 0} {a b : ResultFault} {r : Result T ResultFault} → r ≡ Err a → r ≡ Err b → a ≡ b
 err_same p q = cc
 
-pub misread_right : (question : Question) (input : List ℕ) (r : Result (List Entry) ResultFault) (fault : ResultFault) (why : Refusal)
-    → r ≡ Err fault → (r ≡ Err Memory) ⊎ (r ≡ results_of input) → why ≡ of_result_fault fault → Answers (ReadsResults question input) (Err why)
-misread_right question input r fault why is reading e =
-    let Q : Refusal → Type 0 = λ w. Answers (ReadsResults question input) (Err w) in
-    subst Q (sym e) (first_fault question input fault (elim reading [ inl memory ↦ inl (err_same is memory) | inr same ↦ inr (sym same ∙ is) ]))
+pub misread_right : (question : Question) (input : List ℕ) (r : Result (List Entry) ResultFault) (fault : ResultFault)
+    → r ≡ Err fault → (r ≡ Err Memory) ⊎ (r ≡ results_of input) → Answers (ReadsResults question input) (Err (of_result_fault fault))
+misread_right question input r fault is reading =
+    first_fault question input fault (elim reading [ inl memory ↦ inl (err_same is memory) | inr same ↦ inr (sym same ∙ is) ])

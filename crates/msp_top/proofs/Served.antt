@@ -51,45 +51,37 @@ serves_usage words call read wrote r (cannot_write h failed) = (λ is. absurd (o
 serves_usage words call read wrote r (writes status small (text, right, grown)) = (λ is. absurd (omega (arith, is, small)), λ none. no_report words call status text none right)
 
 pub serves_report : (words : List (List ℕ)) (call : Passed) (read wrote : Type 0) (r : Result ℕ Refusal) → Serves words call read wrote r → status_of r ≤ 1 → Reports words call (status_of r)
-serves_report words call read wrote r (misfit n h text) low = absurd (omega (arith, low))
-serves_report words call read wrote r (cannot_read command asked few rose) low = absurd (omega (arith, low))
+serves_report words call read wrote r (writes status small h) low = h
 serves_report words call read wrote r (no_memory why takes memory) low = absurd (omega (arith, low, memory.0))
 serves_report words call read wrote r (refuses status note from to h) low = absurd (omega (arith, low, from))
-serves_report words call read wrote r (cannot_write h failed) low = absurd (omega (arith, low))
-serves_report words call read wrote r (writes status small h) low = h
+serves_report words call read wrote r _ low = absurd (omega (arith, low))
 
 -- a refusal has a status from 2 on
 pub refusal_is_high : {X : Type 0} (words : List (List ℕ)) (call : Passed) (read wrote : Type 0) (why : Refusal) → Serves words call read wrote (Err why) → why.status ≤ 1 → X
-refusal_is_high words call read wrote why (misfit n h text) low = absurd (omega (arith, low))
-refusal_is_high words call read wrote why (cannot_read command asked few rose) low = absurd (omega (arith, low))
 refusal_is_high words call read wrote why (no_memory w takes memory) low = absurd (omega (arith, low, memory.0))
 refusal_is_high words call read wrote why (refuses status note from to h) low = absurd (omega (arith, low, from))
-refusal_is_high words call read wrote why (cannot_write h failed) low = absurd (omega (arith, low))
+refusal_is_high words call read wrote why _ low = absurd (omega (arith, low))
 
 pub report_is_low : (words : List (List ℕ)) (call : Passed) (read wrote : Type 0) (status : ℕ) → Serves words call read wrote (Ok status) → status ≤ 1
 report_is_low words call read wrote status (writes n small h) = small
 
 pub serves_refusal : (words : List (List ℕ)) (call : Passed) (read wrote : Type 0) (why : Refusal)
     → Serves words call read wrote (Err why) → 3 ≤ why.status → why.status ≤ 6 → (note : List ℕ) × Refuses words call why.status note
-serves_refusal words call read wrote why (misfit n h text) low high = absurd (omega (arith, low))
-serves_refusal words call read wrote why (cannot_read command asked few rose) low high = absurd (omega (arith, high))
-serves_refusal words call read wrote why (no_memory w takes memory) low high = absurd (omega (arith, high, memory.0))
 serves_refusal words call read wrote why (refuses status note from to h) low high = (note_text note, h)
-serves_refusal words call read wrote why (cannot_write h failed) low high = absurd (omega (arith, high))
+serves_refusal words call read wrote why (no_memory w takes memory) low high = absurd (omega (arith, high, memory.0))
+serves_refusal words call read wrote why _ low high = absurd (omega (arith, low, high))
 
 pub serves_read_fault : (words : List (List ℕ)) (call : Passed) (read wrote : Type 0) (why : Refusal) → Serves words call read wrote (Err why) → why.status ≡ 7 → BreaksReading words call × read
-serves_read_fault words call read wrote why (misfit n h text) is = absurd (omega (arith, is))
 serves_read_fault words call read wrote why (cannot_read command asked few rose) is = ((command, asked, few), rose)
 serves_read_fault words call read wrote why (no_memory w takes memory) is = absurd (omega (arith, is, memory.0))
 serves_read_fault words call read wrote why (refuses status note from to h) is = absurd (omega (arith, is, to))
-serves_read_fault words call read wrote why (cannot_write h failed) is = absurd (omega (arith, is))
+serves_read_fault words call read wrote why _ is = absurd (omega (arith, is))
 
 pub serves_write_fault : (words : List (List ℕ)) (call : Passed) (read wrote : Type 0) (why : Refusal) → Serves words call read wrote (Err why) → why.status ≡ 8 → BreaksOff words call × wrote
-serves_write_fault words call read wrote why (misfit n h text) is = absurd (omega (arith, is))
-serves_write_fault words call read wrote why (cannot_read command asked few rose) is = absurd (omega (arith, is))
+serves_write_fault words call read wrote why (cannot_write h failed) is = (h, failed)
 serves_write_fault words call read wrote why (no_memory w takes memory) is = absurd (omega (arith, is, memory.0))
 serves_write_fault words call read wrote why (refuses status note from to h) is = absurd (omega (arith, is, to))
-serves_write_fault words call read wrote why (cannot_write h failed) is = (h, failed)
+serves_write_fault words call read wrote why _ is = absurd (omega (arith, is))
 
 -- where the source tells what is left, what it gave to its end is all of that, and what it gave is no longer
 pub record AreTold (call : Passed) (left : Option (List ℕ)) : Type 0 where
@@ -154,12 +146,11 @@ serves_due words call read wrote left r told (writes status small (text, right, 
 pub serves_few : (words : List (List ℕ)) (call : Passed) (read wrote : Type 0) (r : Result ℕ Refusal)
     → Serves words call read wrote r → status_of r ≡ 9 → (command : Command) → Asks words command → AtMost (was_read call) (limit_of command)
 serves_few words call read wrote r (misfit n h text) is command asked = absurd (h.no_command command asked)
-serves_few words call read wrote r (cannot_read other asks few rose) is command asked = absurd (omega (arith, is))
 serves_few words call read wrote r (no_memory why (to_answer other asks few) wanting) is command asked = subst (λ c. AtMost (was_read call) (limit_of c)) (asks_once words other command asks asked) few
 serves_few words call read wrote r (no_memory why (to_try trial asks) wanting) is command asked = trial_is_no_command words trial command asks asked
 serves_few words call read wrote r (refuses status note from to h) is command asked = absurd (omega (arith, is, to))
-serves_few words call read wrote r (cannot_write h failed) is command asked = absurd (omega (arith, is))
 serves_few words call read wrote r (writes status small h) is command asked = absurd (omega (arith, is, small))
+serves_few words call read wrote r _ is command asked = absurd (omega (arith, is))
 
 -- the table of rows is written, or the sink failed
 rows_status : (words : List (List ℕ)) (call : Passed) (status : ℕ) (text : List ℕ) → AsksForRows words → IsRightReport words call status text → status ≡ 0
@@ -188,12 +179,11 @@ serves_rows_status words call read wrote r (writes status small (text, right, gr
 -- a trial is not ended by the source
 pub serves_trial_status : (words : List (List ℕ)) (call : Passed) (read wrote : Type 0) (r : Result ℕ Refusal)
     → Serves words call read wrote r → (trial : Trial) → AsksForTrial words trial → status_of r ≢ 7
-serves_trial_status words call read wrote r (misfit n h text) trial asked is = absurd (omega (arith, is))
 serves_trial_status words call read wrote r (cannot_read command asks few rose) trial asked is = trial_is_no_command words trial command asked asks
 serves_trial_status words call read wrote r (no_memory why takes wanting) trial asked is = absurd (omega (arith, is, wanting.0))
 serves_trial_status words call read wrote r (refuses status note from to h) trial asked is = absurd (omega (arith, is, to))
-serves_trial_status words call read wrote r (cannot_write h failed) trial asked is = absurd (omega (arith, is))
 serves_trial_status words call read wrote r (writes status small h) trial asked is = absurd (omega (arith, is, small))
+serves_trial_status words call read wrote r _ trial asked is = absurd (omega (arith, is))
 
 trial_written_due : (words : List (List ℕ)) (call : Passed) (status : ℕ) (text : List ℕ) (trial : Trial) → AsksForTrial words trial → IsRightReport words call status text → IsTrialDue trial status
 trial_written_due words call status text trial asked (of_input command input n l asks given right) = trial_is_no_command words trial command asked asks

@@ -1,5 +1,5 @@
 -- Answers that fail, and the answer to `solve`.
-use Rattle.std.proofs.Common.{◌≡◌, ◌≢◌, inl, inr, ℕ, List, Option, Result, Ok, Err, refl, sym, subst}
+use Rattle.std.proofs.Common.{◌≢◌, inl, inr, ℕ, List, Option, Result, Ok, Err, refl}
 use Rattle.msp_class.specs.declared.class.Class.{Class}
 use Rattle.msp_grammar.specs.declared.lines.fault.FileFault.{FileFault}
 use Rattle.msp_grammar.specs.declared.lines.fault.FileFault.TheVariants.{Memory}
@@ -14,7 +14,7 @@ use Rattle.msp_top.specs.declared.refusal.Refusal.{Refusal}
 use Rattle.msp_top.specs.Outcome.{Outcome, refusal}
 use Rattle.msp_top.specs.Solves.{SolveIsRight, unsolved}
 use Rattle.msp_top.specs.Files.{file_status}
-use Rattle.msp_top.specs.Refusals.{out_of_memory, of_file_fault, of_cannot}
+use Rattle.msp_top.specs.Refusals.{of_file_fault, of_cannot}
 use Rattle.msp_top.specs.Answers.{Answers, OfFiled}
 
 -- a right outcome of one kind is one of another
@@ -23,27 +23,16 @@ answers-along P Q (Ok made) f h = f _ h
 answers-along P Q (Err why) f (inl memory) = inl memory
 answers-along P Q (Err why) f (inr right) = inr (f _ right)
 
--- out of memory is an answer to all
-pub answers-memory : (P : Outcome → Type 0) (why : Refusal) → why ≡ out_of_memory → Answers P (Err why)
-answers-memory P why e = let Q : Refusal → Type 0 = λ w. Answers P (Err w) in subst Q (sym e) (inl (refl, refl))
-
 -- a fault of a text is an answer where it is right to say so, unless it is out of memory
-fault_first : (P : Outcome → Type 0) (fault : FileFault) → (fault ≢ Memory → P (refusal (file_status fault) (file_text fault))) → Answers P (Err (of_file_fault fault))
+pub fault_first : (P : Outcome → Type 0) (fault : FileFault) → (fault ≢ Memory → P (refusal (file_status fault) (file_text fault))) → Answers P (Err (of_file_fault fault))
 fault_first P Memory right = inl (refl, refl)
 fault_first P fault right = inr (right (λ e. cc))
-
-pub fault_right : (P : Outcome → Type 0) (fault : FileFault) (why : Refusal) → (fault ≢ Memory → P (refusal (file_status fault) (file_text fault))) → why ≡ of_file_fault fault → Answers P (Err why)
-fault_right P fault why right e = let Q : Refusal → Type 0 = λ w. Answers P (Err w) in subst Q (sym e) (fault_first P fault right)
 
 -- what is said of an instance is said of the text that was read as it
 pub filed_right : (IsRightOf : List ℕ → Outcome → Type 0) (input : List ℕ) (filed : Filed) (r : Result Report Refusal)
     → IsInstanceText input filed.instance filed.names → Answers (OfFiled IsRightOf filed) r → Answers (IsRightOf input) r
 filed_right IsRightOf input filed r read h = answers-along (OfFiled IsRightOf filed) (IsRightOf input) r (λ outcome f. f input read) h
 
-cannot_first : (at : Option Class) (filed : Filed) (cannot : Cannot) → IsFault filed.instance at cannot → Answers (OfFiled (λ input. SolveIsRight input at) filed) (Err (of_cannot cannot))
+pub cannot_first : (at : Option Class) (filed : Filed) (cannot : Cannot) → IsFault filed.instance at cannot → Answers (OfFiled (λ input. SolveIsRight input at) filed) (Err (of_cannot cannot))
 cannot_first at filed NoMemory h = inl (refl, refl)
 cannot_first at filed cannot h = inr (λ input read. unsolved filed.names filed.instance cannot read (λ e. cc) h)
-
-pub cannot_right : (at : Option Class) (filed : Filed) (cannot : Cannot) (why : Refusal)
-    → IsFault filed.instance at cannot → why ≡ of_cannot cannot → Answers (OfFiled (λ input. SolveIsRight input at) filed) (Err why)
-cannot_right at filed cannot why fault e = let Q : Refusal → Type 0 = λ w. Answers (OfFiled (λ input. SolveIsRight input at) filed) (Err w) in subst Q (sym e) (cannot_first at filed cannot fault)

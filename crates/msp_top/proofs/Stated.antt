@@ -1,5 +1,5 @@
 -- A solution in the form of a report can be written as a text.
-use Rattle.std.proofs.Common.{◌≡◌, ℕ, ◌+◌, ◌*◌, ◌<◌, ◌≤◌, List, length, get_or, ℤ, pos, negsuc, ◌*ℤ◌, unsigned_abs, sym, ap, ◌∙◌, subst, arith}
+use Rattle.std.proofs.Common.{◌≡◌, ℕ, ◌+◌, ◌*◌, ◌<◌, ◌≤◌, List, length, get_or, ℤ, pos, ◌*ℤ◌, unsigned_abs, sym, ap, ◌∙◌, subst, arith}
 use Rattle.std.proofs.lemmas.Int.{ints, unsigned_abs-mul}
 use Rattle.std.specs.Int.{IsGcd}
 use Rattle.msp_class.specs.declared.class.Env.{Env}
@@ -21,18 +21,11 @@ use Rattle.msp_pieces.specs.Fraction.{IsOver, IsLowest}
 use Rattle.msp_pieces.specs.Within.{IsUnit, greatest_total}
 use Rattle.msp_grammar.specs.ScheduleText.{IsStatedCost, IsStated}
 use Rattle.msp_dispatch.specs.Dispatch.{IsReported}
+use Rattle.msp_grammar.proofs.reading.FieldLaws.{within_size, size_within}
 use Rattle.msp_cert.proofs.LeastForms.{least_form}
 use Rattle.msp_top.proofs.CostBounds.{cost_of_small}
 
 -- ---- the cost
-abs_within : (x : ℤ) (n : ℕ) → LiesWithin n x → unsigned_abs x ≤ n
-abs_within (pos a) n h = omega (arith, ints, h)
-abs_within (negsuc a) n h = omega (arith, ints, h)
-
-within_abs : (x : ℤ) (n : ℕ) → unsigned_abs x ≤ n → LiesWithin n x
-within_abs (pos a) n h = (omega (arith, ints, h), omega (arith, ints, h))
-within_abs (negsuc a) n h = (omega (arith, ints, h), omega (arith, ints, h))
-
 stated_cost : (f : Frac) (c unit : ℤ) → IsOver f c unit → IsLowest f → IsUnit unit → LiesWithin greatest_total c → IsStatedCost f
 stated_cost f c unit over low u small =
     let (n, unit_is) = natural_some unit (omega (arith, ints, u)) in
@@ -42,9 +35,9 @@ stated_cost f c unit over low u small =
     let prime : IsGcd (unsigned_abs f.num) d 1 = subst (λ y. IsGcd (unsigned_abs f.num) (unsigned_abs y) 1) den_is low in
     let (least, less) = least_form (unsigned_abs f.num + d) (unsigned_abs f.num) d (unsigned_abs c) n (omega arith)
     (omega (arith, ints, f.positive, den_is)) (omega (arith, ints, u, unit_is)) prime sizes in
-    let bound = abs_within c greatest_total small in
+    let bound = size_within greatest_total c small in
     record {
-      num = within_abs f.num _ (omega (arith, least, bound));
+      num = within_size _ f.num (omega (arith, least, bound));
       den = (f.positive, omega (arith, ints, less, den_is, unit_is, u));
     }
 
@@ -66,9 +59,6 @@ machine_small kind.FlowShop e i j o m few shape h r = let same = shape.1 o h.0 i
 machine_small kind.JobShop e i j o m few shape h r = let below = shape.machines o no_need h.0 in omega (arith, r, below, few)
 machine_small _ e i j o m few shape h r = omega (arith, r, few)
 
-shape_of : (i : Instance) (j : ℕ) → InClass i → j < length i.jobs → HasShape (kind_of i.class.env) i.class.env i.machines (job_at i j).needs
-shape_of i j h l = (h.conditions.jobs j no_job l).needs.shape
-
 pub stated : (names : List (List ℕ)) (i : Instance) (s : Solution) → InClass i → length names ≡ length i.jobs → IsReported i s → IsStated names s.schedule s.cost
 stated names i s h named r = record {
   cost = stated_cost s.cost (cost_of i s.schedule) s.schedule.unit r.best.cost r.lowest r.within.unit (cost_of_small i s.schedule (Inner-from_class i h) r.within);
@@ -76,7 +66,7 @@ stated names i s h named r = record {
   few = r.within.few;
   pieces = λ k d l.
       let place : HasPlace i (get_or s.schedule.pieces k d) = r.best.best.feasible.place k d l in
-      let shape = shape_of i (get_or s.schedule.pieces k d).job h place.job in
+      let shape = (h.conditions.jobs (get_or s.schedule.pieces k d).job no_job place.job).needs.shape in
       record {
         job = subst (λ n. (get_or s.schedule.pieces k d).job < n) (sym named) place.job;
         op = operation_small (kind_of i.class.env) i.class.env i _ _ h.conditions.machines.1 shape place.operation;

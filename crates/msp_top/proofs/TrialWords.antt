@@ -7,15 +7,14 @@ use Rattle.msp_text.specs.Numbers.{number_of}
 use Rattle.msp_class.specs.declared.sizes.TheConstants.{MOST_JOBS}
 use Rattle.msp_top.specs.declared.command.TheConstants.{GREATEST_SEED}
 use Rattle.msp_top.specs.declared.command.Command.{Command}
-use Rattle.msp_top.specs.declared.command.Command.TheVariants.{Check, Answer}
+use Rattle.msp_top.specs.declared.command.Command.TheVariants.{Answer}
 use Rattle.msp_top.specs.declared.command.Question.TheVariants.{Frontier}
 use Rattle.msp_top.specs.declared.command.Trial.{Trial}
 use Rattle.msp_top.specs.declared.words.Misfit.{Misfit}
-use Rattle.msp_top.specs.declared.words.Misfit.TheVariants.{Form}
 use Rattle.msp_top.specs.Commands.{IsNameWord, IsNumberWord, Asks, AsksForTrial, Misfits}
 use Rattle.msp_top.specs.Usage.{name_then, number_within, number_then, text_of_number, misfit_text}
-use Rattle.msp_top.specs.Words.{ReadsWords, ReadsName, ReadsNumber, ReadsTrial}
-use Rattle.msp_top.proofs.WordLemmas.{trial_word, rows_word, first_word, asks_first, cons_heads, cons_tails, not_word, refused_as}
+use Rattle.msp_top.specs.Words.{ReadsName, ReadsNumber, ReadsTrial}
+use Rattle.msp_top.proofs.WordLemmas.{trial_word, rows_word, first_word, asks_first, cons_heads, cons_tails, not_word}
 
 -- ---- numbers in a range
 within_range : (least greatest n m : ℕ) (a b : Bool)
@@ -45,10 +44,7 @@ pub no_number_word : (least greatest : ℕ) (word bytes : List ℕ) (r : Option 
 no_number_word least greatest word bytes r e reads is m h =
     let there : number_within least greatest (number_of bytes) ≡ Some m =
     ap (λ w. number_within least greatest (number_of w)) e ∙ ap (number_within least greatest) h.spelled ∙ within_there least greatest m h.low h.high in
-    none_is_not (sym is ∙ reads ∙ there)
-  where
-    none_is_not : {n : ℕ} → None ≡ Some n → ⊥
-    none_is_not q = cc
+    let none : None ≡ Some m = sym is ∙ reads ∙ there in absurd cc
 
 -- the text of a word that is to be a number, where it is short
 pub number_then-short : (place least greatest : ℕ) (word bytes later : List ℕ) (r : Option ℕ) → length word < PLACES → bytes ≡ word
@@ -62,30 +58,27 @@ number_then-short place least greatest word bytes later r short e reads =
 pub same_words : {a b c x y z : List ℕ} → trial_word ∷ a ∷ b ∷ c ∷ [] ≡ trial_word ∷ x ∷ y ∷ z ∷ [] → (x ≡ a) × (y ≡ b) × (z ≡ c)
 same_words e = (sym (cons_heads (cons_tails e)), sym (cons_heads (cons_tails (cons_tails e))), sym (cons_heads (cons_tails (cons_tails (cons_tails e)))))
 
-trial_as : (words : List (List ℕ)) (first misfit : Misfit) → misfit ≡ first → ReadsTrial words (Err first) → ReadsTrial words (Err misfit)
-trial_as words first misfit same h = subst (λ (m : Misfit). ReadsTrial words (Err m)) (sym same) h
-
-pub refuses_name : (name count start : List ℕ) (first misfit : Misfit) → ReadsName name 2 (Err first) → misfit ≡ first → ReadsTrial (name ∷ count ∷ start ∷ []) (Err misfit)
-refuses_name name count start first misfit (text, none) same =
-    trial_as _ first misfit same (no_trial, text (number_then 3 1 MOST_JOBS count (number_then 4 0 GREATEST_SEED start misfit_text)))
+pub refuses_name : (name count start : List ℕ) (misfit : Misfit) → ReadsName name 2 (Err misfit) → ReadsTrial (name ∷ count ∷ start ∷ []) (Err misfit)
+refuses_name name count start misfit (text, none) =
+    (no_trial, text (number_then 3 1 MOST_JOBS count (number_then 4 0 GREATEST_SEED start misfit_text)))
   where
     no_trial : (trial : Trial) → ¬ AsksForTrial (trial_word ∷ name ∷ count ∷ start ∷ []) trial
     no_trial trial h = none trial.class (subst (λ w. IsNameWord w trial.class) (same_words h.form).0 h.class)
 
-pub refuses_count : (name count start : List ℕ) (first misfit : Misfit) → ((later : List ℕ) → name_then 2 name later ≡ later)
-    → ReadsNumber 1 MOST_JOBS count 3 (Err first) → misfit ≡ first → ReadsTrial (name ∷ count ∷ start ∷ []) (Err misfit)
-refuses_count name count start first misfit named (text, none) same =
+pub refuses_count : (name count start : List ℕ) (misfit : Misfit) → ((later : List ℕ) → name_then 2 name later ≡ later)
+    → ReadsNumber 1 MOST_JOBS count 3 (Err misfit) → ReadsTrial (name ∷ count ∷ start ∷ []) (Err misfit)
+refuses_count name count start misfit named (text, none) =
     let seeds : List ℕ = number_then 4 0 GREATEST_SEED start misfit_text in
-    trial_as _ first misfit same (no_trial, text seeds ∙ sym (named (number_then 3 1 MOST_JOBS count seeds)))
+    (no_trial, text seeds ∙ sym (named (number_then 3 1 MOST_JOBS count seeds)))
   where
     no_trial : (trial : Trial) → ¬ AsksForTrial (trial_word ∷ name ∷ count ∷ start ∷ []) trial
     no_trial trial h = none trial.jobs (subst (λ w. IsNumberWord 1 MOST_JOBS w trial.jobs) (same_words h.form).1 h.jobs)
 
-pub refuses_start : (name count start : List ℕ) (first misfit : Misfit) → ((later : List ℕ) → name_then 2 name later ≡ later)
-    → ((later : List ℕ) → number_then 3 1 MOST_JOBS count later ≡ later) → ReadsNumber 0 GREATEST_SEED start 4 (Err first) → misfit ≡ first → ReadsTrial (name ∷ count ∷ start ∷ []) (Err misfit)
-refuses_start name count start first misfit named counted (text, none) same =
+pub refuses_start : (name count start : List ℕ) (misfit : Misfit) → ((later : List ℕ) → name_then 2 name later ≡ later)
+    → ((later : List ℕ) → number_then 3 1 MOST_JOBS count later ≡ later) → ReadsNumber 0 GREATEST_SEED start 4 (Err misfit) → ReadsTrial (name ∷ count ∷ start ∷ []) (Err misfit)
+refuses_start name count start misfit named counted (text, none) =
     let seeds : List ℕ = number_then 4 0 GREATEST_SEED start misfit_text in
-    trial_as _ first misfit same (no_trial, text misfit_text ∙ sym (counted seeds) ∙ sym (named (number_then 3 1 MOST_JOBS count seeds)))
+    (no_trial, text misfit_text ∙ sym (counted seeds) ∙ sym (named (number_then 3 1 MOST_JOBS count seeds)))
   where
     no_trial : (trial : Trial) → ¬ AsksForTrial (trial_word ∷ name ∷ count ∷ start ∷ []) trial
     no_trial trial h = none trial.seed (subst (λ w. IsNumberWord 0 GREATEST_SEED w trial.seed) (same_words h.form).2 h.seed)
@@ -93,47 +86,18 @@ refuses_start name count start first misfit named counted (text, none) same =
 pub reads_three : {X : Type 0} (f : X → List ℕ) (xs : List X) (x y z : X) (name count start : List ℕ) (r : Result Trial Misfit)
     → length xs ≡ 3 → x ≡ get_or xs 0 x → y ≡ get_or xs 1 y → z ≡ get_or xs 2 z → name ≡ f x → count ≡ f y → start ≡ f z →
     ReadsTrial (name ∷ count ∷ start ∷ []) r → ReadsTrial (map f xs) r
-reads_three f [] x y z name count start r l i j k p q s h = absurd (omega (arith, l))
-reads_three f (a ∷ []) x y z name count start r l i j k p q s h = absurd (omega (arith, l))
-reads_three f (a ∷ b ∷ []) x y z name count start r l i j k p q s h = absurd (omega (arith, l))
 reads_three f (a ∷ b ∷ c ∷ []) x y z name count start r l i j k p q s h =
     subst (λ ws. ReadsTrial ws r) (ap (λ w. w ∷ count ∷ start ∷ []) (p ∙ ap f i) ∙ ap (λ w. f a ∷ w ∷ start ∷ []) (q ∙ ap f j) ∙ ap (λ w. f a ∷ f b ∷ w ∷ []) (s ∙ ap f k)) h
-reads_three f (a ∷ b ∷ c ∷ d ∷ xs) x y z name count start r l i j k p q s h = absurd (omega (arith, l))
-
-one_is_not_four : {t u x y z : List ℕ} → t ∷ [] ≡ u ∷ x ∷ y ∷ z ∷ [] → ⊥
-one_is_not_four e = cc
-
-two_are_not_four : {t a u x y z : List ℕ} → t ∷ a ∷ [] ≡ u ∷ x ∷ y ∷ z ∷ [] → ⊥
-two_are_not_four e = cc
-
-three_are_not_four : {t a b u x y z : List ℕ} → t ∷ a ∷ b ∷ [] ≡ u ∷ x ∷ y ∷ z ∷ [] → ⊥
-three_are_not_four e = cc
-
-more_are_not_four : {t a b c d u x y z : List ℕ} {ws : List (List ℕ)} → t ∷ a ∷ b ∷ c ∷ d ∷ ws ≡ u ∷ x ∷ y ∷ z ∷ [] → ⊥
-more_are_not_four e = cc
-
-pub reads_not_three : {X : Type 0} (f : X → List ℕ) (xs : List X) → (length xs ≡ 3 → ⊥) → ReadsTrial (map f xs) (Err Form)
-reads_not_three f [] l = (λ trial h. one_is_not_four h.form, refl)
-reads_not_three f (a ∷ []) l = (λ trial h. two_are_not_four h.form, refl)
-reads_not_three f (a ∷ b ∷ []) l = (λ trial h. three_are_not_four h.form, refl)
-reads_not_three f (a ∷ b ∷ c ∷ []) l = absurd (l refl)
-reads_not_three f (a ∷ b ∷ c ∷ d ∷ xs) l = (λ trial h. more_are_not_four h.form, refl)
+reads_three f _ x y z name count start r l i j k p q s h = absurd (omega (arith, l))
 
 -- ---- what the words after `trial` are decides what all words are
 -- no command begins with the word `trial`
 pub trial_first : {X : Type 0} (command : Command) → trial_word ≡ first_word command → X
-trial_first Check e = not_word trial_word (first_word Check) refl e
 trial_first (Answer Frontier) e = not_word trial_word (first_word (Answer Frontier)) refl e
 trial_first command e = not_word trial_word (first_word command) refl e
 
-reads_trial_misfit : (words : List (List ℕ)) → ((trial : Trial) → ¬ AsksForTrial (trial_word ∷ words) trial) → Misfits (trial_word ∷ words)
+pub reads_trial_misfit : (words : List (List ℕ)) → ((trial : Trial) → ¬ AsksForTrial (trial_word ∷ words) trial) → Misfits (trial_word ∷ words)
 reads_trial_misfit words none = record { no_command = no_command; no_rows = λ h. not_word trial_word rows_word refl (cons_heads h); no_trial = none }
   where
     no_command : (command : Command) → ¬ Asks (trial_word ∷ words) command
     no_command command h = trial_first command (cons_heads (asks_first (trial_word ∷ words) command h).1)
-
-pub reads_trial : (word : List ℕ) (words : List (List ℕ)) (trial : Trial) → word ≡ trial_word → AsksForTrial (trial_word ∷ words) trial → AsksForTrial (word ∷ words) trial
-reads_trial word words trial e h = subst (λ w. AsksForTrial (w ∷ words) trial) (sym e) h
-
-pub refuses_trial : (word : List ℕ) (words : List (List ℕ)) (misfit why : Misfit) → word ≡ trial_word → ReadsTrial words (Err misfit) → why ≡ misfit → ReadsWords (word ∷ words) (Err why)
-refuses_trial word words misfit why e (none, text) is = refused_as word trial_word words misfit why e is (reads_trial_misfit words none, text)

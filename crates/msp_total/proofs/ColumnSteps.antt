@@ -17,7 +17,7 @@ use Rattle.msp_instance.specs.declared.Need.{Need}
 use Rattle.msp_instance.specs.declared.Instance.{Instance}
 use Rattle.msp_instance.specs.Instance.{no_need, no_job, job_at, need_at}
 use Rattle.msp_route.proofs.Turns.{turn_inside}
-use Rattle.msp_assign.specs.Prices.{HasCosts, column_of, greatest_cost}
+use Rattle.msp_assign.specs.Prices.{HasCosts, column_of}
 use Rattle.msp_total.specs.declared.positions.Positions.{Positions}
 use Rattle.msp_total.specs.declared.unrelated.Chosen.{Chosen}
 use Rattle.msp_total.specs.Positions.{time_in, position_cost}
@@ -28,38 +28,28 @@ use Rattle.msp_total.specs.Columns.{HasTimes, HasShortTimes, IsByColumn}
 pub times-next : (i : Instance) (jobs : List Job) (k : ℕ) (j : Job) (needs : List Need) (old new : List ℕ) → jobs ≡ i.jobs → k < length jobs
     → needs ≡ (get_or jobs k j).needs → length needs ≡ i.machines → new ≡ old ++ map (λ n. n.time) needs → HasTimes i k old → HasTimes i (k + 1) new
 times-next i jobs k j needs old new e l is count all h = record {
-  count = ap length all ∙ length-append old (map (λ n. n.time) needs) ∙ longer (length old) (length (map (λ (n : Need). n.time) needs)) k i.machines h.count (length-map needs (λ n. n.time) ∙ count);
+  count = omega (arith, ap length all, length-append old (map (λ n. n.time) needs), h.count, length-map needs (λ n. n.time), count);
   each = λ a m b c. by a m b c (eqb a k) refl;
 }
   where
-    longer : (x y k m : ℕ) → x ≡ k * m → y ≡ m → x + y ≡ (k + 1) * m
-    longer x y k m p q = omega (arith, p, q)
-
     job_is : (get_or jobs k j).needs ≡ (get_or i.jobs k no_job).needs
     job_is = ap (λ (x : Job). x.needs) (get_or_default jobs k j no_job l ∙ ap (λ xs. get_or xs k no_job) e)
 
     by : (a m : ℕ) → a < k + 1 → m < i.machines → (b : Bool) → eqb a k ≡ b → time_in i.machines new a m ≡ (need_at i a m).time
     by a m b c true f =
         let same : a ≡ k = eqb-true a k f in
+        let rest : a * i.machines + m - k * i.machines ≡ m = omega (arith, ap (λ x. x * i.machines) same) in
         ap (λ xs. get_or xs (a * i.machines + m) 0) all
         ∙ get_or-append_right old (map (λ n. n.time) needs) (k * i.machines) (a * i.machines + m) 0 h.count (omega (arith, ap (λ x. x * i.machines) same))
-        ∙ ap (λ x. get_or (map (λ (n : Need). n.time) needs) x 0) (rest (a * i.machines) (k * i.machines) m (ap (λ x. x * i.machines) same))
+        ∙ ap (λ x. get_or (map (λ (n : Need). n.time) needs) x 0) rest
         ∙ get_or-map (λ (n : Need). n.time) needs m no_need 0 (omega (arith, c, count))
         ∙ ap (λ xs. (slice_index_or xs m no_need).time) (is ∙ job_is) ∙ ap (λ x. (need_at i x m).time) (sym same)
-      where
-        rest : (x y m : ℕ) → x ≡ y → x + m - y ≡ m
-        rest x y m e = omega (arith, e)
     by a m b c false f =
-        let less : a < k = other a k b (eqb-false a k f) in
+        let less : a < k = omega (arith, b, eqb-false a k f) in
+        let rows : (a + 1) * i.machines ≤ k * i.machines = mul-le-mul_right i.machines (omega arith) in
         ap (λ xs. get_or xs (a * i.machines + m) 0) all
-        ∙ get_or_append_left old (map (λ n. n.time) needs) 0 (a * i.machines + m) (omega (arith, h.count, inside a k m i.machines less c))
+        ∙ get_or_append_left old (map (λ n. n.time) needs) 0 (a * i.machines + m) (omega (arith, h.count, rows, c))
         ∙ h.each a m less c
-      where
-        other : (m n : ℕ) → m < n + 1 → (m ≡ n → ⊥) → m < n
-        other m n l ne = omega arith
-
-        inside : (a k m w : ℕ) → a < k → m < w → a * w + m < k * w
-        inside a k m w p q = let s : (a + 1) * w ≤ k * w = mul-le-mul_right w (omega arith) in omega (arith, s)
 
 pub needs_count : (i : Instance) (jobs : List Job) (k : ℕ) (j : Job) (needs : List Need) → jobs ≡ i.jobs
     → k < length jobs → needs ≡ (get_or jobs k j).needs → ((a : ℕ) → a < length i.jobs → length (job_at i a).needs ≡ i.machines) → length needs ≡ i.machines
@@ -72,20 +62,10 @@ machine_inside each machines c l = turn_inside machines each c (omega (arith, l)
 
 -- ---- costs of a table
 pub costs_small : (p : Positions) → (1 ≤ p.jobs) × (p.jobs ≤ MOST_JOBS) → HasShortTimes p → HasCosts p.jobs (p.jobs * p.machines) (position_cost p.jobs p.machines p.times)
-costs_small p h short r c l k = (
-  pos-le none,
-  pos-le (bound _ (mul-le (c % p.jobs + 1) (time_in p.machines p.times r (c / p.jobs))
-      MOST_JOBS (GREATEST * GREATEST_MULTIPLE) (rest (c % p.jobs) (mod-lt c h.0)) (short r (c / p.jobs) l (machine_inside p.jobs p.machines c k)))),
-)
-  where
-    none : 0 ≤ (c % p.jobs + 1) * time_in p.machines p.times r (c / p.jobs)
-    none = omega arith
-
-    rest : (x : ℕ) → x < p.jobs → x + 1 ≤ MOST_JOBS
-    rest x g = omega (arith, h.1)
-
-    bound : (x : ℕ) → x ≤ MOST_JOBS * (GREATEST * GREATEST_MULTIPLE) → x ≤ greatest_cost
-    bound x g = omega (arith, g)
+costs_small p h short r c l k =
+    let bound = mul-le (c % p.jobs + 1) (time_in p.machines p.times r (c / p.jobs)) MOST_JOBS (GREATEST * GREATEST_MULTIPLE)
+    (omega (arith, mod-lt c h.0, h.1)) (short r (c / p.jobs) l (machine_inside p.jobs p.machines c k)) in
+    (pos-le (omega arith), pos-le (omega (arith, bound)))
 
 -- ---- jobs and columns
 abbrev pub HasColumn : List ℕ → Chosen → Type 0

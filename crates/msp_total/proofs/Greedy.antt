@@ -1,5 +1,5 @@
 -- Positions taken one after another, each of least multiplier: the longest times at the least multipliers sum to the least.
-use Rattle.std.proofs.Common.{◌≡◌, ℕ, zero, suc, ◌+◌, ◌*◌, ◌-◌, ◌≤◌, ◌<◌, Bool, true, false, cond, eqb, arith, refl, sym, ap, subst, ◌∙◌, le_trans}
+use Rattle.std.proofs.Common.{◌≡◌, ℕ, zero, suc, ◌+◌, ◌*◌, ◌-◌, ◌≤◌, ◌<◌, Bool, true, false, cond, eqb, arith, refl, sym, ap, subst, ◌∙◌, le_trans, add-one, add-zero}
 use Rattle.std.proofs.Math.Nat.{mul-le-mul_right}
 use Rattle.msp_class.specs.Sums.{total_below}
 use Rattle.msp_class.proofs.FallingWeights.{abel}
@@ -13,14 +13,9 @@ use Rattle.msp_total.specs.Multipliers.{seats}
 -- where all later terms are 0, the total over fewer is the whole
 total_below-ends : (f : ℕ → ℕ) (k n : ℕ) → k ≤ n → ((a : ℕ) → k ≤ a → a < n → f a ≡ 0) → total_below n f ≡ total_below k f
 total_below-ends f k n l h =
-    ap (λ x. total_below x f) (whole k n l) ∙ total_below-split k (n - k) f
-    ∙ ap (λ x. total_below k f + x) (total_below-none (n - k) (λ a. f (k + a)) (λ a m. h (k + a) (omega arith) (inside k n a m))) ∙ omega arith
-  where
-    whole : (k n : ℕ) → k ≤ n → n ≡ k + (n - k)
-    whole k n l = omega arith
-
-    inside : (k n a : ℕ) → a < n - k → k + a < n
-    inside k n a m = omega arith
+    let whole : n ≡ k + (n - k) = omega (arith, l) in
+    ap (λ x. total_below x f) whole ∙ total_below-split k (n - k) f
+    ∙ ap (λ x. total_below k f + x) (total_below-none (n - k) (λ a. f (k + a)) (λ a m. h (k + a) (omega arith) (omega (arith, m)))) ∙ omega arith
 
 -- ---- positions taken in turn
 -- the positions of the jobs taken so far, over any function of positions
@@ -34,14 +29,8 @@ seats-total machines machine h (suc n) inside =
     ∙ ap (λ x. total_below n (λ a. h (machine a) (seats machine a (machine a))) + x) (total_below-only machines (λ m. h m (seats machine n m)) (machine n) (inside n (omega arith)))
   where
     one : (m : ℕ) (b : Bool) (s : ℕ) → total_below (s + cond b 1 0) (h m) ≡ total_below s (h m) + cond b (h m s) 0
-    one m true s = ap (λ x. total_below x (h m)) next
-      where
-        next : s + 1 ≡ suc s
-        next = omega arith
-    one m false s = ap (λ x. total_below x (h m)) same ∙ omega arith
-      where
-        same : s + 0 ≡ s
-        same = omega arith
+    one m true s = ap (λ x. total_below x (h m)) (add-one s)
+    one m false s = ap (λ x. total_below x (h m)) (add-zero s) ∙ omega arith
 
 module _ (n machines : ℕ) (step machine : ℕ → ℕ) where
   abbrev pub taken : ℕ → ℕ
@@ -55,19 +44,13 @@ module _ (n machines : ℕ) (step machine : ℕ → ℕ) where
     rising : (r q : ℕ) → r ≤ q → q < n → taken r ≤ taken q
     rising r q l h =
         le_trans (greedy r (machine q) (omega arith) (inside q h))
-        (mul-le-mul_right (step (machine q)) (more _ _ (total_below-within (λ a. cond (eqb (machine a) (machine q)) 1 0) r q l)))
-      where
-        more : (a b : ℕ) → a ≤ b → a + 1 ≤ b + 1
-        more a b h = omega arith
+        (mul-le-mul_right (step (machine q)) (omega (arith, total_below-within (λ a. cond (eqb (machine a) (machine q)) 1 0) r q l)))
 
     -- and no position that is left is less
     left_over : (r m k : ℕ) → r < n → m < machines → seats machine (suc r) m ≤ k → taken r ≤ multiplier step m k
     left_over r m k l h s =
         le_trans (greedy r m l h)
-        (mul-le-mul_right (step m) (more _ _ _ (total_below-within (λ a. cond (eqb (machine a) m) 1 0) r (suc r) (omega arith)) s))
-      where
-        more : (a b c : ℕ) → a ≤ b → b ≤ c → a + 1 ≤ c + 1
-        more a b c h k = omega arith
+        (mul-le-mul_right (step m) (omega (arith, total_below-within (λ a. cond (eqb (machine a) m) 1 0) r (suc r) (omega arith), s)))
 
     -- so many positions without repeats sum to no less
     pub least_positions : (x y : ℕ → ℕ) → ((a : ℕ) → a < n → (x a < machines) × (y a < n)) → ((a b : ℕ) → a < n → b < n → x a ≡ x b → y a ≡ y b → a ≡ b)
@@ -86,24 +69,17 @@ module _ (n machines : ℕ) (step machine : ℕ → ℕ) where
         by g d x e w h k m = omega arith
 
         full : total_below q taken + total_below q (λ a. top - taken a) ≡ q * top
-        full = sym (total_below-add q taken (λ a. top - taken a)) ∙ total_below-same q _ (λ _. top) (λ a h. whole (taken a) top (rising a t (omega arith) (omega arith))) ∙ total_below-constant q top
-          where
-            whole : (a b : ℕ) → a ≤ b → a + (b - a) ≡ b
-            whole a b h = omega arith
+        full = sym (total_below-add q taken (λ a. top - taken a)) ∙ total_below-same q _ (λ _. top)
+            (λ a h. let l : taken a ≤ top = rising a t (omega arith) (omega arith) in omega (arith, l)) ∙ total_below-constant q top
 
         enough : q * top ≤ total_below q (λ a. multiplier step (x a) (y a)) + total_below q (λ a. top - multiplier step (x a) (y a))
         enough = subst (λ s. s ≤ total_below q (λ a. multiplier step (x a) (y a)) + total_below q (λ a. top - multiplier step (x a) (y a))) (total_below-constant q top)
             (subst (λ s. total_below q (λ _. top) ≤ s) (total_below-add q (λ a. multiplier step (x a) (y a)) (λ a. top - multiplier step (x a) (y a)))
-            (total_below-mono q (λ _. top) (λ a. multiplier step (x a) (y a) + (top - multiplier step (x a) (y a))) (λ a h. most (multiplier step (x a) (y a)) top)))
-          where
-            most : (a b : ℕ) → b ≤ a + (b - a)
-            most a b = omega arith
+            (total_below-mono q (λ _. top) (λ a. multiplier step (x a) (y a) + (top - multiplier step (x a) (y a))) (λ a h. omega arith)))
 
         none_left : (m : ℕ) → m < machines → total_below n (λ k. top - multiplier step m k) ≡ total_below (seats machine q m) (λ k. top - multiplier step m k)
-        none_left m h = total_below-ends (λ k. top - multiplier step m k) (seats machine q m) n (seats-few q m l) (λ k s b. none (multiplier step m k) top (left_over t m k (omega arith) h s))
-          where
-            none : (a b : ℕ) → b ≤ a → b - a ≡ 0
-            none a b h = omega arith
+        none_left m h = total_below-ends (λ k. top - multiplier step m k) (seats machine q m) n (seats-few q m l)
+            (λ k s b. let u : top ≤ multiplier step m k = left_over t m k (omega arith) h s in omega (arith, u))
 
         short : total_below q (λ a. top - multiplier step (x a) (y a)) ≤ total_below q (λ a. top - taken a)
         short = subst (λ s. total_below q (λ a. top - multiplier step (x a) (y a)) ≤ s)

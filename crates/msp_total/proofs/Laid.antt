@@ -1,7 +1,7 @@
 -- The pieces of the jobs in their slots, one after another.
 use Rattle.std.proofs.Common.{◌≡◌, ℕ, ◌+◌, ◌-◌, inl, inr, List, [], ◌∷◌, ◌++◌, get_or, refl, sym, ap, subst, ◌∙◌, arith}
 use Rattle.std.proofs.lemmas.Bool.{cases_lt}
-use Rattle.std.proofs.lemmas.List.{length-append, get_or_append_left, get_or-append_right}
+use Rattle.std.proofs.lemmas.List.{length-append, get_or_append_left, get_or_push}
 use Rattle.msp_pieces.specs.declared.Piece.{Piece}
 use Rattle.msp_slots.specs.declared.earliest.Slot.{Slot}
 use Rattle.msp_slots.specs.Earliest.{piece_in}
@@ -19,9 +19,6 @@ AreLaid-next slots column count pieces pushed piece h e is = subst (AreLaid slot
     | inr more ↦
         let s : count ≡ j = omega (arith, l, more) in
         subst (λ k. get_or (pieces ++ piece ∷ []) k d ≡ piece_in slots k (get_or column k 0))
-        s (get_or-append_right pieces (piece ∷ []) count count d h.all (omega arith) ∙ ap (λ i. get_or (piece ∷ []) i d) (same count) ∙ is)
+        s (get_or_push pieces piece d count h.all ∙ is)
   ];
 })
-  where
-    same : (k : ℕ) → k - k ≡ 0
-    same k = omega arith

@@ -1,7 +1,7 @@
 -- Jobs that are laid on machines: their pieces are apart, and how often the time of each counts in the sum of all ends.
-use Rattle.std.proofs.Common.{◌≡◌, ◌≢◌, ℕ, zero, suc, ◌+◌, ◌*◌, ◌-◌, ◌<◌, ◌≤◌, ◌⊎◌, inl, inr, Bool, true, false, cond, eqb, List, [], ◌∷◌, length, get_or, map, sum_by, All}
-use Rattle.std.proofs.Common.{AllPairs, Contains, pos, ◌-ℤ◌, refl, sym, ap, subst, ◌∙◌, arith}
-use Rattle.std.proofs.lemmas.Bool.{eqb-true, eqb-false, eq-eqb}
+use Rattle.std.proofs.Common.{◌≡◌, ◌≢◌, ℕ, zero, suc, ◌+◌, ◌*◌, ◌-◌, ◌<◌, ◌≤◌, inl, inr, Bool, true, false, cond, eqb, List, [], ◌∷◌, length, get_or, map, sum_by, All, le_trans, zero-add}
+use Rattle.std.proofs.Common.{AllPairs, Contains, pos, refl, sym, ap, subst, ◌∙◌, arith}
+use Rattle.std.proofs.lemmas.Bool.{eq-eqb, cases_eq, cases_lt}
 use Rattle.std.proofs.lemmas.List.{length-map, get_or-map, get_or_default}
 use Rattle.std.proofs.lemmas.List.Elements.{All-nil, All-cons, All-head, All-tail}
 use Rattle.std.proofs.lemmas.List.Kept.{AllPairs-cons}
@@ -32,10 +32,10 @@ pub time_on-own : (p : Place) (ps : List Place) → time_on p.machine (p ∷ ps)
 time_on-own p ps = omega (arith, time_on-cons p.machine p ps, cond-yes p.length (eq-eqb p.machine p.machine refl))
 
 pub time_on-most : (m most : ℕ) (ps : List Place) → All (λ p. p.length ≤ most) ps → time_on m ps ≤ length ps * most
-time_on-most m most ps h = omega (arith, sum_by-mono (λ p. cond (eqb p.machine m) p.length 0) (λ _. most) ps (λ k d l. short (get_or ps k d) (h k d l)), sum_by-constant most ps)
-  where
-    short : (p : Place) → p.length ≤ most → cond (eqb p.machine m) p.length 0 ≤ most
-    short p k = omega (arith, k, cond-le (eqb p.machine m) p.length)
+time_on-most m most ps h =
+    let each = sum_by-mono (λ p. cond (eqb p.machine m) p.length 0) (λ _. most) ps
+    (λ k d l. le_trans (cond-le (eqb (get_or ps k d).machine m) (get_or ps k d).length) (h k d l)) in
+    omega (arith, each, sum_by-constant most ps)
 
 -- ---- the pieces
 -- the piece of a job, with those that stand after it
@@ -71,19 +71,13 @@ piece_made p rest some =
 
 -- how long it lasts
 pub piece_long : (p : Place) (rest : List Place) → length_of (piece_before p rest) ≡ pos p.length
-piece_long p rest = by (time_on p.machine (p ∷ rest)) p.length (omega (arith, time_on-own p rest))
-  where
-    by : (a b : ℕ) → b ≤ a → (pos a -ℤ pos (a - b)) ≡ pos b
-    by a b h = omega (arith, ints)
+piece_long p rest = omega (arith, ints, time_on-own p rest)
 
 laid-below : (m : ℕ) (ps : List Place) → All (λ q. q.machine ≡ m → finish q ≤ time_on m ps) (laid ps)
 laid-below m [] = All-nil (λ q. q.machine ≡ m → finish q ≤ time_on m [])
 laid-below m (p ∷ ps) =
-    All-cons (λ q. q.machine ≡ m → finish q ≤ time_on m (p ∷ ps)) (piece_before p ps) (laid ps) (λ e. head p.machine e)
+    All-cons (λ q. q.machine ≡ m → finish q ≤ time_on m (p ∷ ps)) (piece_before p ps) (laid ps) (λ e. omega (arith, ap (λ y. time_on y (p ∷ ps)) e))
     (λ k d l e. omega (arith, laid-below m ps k d l e, time_on-cons m p ps))
-  where
-    head : (x : ℕ) → x ≡ m → time_on x (p ∷ ps) ≤ time_on m (p ∷ ps)
-    head x e = omega (arith, ap (λ y. time_on y (p ∷ ps)) e)
 
 -- the pieces of one machine are apart
 pub laid-apart : (ps : List Place) → All (λ p. 0 < p.length) ps → AllPairs (λ a b. a.machine ≡ b.machine → IsApart start finish a b) (laid ps)
@@ -107,10 +101,7 @@ length_at ps r = (get_or ps r no_place).length
 -- over jobs that stand before, so many on each machine
 counted : (bound : ℕ) (ps : List Place) (c : ℕ → ℕ) → All (λ p. p.machine < bound) ps →
     total_below (length ps) (λ r. length_at ps r * (c (machine_at ps r) + seats (machine_at ps) r (machine_at ps r) + 1)) ≡ sum_by finish (laid ps) + total_below bound (λ m. c m * time_on m ps)
-counted bound [] c h = omega (arith, total_below-none bound (λ m. c m * 0) (λ m l. none (c m)))
-  where
-    none : (x : ℕ) → x * 0 ≡ 0
-    none x = omega arith
+counted bound [] c h = omega (arith, total_below-none bound (λ m. c m * 0) (λ m l. omega arith))
 counted bound (p ∷ ps) c h =
     let m = p.machine in
     total_below-first (length ps) f
@@ -161,16 +152,10 @@ pub sum_of_laid_ends : (bound : ℕ) (ps : List Place) → All (λ p. p.machine 
 sum_of_laid_ends bound ps h = omega (
   arith,
   counted bound ps (λ _. 0) h,
-  total_below-none bound (λ m. 0 * time_on m ps) (λ m l. none (time_on m ps)),
+  total_below-none bound (λ m. 0 * time_on m ps) (λ m l. omega arith),
   total_below-same (length ps) (λ r. length_at ps r * (0 + seats (machine_at ps) r (machine_at ps r) + 1))
-      (λ r. length_at ps r * (seats (machine_at ps) r (machine_at ps r) + 1)) (λ r l. ap (λ x. length_at ps r * (x + 1)) (zero_more (seats (machine_at ps) r (machine_at ps r)))),
+      (λ r. length_at ps r * (seats (machine_at ps) r (machine_at ps r) + 1)) (λ r l. ap (λ x. length_at ps r * (x + 1)) (zero-add (seats (machine_at ps) r (machine_at ps r)))),
 )
-  where
-    none : (x : ℕ) → 0 * x ≡ 0
-    none x = omega arith
-
-    zero_more : (x : ℕ) → 0 + x ≡ x
-    zero_more x = omega arith
 
 -- ---- each job has one piece
 module _ (n : ℕ) (ps : List Place) (jobs : OnceBelow n (map (λ p. p.job) ps)) where
@@ -183,14 +168,10 @@ module _ (n : ℕ) (ps : List Place) (jobs : OnceBelow n (map (λ p. p.job) ps))
       OnceBelow-distinct laid-once a b 0 l kb (get_or-map (λ q. q.job) (laid ps) a d 0 (omega (arith, k, l)) ∙ e ∙ sym (get_or-map (λ q. q.job) (laid ps) b d 0 k))
 
   same_piece : (k m : ℕ) (d : Piece) → k < length (laid ps) → m < length (laid ps) → (get_or (laid ps) m d).job ≡ (get_or (laid ps) k d).job → get_or (laid ps) m d ≡ get_or (laid ps) k d
-  same_piece k m d l h e = by (eqb m k) refl
-    where
-      by : (b : Bool) → eqb m k ≡ b → get_or (laid ps) m d ≡ get_or (laid ps) k d
-      by true f = ap (λ x. get_or (laid ps) x d) (eqb-true m k f)
-      by false f = elim (order m k (eqb-false m k f)) [ inl less ↦ absurd (laid-distinct m k d less l e) | inr more ↦ absurd (laid-distinct k m d more h (sym e)) ]
-        where
-          order : (m k : ℕ) → m ≢ k → (m < k) ⊎ (k < m)
-          order m k n = grind arith
+  same_piece k m d l h e = elim (cases_eq m k) as (λ _. get_or (laid ps) m d ≡ get_or (laid ps) k d) [
+    | inl same ↦ ap (λ x. get_or (laid ps) x d) same
+    | inr n ↦ elim (cases_lt m k) [ inl less ↦ absurd (laid-distinct m k d less l e) | inr more ↦ absurd (laid-distinct k m d (omega (arith, n, more)) h (sym e)) ]
+  ]
 
   -- the ends of the jobs sum to no more than those of the pieces
   pub ends_of_jobs : total_below n (last_of job_of finish (laid ps)) ≤ sum_by finish (laid ps)

@@ -13,7 +13,6 @@ use Rattle.msp_class.proofs.Sums.{int_total_below-natural, OnceBelow, length-Onc
 use Rattle.msp_instance.specs.declared.Arc.{Arc}
 use Rattle.msp_instance.specs.declared.Instance.{Instance}
 use Rattle.msp_instance.specs.Instance.{job_at}
-use Rattle.msp_pieces.specs.declared.Piece.{Piece}
 use Rattle.msp_pieces.specs.declared.Schedule.{Schedule}
 use Rattle.msp_pieces.specs.Piece.{IsBefore, job_of, finish, IsTimed}
 use Rattle.msp_pieces.specs.Feasible.{Feasible, IsWholeWork}
@@ -22,7 +21,6 @@ use Rattle.msp_pieces.proofs.feasible.OneMachine.{apart_in_int, last_end-is}
 use Rattle.msp_pieces.proofs.lists.Intervals.{last_of}
 use Rattle.msp_pieces.proofs.changes.Moves.{Contains-map}
 use Rattle.msp_pieces.proofs.costs.Charges.{cost_of-sum, charge_of}
-use Rattle.msp_route.specs.declared.bounds.TheConstants.{GREATEST_ANSWER_MOMENT}
 use Rattle.msp_route.specs.Bounds.{IsAnswer, answer_unit}
 use Rattle.msp_route.proofs.OneEach.{IsUncut, AreOneEach, one_each_is_feasible, one_each_is_answer}
 use Rattle.msp_total.specs.declared.lay.Place.{Place}
@@ -62,11 +60,8 @@ module _ (i : Instance) (plain : IsPlain i) (unit : ℕ) (places : List Place) (
   count : length places ≡ n
   count = sym (length-map places (λ p. p.job)) ∙ length-OnceBelow fits.jobs
 
-  lasting : (p : Place) → Contains places p → 0 < p.length
-  lasting p c = All-contains (λ q. 0 < q.length) places p fits.lasts c
-
   timed : All IsTimed (laid places)
-  timed = laid-All IsTimed places (λ p rest c l. (piece_made p rest (lasting p c)).timed)
+  timed = laid-All IsTimed places (λ p rest c l. (piece_made p rest (All-contains (λ q. 0 < q.length) places p fits.lasts c)).timed)
 
   ops : All (λ q. q.op ≡ 0) (laid places)
   ops = laid-All (λ q. q.op ≡ 0) places (λ p rest c l. refl)
@@ -92,18 +87,12 @@ module _ (i : Instance) (plain : IsPlain i) (unit : ℕ) (places : List Place) (
     inside = laid-All (λ q. q.machine < i.machines) places (λ p rest c l. All-contains (λ q. q.machine < i.machines) places p fits.inside c);
     span = λ k d l. let t = timed k d l in (omega (arith, ints, t.from), omega (arith, ints, t.from, t.to, t.lasts));
     apart = λ a b d l k e. apart_in_int _ _ (timed a d (omega arith)) (timed b d k) (laid-apart places fits.lasts a b d l k e);
-    released = λ k d l. released (get_or (laid places) k d).from unit
-        (job_at i (get_or (laid places) k d).job).release _ (timed k d l).from (plain.release (get_or (laid places) k d).job (job_inside k d l));
+    released = λ k d l. subst (λ r. (pos unit *ℤ pos r) ≤ℤ (get_or (laid places) k d).from)
+        (sym (plain.release (get_or (laid places) k d).job (job_inside k d l))) (omega (arith, ints, (timed k d l).from));
     forward = no_arcs;
     whole = laid-All (IsWholeWork (kind_of i.class.env) i (pos unit)) places (λ p rest c l. fits.work p rest c);
-    ends = λ k d l. early (get_or (laid places) k d) (timed k d l) (ends k d l);
+    ends = λ k d l. omega (arith, ints, (timed k d l).to, ends k d l);
   }
-    where
-      released : (x : ℤ) (u r b : ℕ) → x ≡ pos b → r ≡ 0 → (pos u *ℤ pos r) ≤ℤ x
-      released x u r b e z = subst (λ y. (pos u *ℤ pos y) ≤ℤ x) (sym z) (omega (arith, ints, e))
-
-      early : (p : Piece) → IsTimed p → finish p ≤ MOST_JOBS * (GREATEST * GREATEST_MULTIPLE) → p.to ≤ℤ GREATEST_ANSWER_MOMENT
-      early p t m = omega (arith, ints, t.to, m)
 
   pub laid_is_feasible : Feasible i s
   laid_is_feasible = one_each_is_feasible i plain.uncut unit (laid places) one_each

@@ -37,13 +37,11 @@ pub times-small : (places : List Place) (k m : ℕ) → ArePlaces places → tim
 times-small places k m h = omega (arith, time_on-most m (2 ^ 60) (take k places) (All-take (λ p. p.length ≤ 2 ^ 60) k places (λ a d l. omega (arith, (h.1 a d l).1))), length-take k places, h.0)
 
 -- ---- one piece more
-cut_off : (places : List Place) (k : ℕ) → k < length places → drop k places ≡ get_or places k no_place ∷ drop (k + 1) places
-cut_off places k l = drop_more places k no_place l
-
 -- the time that is left includes that of the next job
 pub left_over : (places : List Place) (k : ℕ) (p : Place) (left : List ℕ) → k < length places → p ≡ get_or places k no_place
     → p.machine < MOST_MACHINES → AreTimes left (drop k places) → slice_index_or left p.machine 0 ≡ p.length + time_on p.machine (drop (k + 1) places)
-left_over places k p left l is small h = h p.machine small ∙ ap (time_on p.machine) (cut_off places k l ∙ ap (λ q. q ∷ drop (k + 1) places) (sym is)) ∙ time_on-own p (drop (k + 1) places)
+left_over places k p left l is small h = h p.machine small
+    ∙ ap (time_on p.machine) (drop_more places k no_place l ∙ ap (λ q. q ∷ drop (k + 1) places) (sym is)) ∙ time_on-own p (drop (k + 1) places)
 
 pub left-small : (places : List Place) (k : ℕ) (p : Place) (left : List ℕ)
     → ArePlaces places → k < length places → p.machine < MOST_MACHINES → AreTimes left (drop k places) → slice_index_or left p.machine 0 ≤ MOST_JOBS * 2 ^ 60
@@ -59,7 +57,7 @@ pub left-next : (places : List Place) (k : ℕ) (p : Place) (old : List ℕ) (be
 left-next places k p old begin l is inside small begins so_far m h = by (eqb p.machine m) refl
   where
     parts : time_on m (drop k places) ≡ cond (eqb p.machine m) p.length 0 + time_on m (drop (k + 1) places)
-    parts = ap (time_on m) (cut_off places k l ∙ ap (λ q. q ∷ drop (k + 1) places) (sym is)) ∙ time_on-cons m p (drop (k + 1) places)
+    parts = ap (time_on m) (drop_more places k no_place l ∙ ap (λ q. q ∷ drop (k + 1) places) (sym is)) ∙ time_on-cons m p (drop (k + 1) places)
 
     by : (b : Bool) → eqb p.machine m ≡ b → slice_index_or (set old p.machine begin) m 0 ≡ time_on m (drop (k + 1) places)
     by true f = get_or-set_at old p.machine m begin 0 (sym (eqb-true p.machine m f)) inside
@@ -70,13 +68,10 @@ pub pieces-next : (places : List Place) (k end : ℕ) (p : Place) (left : List �
     → p.machine < MOST_MACHINES → AreTimes left (drop k places) → end ≡ slice_index_or left p.machine 0 → new ≡ old ++ piece_until end p ∷ []
     → old ++ laid (drop k places) ≡ laid places → new ++ laid (drop (k + 1) places) ≡ laid places
 pieces-next places k end p left old new l is small h at e so_far =
+    let whole : drop k places ≡ p ∷ drop (k + 1) places = drop_more places k no_place l ∙ ap (λ q. q ∷ drop (k + 1) places) (sym is) in
+    let here : piece_until end p ∷ laid (drop (k + 1) places) ≡ laid (drop k places) =
+    ap (λ x. piece_until x p ∷ laid (drop (k + 1) places)) (at ∙ h p.machine small ∙ ap (time_on p.machine) whole) ∙ sym (ap laid whole) in
     ap (λ x. x ++ laid (drop (k + 1) places)) e ∙ append_assoc old (piece_until end p ∷ []) (laid (drop (k + 1) places)) ∙ ap (λ x. old ++ x) here ∙ so_far
-  where
-    whole : drop k places ≡ p ∷ drop (k + 1) places
-    whole = cut_off places k l ∙ ap (λ q. q ∷ drop (k + 1) places) (sym is)
-
-    here : piece_until end p ∷ laid (drop (k + 1) places) ≡ laid (drop k places)
-    here = ap (λ x. piece_until x p ∷ laid (drop (k + 1) places)) (at ∙ h p.machine small ∙ ap (time_on p.machine) whole) ∙ sym (ap laid whole)
 
 pub pieces-all : (places : List Place) (k : ℕ) (pieces : List Piece) → length places ≤ k → pieces ++ laid (drop k places) ≡ laid places → pieces ≡ laid places
 pieces-all places k pieces l h = sym (append-nil pieces) ∙ ap (λ x. pieces ++ laid x) (sym (drop_all k places l)) ∙ h

@@ -28,7 +28,7 @@ use Rattle.msp_slots.specs.Earliest.{start_in, machine_in}
 use Rattle.msp_slots.proofs.Seats.{HasSeats, one_at_most}
 use Rattle.msp_slots.proofs.SlotPlaces.{heads_many, slot_inside, same_slot, seats_in}
 use Rattle.msp_slots.proofs.Begins.{head_at, HasBeginsOn}
-use Rattle.msp_total.specs.Slots.{forbidden, past_due, slot_cost}
+use Rattle.msp_total.specs.Slots.{past_due, slot_cost}
 use Rattle.msp_total.specs.LeastSlots.{slot_crit, HasSmallDates, AreLeastSlots}
 use Rattle.msp_total.proofs.SlotFacts.{greatest_job_cost, charged, charged_small, cost_early, cost_in_time, cost_natural, slots_soon}
 
@@ -108,12 +108,10 @@ module _ (i : Instance) (late : Bool) (machines span : ℕ) (h : HasSmallDates i
   pub in_time : (j : ℕ) → j < n → head_at i j ≤ start (col j)
   in_time j b = elim (cases_lt (start (col j)) (head_at i j)) [
     | inr more ↦ more
-    | inl less ↦ absurd (never value (cost j (col j)) value_small (int_total_below-term n (λ r. cost r (col r)) j costs_natural b)
-        (cost_early i late span h some short slots l.table l.is_table j (col j) b (in_slots (col j) (chosen_inside j b)) less))
+    | inl less ↦
+        let early = cost_early i late span h some short slots l.table l.is_table j (col j) b (in_slots (col j) (chosen_inside j b)) less in
+        absurd (omega (arith, ints, value_small, int_total_below-term n (λ r. cost r (col r)) j costs_natural b, early))
   ]
-    where
-      never : (v c : ℤ) → v ≤ℤ pos (MOST_JOBS * greatest_job_cost) → c ≤ℤ v → c ≡ forbidden → ⊥
-      never v c p q e = omega (arith, ints, p, q, e)
 
   -- ---- a schedule whose jobs end no later
   module _ (crit : i.class.crit ≡ slot_crit late) (pieces : List Piece) (ends : (j : ℕ) → j < n → end_of (record { unit = pos 1; pieces = pieces }) j ≤ℤ pos (start (col j) + span)) where
@@ -135,9 +133,6 @@ module _ (i : Instance) (late : Bool) (machines span : ℕ) (h : HasSmallDates i
     pub best_in_slots : Feasible i s → ((t : Schedule) → Feasible i t → (begin : ℕ → ℕ) × HasBeginsOn i machines span t begin) → Best i s
     best_in_slots feasible begins = best_by_moments i s 1 summed refl (omega arith) feasible each
       where
-        later : (a b : ℕ) → a ≤ b → a + span ≤ b + span
-        later a b h = omega (arith, h)
-
         each : (t : Schedule) → Feasible i t → (moment : ℕ → ℤ) × (cost_of i s ≤ℤ sum_when i 1 moment) × ((j : ℕ) → j < n → (t.unit *ℤ moment j) ≤ℤ (pos 1 *ℤ end_of t j))
         each t f =
             let (begin, b) = begins t f in
@@ -145,6 +140,6 @@ module _ (i : Instance) (late : Bool) (machines span : ℕ) (h : HasSmallDates i
               (λ r. pos (start (seat r) + span)),
               subst (λ z. cost_of i s ≤ℤ z) (sym (int_total_below-same n _ (λ r. charged i late span r (start (seat r))) (λ r w. cost_is r (start (seat r)))))
                   (≤ℤ_trans upper (least_here begin seat e)),
-              (λ r w. ≤ℤ_trans (*ℤ-mono_nonneg t.unit (omega (arith, ints, f.unit)) (pos-le (later (start (seat r)) (begin r) (e.early r w))))
+              (λ r w. ≤ℤ_trans (*ℤ-mono_nonneg t.unit (omega (arith, ints, f.unit)) (pos-le (omega (arith, e.early r w))))
                   (subst (λ x. (t.unit *ℤ pos (begin r + span)) ≤ℤ x) (sym (one-*ℤ (end_of t r))) (b.ends r w))),
             )

@@ -8,7 +8,7 @@ use Rattle.std.proofs.Math.Nat.{mod-lt}
 use Rattle.std.proofs.lemmas.Nat.{mul-le}
 use Rattle.std.proofs.lemmas.List.{length-map, get_or-map}
 use Rattle.std.proofs.lemmas.List.Elements.{All-map}
-use Rattle.msp_class.proofs.IntegerRing.{pos-le, ≤ℤ_trans, *ℤ_comm, *ℤ-mono_nonneg, *ℤ-one}
+use Rattle.msp_class.proofs.IntegerRing.{pos-le, ≤ℤ_trans, *ℤ_comm, *ℤ-mono_nonneg, *ℤ-one, ≤ℤ_antisym}
 use Rattle.msp_instance.specs.declared.Instance.{Instance}
 use Rattle.msp_instance.specs.Instance.{need_at}
 use Rattle.msp_instance.proofs.PathBitLemmas.{row_inside}
@@ -87,16 +87,11 @@ module _ (i : Instance) (h : IsUnrelatedInstance i) (p : Positions) (table : IsT
 
   -- a best schedule costs as much
   best_is : (t : Schedule) → Best i t → cost_of i t ≡ t.unit *ℤ all_prices i row position_of
-  best_is t b = both (cost_of i t) (t.unit *ℤ all_prices i row position_of) above (law_of_prices i t row position_of h.kind h.cut h.crit b.feasible (prices_fit i h p table a placing))
+  best_is t b = ≤ℤ_antisym above (law_of_prices i t row position_of h.kind h.cut h.crit b.feasible (prices_fit i h p table a placing))
     where
-      both : (x y : ℤ) → x ≤ℤ y → y ≤ℤ x → x ≡ y
-      both x y l g = omega (arith, ints)
-
-      positive : (u : ℤ) → pos 1 ≤ℤ u → pos 0 ≤ℤ u
-      positive u k = omega (arith, ints)
-
       above : cost_of i t ≤ℤ (t.unit *ℤ all_prices i row position_of)
-      above = ≤ℤ_trans (subst₂ (λ x y. x ≤ℤ y) (*ℤ-one (cost_of i t)) (*ℤ_comm (cost_of i s) t.unit) (b.least s laid_best.feasible)) (*ℤ-mono_nonneg t.unit (positive t.unit b.feasible.unit) cheap)
+      above = ≤ℤ_trans (subst₂ (λ x y. x ≤ℤ y) (*ℤ-one (cost_of i t)) (*ℤ_comm (cost_of i s) t.unit)
+          (b.least s laid_best.feasible)) (*ℤ-mono_nonneg t.unit (omega (arith, ints, b.feasible.unit)) cheap)
 
   pub ArePricesOfBest-positioned : ArePricesOfBest i a
   ArePricesOfBest-positioned = record {
@@ -175,14 +170,11 @@ module _ (i : Instance) (h : IsUnrelatedInstance i) (p : Positions) (table : IsT
         by u v x w y z e n q f g k = (omega (arith, ints), omega (arith, ints))
 
     row_small : (j : ℕ) → j < p.jobs → nat_abs (row j) ≤ p.jobs * most
-    row_small j l = by (row j) (p.jobs * most) (row_within j l).0 (row_within j l).1
-      where
-        by : (u : ℤ) (n : ℕ) → pos 0 ≤ℤ u → u ≤ℤ pos n → nat_abs u ≤ n
-        by u n b c = omega (arith, ints)
+    row_small j l = omega (arith, ints, (row_within j l).0, (row_within j l).1)
 
     column_small : (c : ℕ) → c < p.jobs * p.machines → nat_abs (position c) ≤ p.jobs * most
     column_small c l = elim (contained_or_not a.column c) [
-      | inr n ↦ none (position c) (placing.priced.unused c l n)
+      | inr n ↦ omega (arith, ap nat_abs (placing.priced.unused c l n))
       | inl m ↦
           let w = at-Contains a.column c m in
           let j : w.0 < p.jobs = omega (arith, w.1, placing.assigned.all) in
@@ -190,9 +182,6 @@ module _ (i : Instance) (h : IsUnrelatedInstance i) (p : Positions) (table : IsT
           (subst (λ x. row w.0 +ℤ position x ≡ position_cost p.jobs p.machines p.times w.0 x) w.2 (placing.priced.exact w.0 j)) (cost_low w.0 c) (placing.priced.low c l) (row_within w.0 j).1
     ]
       where
-        none : (v : ℤ) → v ≡ pos 0 → nat_abs v ≤ p.jobs * most
-        none v e = omega (arith, ap nat_abs e)
-
         by : (u v x : ℤ) (n : ℕ) → u +ℤ v ≡ x → pos 0 ≤ℤ x → v ≤ℤ pos 0 → u ≤ℤ pos n → nat_abs v ≤ n
         by u v x n e q k b = omega (arith, ints)
 

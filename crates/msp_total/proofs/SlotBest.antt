@@ -29,9 +29,6 @@ use Rattle.msp_total.proofs.LeastSlots.{chosen_soon, chosen_machine, chosen_apar
 abbrev pub IsUnitShop : Instance → Bool → Type 0
 IsUnitShop i late = IsOfClass i (slot_class late)
 
-pub IsUnitShop-from : (i : Instance) (late : Bool) → i.class ≡ slot_class late → Inner i → IsUnitShop i late
-IsUnitShop-from i late e h = IsOfClass-from i (slot_class late) e h
-
 pub small_dates : (i : Instance) (late : Bool) → IsUnitShop i late → HasSmallDates i
 small_dates i late h = HasSmallDates-from i (slot_class late) late h refl refl refl
 
@@ -90,6 +87,6 @@ module _ (i : Instance) (late : Bool) (h : IsUnitShop i late) (pieces : List Pie
 pub IsSlotAnswer-from : (i : Instance) (late : Bool)
     → i.class ≡ slot_class late → Inner i → (pieces : List Piece) → AreLeastLaid i late pieces → IsBestAnswer i (record { unit = pos 1; pieces = pieces })
 IsSlotAnswer-from i late class inner pieces l =
-    let h = IsUnitShop-from i late class inner in
+    let h = IsOfClass-from i (slot_class late) class inner in
     let units = units i late h pieces l in
     record { best = best i late h pieces l; answer = one_each_is_answer i units.runs.uncut 1 pieces units.runs.one_each (unit_one (kind_of i.class.env)) }

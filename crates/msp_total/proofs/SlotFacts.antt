@@ -3,7 +3,7 @@ use Rattle.std.proofs.Common.{◌≡◌, ℕ, ◌+◌, ◌-◌, ◌*◌, ◌<◌
 use Rattle.std.proofs.Common.{ap₂, subst, subst₂, ◌∙◌, arith}
 use Rattle.std.specs.Prelude.{int_lt, if◌then◌else◌}
 use Rattle.std.specs.Int.{int_max}
-use Rattle.std.proofs.lemmas.Bool.{lt-ltb, le-ltb, cases_lt}
+use Rattle.std.proofs.lemmas.Bool.{lt-ltb, le-ltb, cases_lt, cond_both}
 use Rattle.std.proofs.lemmas.Int.{ints, clamps}
 use Rattle.std.proofs.lemmas.List.{length-map, get_or-map}
 use Rattle.std.proofs.lemmas.List.Elements.{All-map}
@@ -37,7 +37,7 @@ weight_of true w h = h.1
 weight_of false w h = h.1
 
 pub HasSmallDates-from : (i : Instance) (c : Class) (late : Bool) → IsOfClass i c → c.heads ≡ true → c.crit ≡ slot_crit late → inner_factor (kind_of c.env) ≡ 1 → HasSmallDates i
-HasSmallDates-from i c late h heads crit factor = record {
+HasSmallDates-from i c late h heads crit factor = let limits : Limits = inner_limits (kind_of c.env) in record {
   some = h.some;
   few = h.few;
   releases = λ j d b. subst (λ f. (get_or i.jobs j d).release ≤ 2 * GREATEST * f) factor (subst (λ r. HasRelease limits r (get_or i.jobs j d).release) heads (h.jobs j d b).release);
@@ -45,33 +45,21 @@ HasSmallDates-from i c late h heads crit factor = record {
       (due_of late limits (get_or i.jobs j d).due (subst (λ k. HasDue limits (uses_due k) (get_or i.jobs j d).due) crit (h.jobs j d b).due));
   weights = λ j d b. weight_of late (get_or i.jobs j d).weight (subst (λ k. HasWeight (uses_weight k) (get_or i.jobs j d).weight) crit (h.jobs j d b).weight);
 }
-  where
-    limits : Limits
-    limits = inner_limits (kind_of c.env)
 
 -- ---- bounds
 past_natural : (late : Bool) (x d : ℤ) → pos 0 ≤ℤ past_due late x d
 past_natural true x d = omega (arith, ints, clamps)
-past_natural false x d = by (int_lt d x)
-  where
-    by : (b : Bool) → pos 0 ≤ℤ (if b then pos 1 else pos 0)
-    by true = omega (arith, ints)
-    by false = omega (arith, ints)
+past_natural false x d = cond_both (int_lt d x) (pos 1) (pos 0) (λ p. pos 0 ≤ℤ p) (λ e. omega (arith, ints)) (λ e. omega (arith, ints))
 
 past_small : (late : Bool) (x : ℕ) (d : ℤ) → x ≤ 5 * GREATEST → LiesWithin (2 * GREATEST) d → past_due late (pos x) d ≤ℤ pos (10 * GREATEST)
 past_small true x d l h = omega (arith, ints, clamps, l, h.0, h.1)
-past_small false x d l h = by (int_lt d (pos x))
-  where
-    by : (b : Bool) → (if b then pos 1 else pos 0) ≤ℤ pos (10 * GREATEST)
-    by true = omega (arith, ints)
-    by false = omega (arith, ints)
+past_small false x d l h = cond_both (int_lt d (pos x)) (pos 1) (pos 0)
+    (λ p. p ≤ℤ pos (10 * GREATEST)) (λ e. omega (arith, ints)) (λ e. omega (arith, ints))
 
 -- a due date earlier, or an end later
 past_moved : (late : Bool) (x a : ℕ) (d : ℤ) → 1 ≤ a → past_due late (pos (x + 1)) (d -ℤ pos (a - 1)) ≡ past_due late (pos (x + a)) d
-past_moved true x a d some = ap (int_max (pos 0)) (moved x a d some)
-  where
-    moved : (x a : ℕ) (d : ℤ) → 1 ≤ a → pos (x + 1) -ℤ (d -ℤ pos (a - 1)) ≡ pos (x + a) -ℤ d
-    moved x a d some = omega (arith, ints, some)
+past_moved true x a d some =
+    let moved : pos (x + 1) -ℤ (d -ℤ pos (a - 1)) ≡ pos (x + a) -ℤ d = omega (arith, ints, some) in ap (int_max (pos 0)) moved
 past_moved false x a d some =
     ap (λ t. if t then pos 1 else pos 0) (int_lt-same (d -ℤ pos (a - 1)) (pos (x + 1)) d (pos (x + a)) (λ l. omega (arith, ints, some, l)) (λ l. omega (arith, ints, some, l)))
 

@@ -1,5 +1,5 @@
 -- Steps of the loops over jobs that take their turns.
-use Rattle.std.proofs.Common.{◌≡◌, ℕ, suc, ◌+◌, ◌*◌, ◌-◌, ◌<◌, ◌≤◌, ◌⊎◌, inl, inr, Bool, true, false, cond, eqb, List, [], ◌∷◌, ◌++◌, length, get_or, take, map, set, All, AllPairs}
+use Rattle.std.proofs.Common.{◌≡◌, ℕ, ◌+◌, ◌*◌, ◌-◌, ◌<◌, ◌≤◌, ◌⊎◌, inl, inr, Bool, true, false, cond, eqb, List, [], ◌∷◌, ◌++◌, length, get_or, take, map, set, All, AllPairs, add-one}
 use Rattle.std.proofs.Common.{IsPermutation, refl, sym, ap, subst, subst₂, ◌∙◌, arith}
 use Rattle.std.specs.Prelude.{slice_index_or}
 use Rattle.std.specs.List.{range_with_len}
@@ -113,10 +113,8 @@ module _ (steps : List ℕ) (jobs : List Keyed) (places : List Place) (p : Place
   next-next next inside (size, values) = (length-set next p.machine _ ∙ size, λ m l. by m l (eqb p.machine m) refl)
     where
       parts : (m : ℕ) → seats (machine_at more) (length more) m ≡ seats (machine_at places) k m + cond (eqb p.machine m) 1 0
-      parts m = ap (λ x. seats (machine_at more) x m) (count_more ∙ one_more) ∙ omega (arith, seats-before k m (omega arith), ap (λ (q : Place). one_if (eqb q.machine m)) at_end)
-        where
-          one_more : k + 1 ≡ suc k
-          one_more = omega arith
+      parts m = ap (λ x. seats (machine_at more) x m) (count_more ∙ add-one k)
+          ∙ omega (arith, seats-before k m (omega arith), ap (λ (q : Place). one_if (eqb q.machine m)) at_end)
 
       by : (m : ℕ) → m < length steps → (b : Bool) → eqb p.machine m ≡ b
           → number_at (set next p.machine (number_at next p.machine + number_at steps p.machine)) m ≡ multiplier (number_at steps) m (seats (machine_at more) (length more) m)
@@ -124,10 +122,7 @@ module _ (steps : List ℕ) (jobs : List Keyed) (places : List Place) (p : Place
           let same = eqb-true p.machine m e in
           get_or-set_at next p.machine m _ 0 (sym same) (omega (arith, inside, size))
           ∙ ap (λ x. number_at next x + number_at steps x) same ∙ ap (λ x. x + number_at steps m) (values m l)
-          ∙ counted (seats (machine_at places) k m) (number_at steps m) _ (parts m ∙ ap (λ x. seats (machine_at places) k m + x) (cond-yes 1 e))
-        where
-          counted : (s x y : ℕ) → y ≡ s + 1 → (s + 1) * x + x ≡ (y + 1) * x
-          counted s x y h = omega (arith, ap (λ z. z * x) h)
+          ∙ omega (arith, ap (λ z. z * number_at steps m) (parts m ∙ ap (λ x. seats (machine_at places) k m + x) (cond-yes 1 e)))
       by m l false e =
           get_or-set_other next p.machine m _ 0 (λ q. eqb-false p.machine m e (sym q)) ∙ values m l
           ∙ sym (ap (multiplier (number_at steps) m) (parts m ∙ ap (λ x. seats (machine_at places) k m + x) (cond-no 1 e) ∙ omega arith))

@@ -33,10 +33,8 @@ module _ (i : Instance) (h : IsUniformInstance i) (speeds : List ℕ) (unit : �
   steps_are steps taken e f = f ∙ e ∙ ap (map (λ s. unit / s)) same_speeds
 
   pub steps_small : (steps taken : List ℕ) → steps ≡ map (λ s. unit / s) speeds → taken ≡ steps → All (λ s. s ≤ GREATEST_MULTIPLE) taken
-  steps_small steps taken e f = subst (All (λ s. s ≤ GREATEST_MULTIPLE)) (sym (steps_are steps taken e f)) small
-    where
-      small : All (λ s. s ≤ GREATEST_MULTIPLE) (steps_by i unit)
-      small k d l = omega (arith, get_or_default (steps_by i unit) k d 0 l, step-most i h unit common_of k (omega (arith, l, steps-length i h unit common_of)), few)
+  steps_small steps taken e f = subst (All (λ s. s ≤ GREATEST_MULTIPLE)) (sym (steps_are steps taken e f))
+      (λ k d l. omega (arith, get_or_default (steps_by i unit) k d 0 l, step-most i h unit common_of k (omega (arith, l, steps-length i h unit common_of)), few))
 
   pub steps_count : (steps taken : List ℕ) → steps ≡ map (λ s. unit / s) speeds → taken ≡ steps → length taken ≡ i.machines
   steps_count steps taken e f = ap length (steps_are steps taken e f) ∙ steps-length i h unit common_of

@@ -1,5 +1,5 @@
 -- The jobs that took their turns, as a schedule on uniform machines: it is feasible and best, and lies within the bounds.
-use Rattle.std.proofs.Common.{◌≡◌, ℕ, ◌+◌, ◌*◌, ◌-◌, ◌/◌, ◌<◌, ◌≤◌, inl, inr, List, length, map, ℤ, pos, nat_abs, ◌-ℤ◌, ◌*ℤ◌, ◌≤ℤ◌, All}
+use Rattle.std.proofs.Common.{mul_assoc, mul_comm, ◌≡◌, ℕ, ◌+◌, ◌*◌, ◌-◌, ◌/◌, ◌<◌, ◌≤◌, inl, inr, List, length, map, ℤ, pos, nat_abs, ◌*ℤ◌, ◌≤ℤ◌, All, le_trans}
 use Rattle.std.proofs.Common.{slice_index_or, refl, sym, ap, ap₂, subst, ◌∙◌, arith}
 use Rattle.std.proofs.lemmas.Int.{ints}
 use Rattle.std.proofs.lemmas.Nat.{mul-le}
@@ -137,31 +137,19 @@ module _ (i : Instance) (h : IsUniformInstance i) (unit : ℕ) (common : IsLeast
       work : p.length * speed p.machine ≡ unit * time_of p.job
 
     meant : All IsMeant places
-    meant r d l = subst IsMeant (get_or_default places r no_place d l) (record {
-      machine_inside = machine-inside r (omega (arith, l, count));
-      lasts = omega (arith, long, mul-le 1 1 (time r) (step (machine r)) (omega (arith, at, (times i h (job r) inside).0)) (step-some (machine r) on));
-      short = omega (arith, long, mul-le (time r) (step (machine r)) GREATEST GREATEST_MULTIPLE (omega (arith, at, (times i h (job r) inside).1)) (omega (arith, step-most (machine r) on, few)));
-      work = ap (λ x. x * speed (machine r)) long ∙ grouped (time r) (step (machine r)) (speed (machine r))
-          ∙ ap (λ x. x * time r) (step-speed (machine r) on) ∙ ap (λ x. unit * x) (at ∙ ap time_of (sym (turns.each r l).job));
-    })
-      where
-        below : r < n
-        below = omega (arith, l, count)
-
-        on : machine r < i.machines
-        on = machine-inside r below
-
-        inside : job r < n
-        inside = job-inside r below
-
-        at : time r ≡ time_of (job r)
-        at = time-is r below
-
-        long : length_at places r ≡ time r * step (machine r)
-        long = length-is r below
-
-        grouped : (a b c : ℕ) → a * b * c ≡ b * c * a
-        grouped a b c = omega arith
+    meant r d l =
+        let below : r < n = omega (arith, l, count) in
+        let on : machine r < i.machines = machine-inside r below in
+        let inside : job r < n = job-inside r below in
+        let at : time r ≡ time_of (job r) = time-is r below in
+        let long : length_at places r ≡ time r * step (machine r) = length-is r below in
+        subst IsMeant (get_or_default places r no_place d l) (record {
+          machine_inside = on;
+          lasts = omega (arith, long, mul-le 1 1 (time r) (step (machine r)) (omega (arith, at, (times i h (job r) inside).0)) (step-some (machine r) on));
+          short = omega (arith, long, mul-le (time r) (step (machine r)) GREATEST GREATEST_MULTIPLE (omega (arith, at, (times i h (job r) inside).1)) (le_trans (step-most (machine r) on) few));
+          work = ap (λ x. x * speed (machine r)) long ∙ omega arith
+              ∙ ap (λ x. x * time r) (step-speed (machine r) on) ∙ ap (λ x. unit * x) (at ∙ ap time_of (sym (turns.each r l).job));
+        })
 
     pub fitting : AreFitting i unit places
     fitting = record {
@@ -181,11 +169,8 @@ module _ (i : Instance) (h : IsUniformInstance i) (unit : ℕ) (common : IsLeast
 
     upper : cost_of i s ≤ℤ pos value
     upper = subst (λ x. cost_of i s ≤ℤ pos x) (ap (λ k. total_below k (λ r. length_at places r * (seats machine r (machine r) + 1))) count
-        ∙ total_below-same n _ _ (λ r l. ap (λ x. x * (seats machine r (machine r) + 1)) (length-is r l) ∙ grouped (time r) (step (machine r)) (seats machine r (machine r) + 1)))
+        ∙ total_below-same n _ _ (λ r l. ap (λ x. x * (seats machine r (machine r) + 1)) (length-is r l) ∙ omega arith))
         (laid_costs i (IsPlain-from_uniform i h) unit places fitting)
-      where
-        grouped : (a b c : ℕ) → a * b * c ≡ a * (c * b)
-        grouped a b c = omega arith
 
     -- ---- no feasible schedule costs less
     module _ (t : Schedule) (f : Feasible i t) where
@@ -218,34 +203,17 @@ module _ (i : Instance) (h : IsUniformInstance i) (unit : ℕ) (common : IsLeast
 
       -- the unit times a job's length is its step times its time
       size : (j : ℕ) → j < n → unit * (end j - begin j) ≡ step (on j) * (other * time_of j)
-      size j l = by (end j - begin j) (step (on j)) (speed (on j)) unit (other * time_of j) (step-speed (on j) (on-inside j l)) work
-        where
-          only : IsOnly i t h.cut works f j (only_piece t j)
-          only = is_only i t h.cut works f j l
-
-          at : IsTimed (only_piece t j)
-          at = only_timed i t h.cut works f j l
-
-          by : (x s v u w : ℕ) → s * v ≡ u → x * v ≡ w → u * x ≡ s * w
-          by x s v u w e g = ap (λ y. y * x) (sym e) ∙ turned s v x ∙ ap (λ y. s * y) g
-            where
-              turned : (a b c : ℕ) → a * b * c ≡ a * (c * b)
-              turned a b c = omega arith
-
-          long : length_of (only_piece t j) ≡ pos (end j - begin j)
-          long = lasting (end j) (begin j) (only_piece t j).to (only_piece t j).from at.to at.from at.lasts
-            where
-              lasting : (m k : ℕ) (x y : ℤ) → x ≡ pos m → y ≡ pos k → k < m → x -ℤ y ≡ pos (m - k)
-              lasting m k x y e g l = omega (arith, ints)
-
-          need_is : need_at i (only_piece t j).job (only_piece t j).op ≡ need_at i j 0
-          need_is = ap₂ (need_at i) only.job only.op
-
-          work : (end j - begin j) * speed (on j) ≡ other * time_of j
-          work = pos-same (
-              sym (ap (λ x. x *ℤ pos (speed (on j))) long)
-              ∙ subst (λ k. IsWholeWork k i t.unit (only_piece t j)) h.kind only.work
-              ∙ ap (λ x. t.unit *ℤ pos x.time) need_is ∙ ap (λ u. u *ℤ pos (time_of j)) (natural t.unit (omega (arith, ints, f.unit))))
+      size j l =
+          let only : IsOnly i t h.cut works f j (only_piece t j) = is_only i t h.cut works f j l in
+          let at : IsTimed (only_piece t j) = only_timed i t h.cut works f j l in
+          let long : length_of (only_piece t j) ≡ pos (end j - begin j) = omega (arith, ints, at.to, at.from, at.lasts) in
+          let need_is : need_at i (only_piece t j).job (only_piece t j).op ≡ need_at i j 0 = ap₂ (need_at i) only.job only.op in
+          let work : (end j - begin j) * speed (on j) ≡ other * time_of j = pos-same (
+          sym (ap (λ x. x *ℤ pos (speed (on j))) long)
+          ∙ subst (λ k. IsWholeWork k i t.unit (only_piece t j)) h.kind only.work
+          ∙ ap (λ x. t.unit *ℤ pos x.time) need_is ∙ ap (λ u. u *ℤ pos (time_of j)) (natural t.unit (omega (arith, ints, f.unit)))) in
+          ap (λ y. y * (end j - begin j)) (sym (step-speed (on j) (on-inside j l)))
+          ∙ mul_assoc (step (on j)) (speed (on j)) (end j - begin j) ∙ ap (λ y. step (on j) * y) (mul_comm (speed (on j)) (end j - begin j) ∙ work)
 
       abbrev weighed : ℕ → ℕ
       weighed j = time_of j * multiplier step (on j) (place j - 1)
@@ -257,14 +225,11 @@ module _ (i : Instance) (h : IsUniformInstance i) (unit : ℕ) (common : IsLeast
           (mul-le-mul_left unit (sum_of_ends n on end begin lasts apart))
         where
           turned : (u x k s d t : ℕ) → u * x ≡ s * (d * t) → 1 ≤ k → u * (x * k) ≡ d * (t * ((k - 1 + 1) * s))
-          turned u x k s d t e some = grouped u x k ∙ ap (λ y. y * k) e ∙ ap (λ y. s * (d * t) * y) (sym (back k some)) ∙ moved s d t (k - 1 + 1)
+          turned u x k s d t e some =
+              let back : k - 1 + 1 ≡ k = omega arith in
+              let grouped : u * (x * k) ≡ u * x * k = omega arith in
+              grouped ∙ ap (λ y. y * k) e ∙ ap (λ y. s * (d * t) * y) (sym back) ∙ moved s d t (k - 1 + 1)
             where
-              grouped : (a b c : ℕ) → a * (b * c) ≡ a * b * c
-              grouped a b c = omega arith
-
-              back : (c : ℕ) → 1 ≤ c → c - 1 + 1 ≡ c
-              back c m = omega arith
-
               moved : (a b c e : ℕ) → a * (b * c) * e ≡ b * (c * (e * a))
               moved a b c e = omega arith
 
@@ -274,24 +239,16 @@ module _ (i : Instance) (h : IsUniformInstance i) (unit : ℕ) (common : IsLeast
       least : value ≤ total_below n weighed
       least = subst (λ x. value ≤ x) (sym reordered)
           (least_in_all n i.machines step machine machine-inside greedy time (λ r. on (job r)) (λ r. place (job r) - 1) falls
-          (λ a l. let j = job-inside a l in (on-inside (job a) j, below (place (job a)) n (position_of-some n on end (job a) j) (position_of-few n on end (job a))))
+          (λ a l. let j = job-inside a l in (on-inside (job a) j, omega (arith, position_of-some n on end (job a) j, position_of-few n on end (job a))))
           (λ a b l m same e. let ja = job-inside a l in let jb = job-inside b m in
           listed_once (λ (t : Keyed). t.job) no_timed jobs once a b l m (position_of-once n on end begin lasts apart (job a)
-          (job b) ja jb same (back (place (job a)) (place (job b)) (position_of-some n on end (job a) ja) (position_of-some n on end (job b) jb) e))))
-        where
-          below : (c n : ℕ) → 1 ≤ c → c ≤ n → c - 1 < n
-          below c n h k = omega arith
-
-          back : (c d : ℕ) → 1 ≤ c → 1 ≤ d → c - 1 ≡ d - 1 → c ≡ d
-          back c d h k e = omega arith
+          (job b) ja jb same (omega (arith, position_of-some n on end (job a) ja, position_of-some n on end (job b) jb, e)))))
 
       lower : (t.unit *ℤ pos value) ≤ℤ (pos unit *ℤ cost_of i t)
       lower =
           subst (λ u. (u *ℤ pos value) ≤ℤ (pos unit *ℤ cost_of i t)) (sym (natural t.unit (omega (arith, ints, f.unit))))
-          (≤ℤ_trans (pos-le (mul-le-mul_left other least)) (≤ℤ_trans (pos-le ends_take) (*ℤ-mono_nonneg (pos unit) (pos-le none) (sum_of_only_ends i t h.cut works f h.crit))))
-        where
-          none : 0 ≤ unit
-          none = omega arith
+          (≤ℤ_trans (pos-le (mul-le-mul_left other least))
+          (≤ℤ_trans (pos-le ends_take) (*ℤ-mono_nonneg (pos unit) (pos-le (omega arith)) (sum_of_only_ends i t h.cut works f h.crit))))
 
     pub best : Best i s
     best = best_at i s (pos value) (laid_is_feasible i (IsPlain-from_uniform i h) unit places fitting) upper lower

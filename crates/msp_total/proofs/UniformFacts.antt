@@ -1,17 +1,13 @@
 -- What an instance of uniform machines has.
-use Rattle.std.proofs.Common.{◌≡◌, ℕ, ◌<◌, ◌≤◌, length, All, arith}
+use Rattle.std.proofs.Common.{ℕ, ◌<◌, ◌≤◌, length, All, arith}
 use Rattle.msp_class.specs.declared.sizes.TheConstants.{GREATEST}
 use Rattle.msp_instance.specs.declared.Instance.{Instance}
 use Rattle.msp_instance.specs.Instance.{no_need, no_job, need_at}
-use Rattle.msp_instance.specs.Conditions.{Inner}
-use Rattle.msp_pieces.proofs.feasible.OfClass.{IsOfClass, IsOfClass-from}
+use Rattle.msp_pieces.proofs.feasible.OfClass.{IsOfClass}
 use Rattle.msp_total.specs.Classes.{uniform_class}
 
 abbrev pub IsUniformInstance : Instance → Type 0
 IsUniformInstance i = IsOfClass i uniform_class
-
-pub IsUniformInstance-from_class : (i : Instance) → i.class ≡ uniform_class → Inner i → IsUniformInstance i
-IsUniformInstance-from_class i e h = IsOfClass-from i uniform_class e h
 
 pub times : (i : Instance) → IsUniformInstance i → (j : ℕ) → j < length i.jobs → (1 ≤ (need_at i j 0).time) × ((need_at i j 0).time ≤ GREATEST)
 times i h j l = let n = (h.jobs j no_job l).needs in n.times 0 no_need (omega (arith, n.shape.0))

@@ -1,7 +1,6 @@
 -- The jobs that took their turns take multipliers in the order of their times, ties by number.
-use Rattle.std.proofs.Common.{◌≡◌, ◌≢◌, ℕ, ◌+◌, ◌*◌, ◌<◌, ◌≤◌, Bool, true, false, cond, eqb, leb, ◌⊎◌, inl, inr, List, [], ◌∷◌, length, get_or, map, pos, ◌≤ℤ◌, All, AllPairs}
+use Rattle.std.proofs.Common.{◌≡◌, ◌≢◌, ℕ, ◌+◌, ◌*◌, ◌<◌, ◌≤◌, cond, eqb, ◌⊎◌, inl, inr, List, [], ◌∷◌, length, get_or, map, pos, ◌≤ℤ◌, All, AllPairs, mul-lt-mul_of_pos_right, le_of_mul-le-mul_right, lt_of_mul-lt-mul_right, lt_trans}
 use Rattle.std.proofs.Common.{refl, sym, ap, subst, subst₂, ◌∙◌, arith}
-use Rattle.std.proofs.lemmas.Bool.{leb-true, leb-false}
 use Rattle.std.proofs.lemmas.List.{length-map, get_or-map}
 use Rattle.std.proofs.lemmas.List.Elements.{All-nil, All-cons}
 use Rattle.std.proofs.lemmas.List.Kept.{AllPairs-cons}
@@ -38,11 +37,9 @@ laid-machine ps r l =
 laid-ends : (m : ℕ) (ps : List Place) → All (λ q. q.machine ≡ m → q.to ≤ℤ pos (time_on m ps)) (laid ps)
 laid-ends m [] = All-nil (λ (q : Piece). q.machine ≡ m → q.to ≤ℤ pos (time_on m []))
 laid-ends m (p ∷ ps) =
-    All-cons (λ q. q.machine ≡ m → q.to ≤ℤ pos (time_on m (p ∷ ps))) (piece_before p ps) (laid ps) (λ e. head p.machine e)
+    All-cons (λ q. q.machine ≡ m → q.to ≤ℤ pos (time_on m (p ∷ ps))) (piece_before p ps) (laid ps)
+    (λ e. pos-le (omega (arith, ap (λ y. time_on y (p ∷ ps)) e)))
     (λ k d l e. ≤ℤ_trans (laid-ends m ps k d l e) (pos-le (omega (arith, time_on-cons m p ps))))
-  where
-    head : (x : ℕ) → x ≡ m → pos (time_on x (p ∷ ps)) ≤ℤ pos (time_on m (p ∷ ps))
-    head x e = pos-le (omega (arith, ap (λ y. time_on y (p ∷ ps)) e))
 
 laid-backwards : (ps : List Place) → AllPairs (λ p q. p.machine ≡ q.machine → q.to ≤ℤ p.from) (laid ps)
 laid-backwards [] = λ i j d a b. absurd (omega arith)
@@ -53,30 +50,12 @@ laid-backwards (p ∷ ps) =
 
 -- ---- multipliers, over the unit and as fractions
 crossed : (x y s t v w u : ℕ) → x * t ≤ y * s → s * v ≡ u → t * w ≡ u → 1 ≤ u → x * v ≤ y * w
-crossed x y s t v w u h e f some = by (leb (x * v) (y * w)) refl
-  where
-    grown : x * v * u ≤ y * w * u
-    grown = omega (arith, mul-le-mul_right (v * w) h, ap (λ z. x * v * z) f, ap (λ z. y * w * z) e)
-
-    by : (b : Bool) → leb (x * v) (y * w) ≡ b → x * v ≤ y * w
-    by true k = leb-true (x * v) (y * w) k
-    by false k = absurd (omega (arith, grown, mul-le-mul_right u (more (x * v) (y * w) (leb-false (x * v) (y * w) k)), some))
-      where
-        more : (a b : ℕ) → b < a → b + 1 ≤ a
-        more a b l = omega arith
+crossed x y s t v w u h e f some =
+    le_of_mul-le-mul_right {k = u} (omega (arith, mul-le-mul_right (v * w) h, ap (λ z. x * v * z) f, ap (λ z. y * w * z) e)) some
 
 crossed_less : (x y s t v w u : ℕ) → x * t < y * s → s * v ≡ u → t * w ≡ u → 1 ≤ v → 1 ≤ w → x * v < y * w
-crossed_less x y s t v w u h e f sv sw = by (leb (y * w) (x * v)) refl
-  where
-    more : (a b : ℕ) → a < b → a + 1 ≤ b
-    more a b l = omega arith
-
-    grown : x * v * u + v * w ≤ y * w * u
-    grown = omega (arith, mul-le-mul_right (v * w) (more (x * t) (y * s) h), ap (λ z. x * v * z) f, ap (λ z. y * w * z) e)
-
-    by : (b : Bool) → leb (y * w) (x * v) ≡ b → x * v < y * w
-    by true k = absurd (omega (arith, grown, mul-le-mul_right u (leb-true (y * w) (x * v) k), one-le-mul sv sw))
-    by false k = leb-false (y * w) (x * v) k
+crossed_less x y s t v w u h e f sv sw =
+    lt_of_mul-lt-mul_right u (omega (arith, mul-lt-mul_of_pos_right h (one-le-mul sv sw), ap (λ z. x * v * z) f, ap (λ z. y * w * z) e))
 
 module _ (i : Instance) (h : IsUniformInstance i) (unit : ℕ) (common : IsLeastOfAll i.speeds unit) (few : unit ≤ GREATEST_MULTIPLE)
     (jobs : List Keyed) (sorted : IsByTime i jobs) (places : List Place) (turns : AreTurns (steps_by i unit) jobs places) where
@@ -118,21 +97,16 @@ module _ (i : Instance) (h : IsUniformInstance i) (unit : ℕ) (common : IsLeast
   speed_some m l = speeds_some i h m 0 (omega (arith, l, h.speeds.0))
 
   takes_least : (r : ℕ) → r < length places → TakesLeast i machine r
-  takes_least r l = record {
-    least = λ m k. crossed _ _ (number_at (steps_by i unit) m) (number_at (steps_by i unit) (machine r))
-        _ _ unit (turn.least m (omega (arith, k, steps))) (step-speed i h unit common m k) (step-speed i h unit common (machine r) inside) common.some;
-    first = λ m k. let on : m < i.machines = omega (arith, k, inside) in crossed_less _ _ (number_at (steps_by i unit) m) (number_at (steps_by i unit) (machine r))
-        _ _ unit (turn.first m k) (step-speed i h unit common m on) (step-speed i h unit common (machine r) inside) (speed_some m on) (speed_some (machine r) inside);
-  }
-    where
-      steps : length (steps_by i unit) ≡ i.machines
-      steps = steps-length i h unit common
-
-      turn : IsTurn (steps_by i unit) machine r (timed_at jobs r) (place_at places r)
-      turn = turns.each r l
-
-      inside : machine r < i.machines
-      inside = omega (arith, turn.inside, steps)
+  takes_least r l =
+      let steps : length (steps_by i unit) ≡ i.machines = steps-length i h unit common in
+      let turn : IsTurn (steps_by i unit) machine r (timed_at jobs r) (place_at places r) = turns.each r l in
+      let inside : machine r < i.machines = omega (arith, turn.inside, steps) in
+      record {
+        least = λ m k. crossed _ _ (number_at (steps_by i unit) m) (number_at (steps_by i unit) (machine r))
+            _ _ unit (turn.least m (omega (arith, k, steps))) (step-speed i h unit common m k) (step-speed i h unit common (machine r) inside) common.some;
+        first = λ m k. let on : m < i.machines = lt_trans k inside in crossed_less _ _ (number_at (steps_by i unit) m) (number_at (steps_by i unit) (machine r)) _ _
+            unit (turn.first m k) (step-speed i h unit common m on) (step-speed i h unit common (machine r) inside) (speed_some m on) (speed_some (machine r) inside);
+      }
 
   as_laid : (r : ℕ) → r < length places → TakesLeast i (machine_of (laid places)) r
   as_laid r l = record {

@@ -1,5 +1,5 @@
 -- Jobs at the positions of a least assignment, as a schedule on unrelated machines: it is feasible and best, and lies within the bounds.
-use Rattle.std.proofs.Common.{◌≡◌, ℕ, zero, suc, ◌+◌, ◌*◌, ◌/◌, ◌%◌, ◌<◌, ◌≤◌, Bool, true, false, cond, eqb, inl, inr, List, length, map, ℤ, pos, ◌+ℤ◌, ◌*ℤ◌}
+use Rattle.std.proofs.Common.{◌≡◌, ℕ, zero, suc, ◌+◌, ◌*◌, ◌/◌, ◌%◌, ◌<◌, ◌≤◌, Bool, true, false, cond, eqb, inl, inr, List, length, map, ℤ, pos, ◌+ℤ◌, ◌*ℤ◌, add-zero, add-suc, mul-zero, mul_comm, ◌≢◌}
 use Rattle.std.proofs.Common.{◌≤ℤ◌, All, refl, sym, ap, ap₂, subst, ◌∙◌, arith}
 use Rattle.std.proofs.lemmas.Bool.{eqb-true}
 use Rattle.std.proofs.lemmas.Int.{ints}
@@ -42,34 +42,21 @@ use Rattle.msp_total.proofs.ListedJobs.{listed_count, listed_inside, listed_once
 
 -- ---- totals of integers
 int_total_below-split : (a b : ℕ) (f : ℕ → ℤ) → int_total_below (a + b) f ≡ int_total_below a f +ℤ int_total_below b (λ k. f (a + k))
-int_total_below-split a zero f = ap (λ k. int_total_below k f) none ∙ omega (arith, ints)
-  where
-    none : a + 0 ≡ a
-    none = omega arith
+int_total_below-split a zero f = ap (λ k. int_total_below k f) (add-zero a) ∙ omega (arith, ints)
 int_total_below-split a (suc b) f =
-    ap (λ k. int_total_below k f) next ∙ by (int_total_below (a + b) f) (int_total_below a f) (int_total_below b (λ k. f (a + k))) (f (a + b)) (int_total_below-split a b f)
+    ap (λ k. int_total_below k f) (add-suc a b)
+    ∙ by (int_total_below (a + b) f) (int_total_below a f) (int_total_below b (λ k. f (a + k))) (f (a + b)) (int_total_below-split a b f)
   where
-    next : a + suc b ≡ suc (a + b)
-    next = omega arith
-
     by : (w x y z : ℤ) → w ≡ x +ℤ y → w +ℤ z ≡ x +ℤ (y +ℤ z)
     by w x y z e = omega (arith, ints)
 
 -- by machine
 by_machine : (each machines : ℕ) (v : ℕ → ℤ) → int_total_below (each * machines) v ≡ int_total_below machines (λ m. int_total_below each (λ k. v (m * each + k)))
-by_machine each zero v = ap (λ k. int_total_below k v) none
-  where
-    none : each * 0 ≡ 0
-    none = omega arith
+by_machine each zero v = ap (λ k. int_total_below k v) (mul-zero each)
 by_machine each (suc m) v =
+    let next : each * suc m ≡ m * each + each = omega arith in
     ap (λ k. int_total_below k v) next ∙ int_total_below-split (m * each) each v
-    ∙ ap (λ x. x +ℤ int_total_below each (λ k. v (m * each + k))) (ap (λ k. int_total_below k v) turned ∙ by_machine each m v)
-  where
-    next : each * suc m ≡ m * each + each
-    next = omega arith
-
-    turned : m * each ≡ each * m
-    turned = omega arith
+    ∙ ap (λ x. x +ℤ int_total_below each (λ k. v (m * each + k))) (ap (λ k. int_total_below k v) (mul_comm m each) ∙ by_machine each m v)
 
 -- ---- positions by rising column
 -- of the columns of a machine that come before a moment in the order, no more are taken than lie below
@@ -168,10 +155,7 @@ module _ (i : Instance) (h : IsUnrelatedInstance i) (p : Positions) (table : IsT
     }
       where
         inside : (m k : ℕ) → m < i.machines → k < each → m * each + k < each * i.machines
-        inside m k l b = let s = mul-le-mul_right each (next m i.machines l) in omega (arith, s)
-          where
-            next : (x y : ℕ) → x < y → x + 1 ≤ y
-            next x y g = omega arith
+        inside m k l b = let s : (m + 1) * each ≤ i.machines * each = mul-le-mul_right each (omega arith) in omega (arith, s)
 
     -- ---- the jobs by rising column
     module _ (column : List ℕ) (same_column : column ≡ a.column) (chosen listed : List Chosen) (sorted : IsByColumn (length column) column chosen) (same_chosen : listed ≡ chosen) where
@@ -209,11 +193,10 @@ module _ (i : Instance) (h : IsUnrelatedInstance i) (p : Positions) (table : IsT
           apart j k l m e = placing.assigned.apart j k 0 l (omega (arith, m, placing.assigned.all, table.jobs)) e
 
       rises : (r q : ℕ) → r < q → q < n → column_at r < column_at q
-      rises r q l m = strict (column_at r) (column_at q) (sorted.rising r q no_chosen l (omega (arith, m, chosen-count)))
-          (λ e. at-once (job r) (job q) (job-inside r (omega arith)) (job-inside q m) (job-apart r q l m) (sym (column-is r (omega arith)) ∙ e ∙ column-is q m))
-        where
-          strict : (x y : ℕ) → x ≤ y → (x ≡ y → ⊥) → x < y
-          strict x y g ne = omega arith
+      rises r q l m =
+          let apart : column_at r ≢ column_at q = λ e.
+          at-once (job r) (job q) (job-inside r (omega arith)) (job-inside q m) (job-apart r q l m) (sym (column-is r (omega arith)) ∙ e ∙ column-is q m) in
+          omega (arith, sorted.rising r q no_chosen l (omega (arith, m, chosen-count)), apart)
 
       pub chosen_inside : All (λ c. (c.job < p.jobs) × (c.column < each * p.machines)) listed
       chosen_inside = subst (All (λ c. (c.job < p.jobs) × (c.column < each * p.machines))) (sym same_chosen) inside
@@ -234,27 +217,21 @@ module _ (i : Instance) (h : IsUnrelatedInstance i) (p : Positions) (table : IsT
         machine-is : (r : ℕ) → r < n → machine r ≡ column_at r / each
         machine-is r l = (turns.placed r (omega (arith, l, count))).1 ∙ ap (λ xs. (chosen_at xs r).column / each) same_chosen
 
-        machine-below : (r : ℕ) → r < n → machine r < i.machines
-        machine-below r l = omega (arith, machine-is r l, machine_inside each i.machines (column_at r) (column-inside r l))
-
         length-is : (r : ℕ) → r < n → length_at places r ≡ time (job r) (column_at r / each)
         length-is r l = (turns.placed r (omega (arith, l, count))).2 ∙ ap (λ xs. time_in p.machines p.times (chosen_at xs r).job ((chosen_at xs r).column / each)) same_chosen
             ∙ read (job r) (column_at r / each) (job-inside r l) (machine_inside each i.machines (column_at r) (column-inside r l))
 
         -- a job is followed by no more jobs than its position says
         position-is : (r : ℕ) → r < n → seats machine r (machine r) + 1 ≤ column_at r % each + 1
-        position-is r l = by (seats machine r (machine r)) (machine r * each) (column_at r) (column_at r % each)
-            (below_column each column_at machine r (machine r) (column_at r) (λ a m. starts a (omega arith)) (λ a b m k. rises a b m (omega arith)) (λ a m. rises a r m l) (starts r l))
-            (parts r l)
+        position-is r l =
+            let below = below_column each column_at machine r (machine r)
+            (column_at r) (λ a m. starts a (omega arith)) (λ a b m k. rises a b m (omega arith)) (λ a m. rises a r m l) (starts r l) in omega (arith, below, parts r l)
           where
             starts : (r : ℕ) → r < n → machine r * each ≤ column_at r
             starts r l = omega (arith, ap (λ x. x * each) (machine-is r l), div-mul-le_self (column_at r) each)
 
             parts : (r : ℕ) → r < n → column_at r ≡ machine r * each + column_at r % each
             parts r l = omega (arith, ap (λ x. x * each) (machine-is r l), div-add-mod (column_at r) each)
-
-            by : (s m c d : ℕ) → s + m ≤ c → c ≡ m + d → s + 1 ≤ d + 1
-            by s m c d g e = omega (arith, g, e)
 
         same-jobs : map (λ q. q.job) places ≡ map (λ c. c.job) chosen
         same-jobs = listed_places (λ (c : Chosen). c.job) no_chosen chosen once places (turns.count ∙ ap length same_chosen)
@@ -267,18 +244,15 @@ module _ (i : Instance) (h : IsUnrelatedInstance i) (p : Positions) (table : IsT
           work : q.length ≡ time q.job q.machine
 
         meant : All IsMeant places
-        meant r d l = subst IsMeant (get_or_default places r no_place d l) (record {
-          machine_is = machine-below r below;
-          lasts = omega (arith, length-is r below, (times i h (job r) (column_at r / each) (job-inside r below) on).0);
-          short = omega (arith, length-is r below, (times i h (job r) (column_at r / each) (job-inside r below) on).1);
-          work = length-is r below ∙ ap₂ time (sym ((turns.placed r l).0 ∙ ap (λ xs. (chosen_at xs r).job) same_chosen)) (sym (machine-is r below));
-        })
-          where
-            below : r < n
-            below = omega (arith, l, count)
-
-            on : column_at r / each < i.machines
-            on = machine_inside each i.machines (column_at r) (column-inside r below)
+        meant r d l =
+            let below : r < n = omega (arith, l, count) in
+            let on : column_at r / each < i.machines = machine_inside each i.machines (column_at r) (column-inside r below) in
+            subst IsMeant (get_or_default places r no_place d l) (record {
+              machine_is = omega (arith, machine-is r below, on);
+              lasts = omega (arith, length-is r below, (times i h (job r) (column_at r / each) (job-inside r below) on).0);
+              short = omega (arith, length-is r below, (times i h (job r) (column_at r / each) (job-inside r below) on).1);
+              work = length-is r below ∙ sym (ap₂ time ((turns.placed r l).0 ∙ ap (λ xs. (chosen_at xs r).job) same_chosen) (machine-is r below));
+            })
 
         pub fitting : AreFitting i 1 places
         fitting = record {
@@ -306,10 +280,8 @@ module _ (i : Instance) (h : IsUnrelatedInstance i) (p : Positions) (table : IsT
 
             term : (r : ℕ) → r < n → length_at places r * (seats machine r (machine r) + 1) ≤ cost_at (job r) (at (job r))
             term r l = subst (λ c. length_at places r * (seats machine r (machine r) + 1) ≤ cost_at (job r) c) (column-is r l)
-                (by (length_at places r) (time (job r) (column_at r / each)) (seats machine r (machine r) + 1) (column_at r % each + 1) (length-is r l) (position-is r l))
-              where
-                by : (x t u w : ℕ) → x ≡ t → u ≤ w → x * u ≤ w * t
-                by x t u w e g = omega (arith, ap (λ y. y * u) e, mul-le-mul_left t g)
+                (let t = time (job r) (column_at r / each) in
+                omega (arith, ap (λ y. y * (seats machine r (machine r) + 1)) (length-is r l), mul-le-mul_left t (position-is r l)))
 
         pub best : Best i s
         best = (IsBestAt-from i (laid places) (pos value) (laid_is_feasible i (IsPlain-from_unrelated i h) 1 places fitting) upper

@@ -3,15 +3,11 @@ use Rattle.std.proofs.Common.{◌≡◌, ℕ, ◌*◌, ◌<◌, ◌≤◌, lengt
 use Rattle.msp_class.specs.declared.sizes.TheConstants.{GREATEST, GREATEST_MULTIPLE}
 use Rattle.msp_instance.specs.declared.Instance.{Instance}
 use Rattle.msp_instance.specs.Instance.{no_need, no_job, job_at, need_at}
-use Rattle.msp_instance.specs.Conditions.{Inner}
-use Rattle.msp_pieces.proofs.feasible.OfClass.{IsOfClass, IsOfClass-from}
+use Rattle.msp_pieces.proofs.feasible.OfClass.{IsOfClass}
 use Rattle.msp_total.specs.Classes.{unrelated_class}
 
 abbrev pub IsUnrelatedInstance : Instance → Type 0
 IsUnrelatedInstance i = IsOfClass i unrelated_class
-
-pub IsUnrelatedInstance-from_class : (i : Instance) → i.class ≡ unrelated_class → Inner i → IsUnrelatedInstance i
-IsUnrelatedInstance-from_class i e h = IsOfClass-from i unrelated_class e h
 
 pub needs : (i : Instance) → IsUnrelatedInstance i → (j : ℕ) → j < length i.jobs → length (job_at i j).needs ≡ i.machines
 needs i h j l = (h.jobs j no_job l).needs.shape.0

@@ -2,7 +2,7 @@
 use Rattle.std.proofs.Common.{◌≡◌, ◌≢◌, ℕ, zero, suc, ◌+◌, ◌<◌, ◌≤◌, ◌⊎◌, inl, inr, Bool, true, false, cond, if◌then◌else◌, List, [], ◌∷◌, length, get_or, All, AllPairs}
 use Rattle.std.proofs.Common.{refl, sym, ap, subst, arith}
 use Rattle.std.specs.Prelude.{◌==◌}
-use Rattle.std.proofs.lemmas.Bool.{eqb-true, eqb-false, eq-eqb}
+use Rattle.std.proofs.lemmas.Bool.{eqb-true, eqb-false, eq-eqb, cond_both}
 use Rattle.std.proofs.lemmas.List.Sums.{sum_by-cons}
 use Rattle.std.proofs.lemmas.List.Elements.{All-contains}
 use Rattle.msp_class.proofs.Sums.{cond-yes, sum_by-contains, OnceBelow}
@@ -19,12 +19,9 @@ use Rattle.msp_trees.specs.Joining.{IsForward}
 -- the start, or an arc leads from it
 pub before_cases : (arcs : List Arc) (start j : ℕ) → (first_before arcs start j ≡ start) ⊎ HasStep arcs (first_before arcs start j) j
 before_cases [] start j = inl refl
-before_cases (a ∷ arcs) start j = by (a.after == j) refl (before_cases arcs start j)
-  where
-    by : (b : Bool) → (a.after == j) ≡ b → (first_before arcs start j ≡ start) ⊎ HasStep arcs (first_before arcs start j) j
-        → ((if b then a.before else first_before arcs start j) ≡ start) ⊎ HasStep (a ∷ arcs) (if b then a.before else first_before arcs start j) j
-    by true e later = inr (0, omega arith, sym (ap (λ k. record { before = a.before; after = k }) (sym (eqb-true a.after j e))))
-    by false e later = elim later [ inl s ↦ inl s | inr c ↦ inr (suc c.0, omega (arith, c.1), c.2) ]
+before_cases (a ∷ arcs) start j = cond_both (a.after == j) a.before (first_before arcs start j) (λ x. (x ≡ start) ⊎ HasStep (a ∷ arcs) x j)
+    (λ e. inr (0, omega arith, sym (ap (λ k. record { before = a.before; after = k }) (sym (eqb-true a.after j e)))))
+    (λ _. elim (before_cases arcs start j) [ inl s ↦ inl s | inr c ↦ inr (suc c.0, omega (arith, c.1), c.2) ])
 
 -- where one arc at most leads to each job, it is the one
 pub before_only : (arcs : List Arc) (start j k : ℕ) → entering arcs j ≤ 1 → HasStep arcs k j → first_before arcs start j ≡ k
@@ -42,11 +39,8 @@ before_only (a ∷ arcs) start j k few c = by (a.after == j) refl (before_only a
         → entering (a ∷ arcs) j ≡ cond b 1 0 + entering arcs j → (if b then a.before else first_before arcs start j) ≡ k
     by true e later count = elim (first c) [
       | inl s ↦ ap (λ x. x.before) s
-      | inr d ↦ absurd (two few count (sum_by-contains (λ x. cond (x.after == j) 1 0) arcs arc d) (cond-yes 1 (eq-eqb j j refl)))
+      | inr d ↦ absurd (omega (arith, few, count, sum_by-contains (λ x. cond (x.after == j) 1 0) arcs arc d, cond-yes 1 (eq-eqb j j refl)))
     ]
-      where
-        two : {m n o : ℕ} → m ≤ 1 → m ≡ 1 + n → o ≤ n → o ≡ 1 → ⊥
-        two h e f g = omega (arith, h, e, f, g)
     by false e later count = later (omega (arith, count, few)) (elim (first c) [
       | inl s ↦ absurd (eqb-false a.after j e (ap (λ x. x.after) s))
       | inr d ↦ d

@@ -9,7 +9,6 @@ use Rattle.msp_class.specs.declared.class.Crit.TheVariants.{SumWC}
 use Rattle.msp_instance.specs.declared.Instance.{Instance}
 use Rattle.msp_instance.specs.Instance.{no_job, no_need}
 use Rattle.msp_instance.specs.Conditions.{Inner, HasDegree, entering}
-use Rattle.msp_instance.specs.Paths.{HasStep}
 use Rattle.msp_instance.proofs.CycleLemmas.{OnceBelow-from_sequence}
 use Rattle.msp_pieces.specs.declared.Schedule.{Schedule}
 use Rattle.msp_pieces.specs.Feasible.{Feasible}
@@ -57,21 +56,17 @@ IsHornInstance-from_class i e h =
         within = λ j l. before_within i ends j;
         loose = before_loose i ends order q forward;
         start = λ j l s. let at = before_start i ends in absurd (omega (arith, at, s, l));
-        time = no_time i;
+        time = ap (λ j. (slice_index_or j.needs 0 no_need).time) (get_or_past i.jobs (length i.jobs) no_job (omega arith));
         forward = (order, once, forward_from_arcs i ends order once (may_precede i order q ends forward));
       };
     }
-  where
-    no_time : (i : Instance) → time_at i (length i.jobs) ≡ 0
-    no_time i = ap (λ j. (slice_index_or j.needs 0 no_need).time) (get_or_past i.jobs (length i.jobs) no_job (omega arith))
 
 module _ (i : Instance) (h : IsHornInstance i) (order : List ℕ) (o : IsCheapest (length i.jobs) (before i) (time_at i) (weight_at i) order) where
   -- ---- it is feasible
-  loose : (j : ℕ) → ¬ HasStep i.arcs j j
-  loose = let (all, q, forward) = h.inner.acyclic in no_loop i h.inner.conditions.ends all q forward
-
   horn_is_feasible : Feasible i (schedule_in_order i order)
-  horn_is_feasible = forward_is_feasible i h.plain order o.once loose (steps_forward i h.inner.conditions.ends h.few order o.forward)
+  horn_is_feasible = let (all, q, forward) = h.inner.acyclic in
+      forward_is_feasible i h.plain order o.once (no_loop i h.inner.conditions.ends all q forward)
+      (steps_forward i h.inner.conditions.ends h.few order o.forward)
 
   -- ---- no schedule costs less
   abbrev least_cost : ℕ

@@ -8,13 +8,13 @@ use Rattle.std.proofs.lemmas.List.Folds.{concat-append}
 use Rattle.std.proofs.lemmas.List.Sums.{sum_by-cons, sum_by-append}
 use Rattle.std.proofs.lemmas.List.Elements.{All-nil, All-cons, All-head, All-tail, All-append, All-map, All-contains, Contains-append_left, Contains-append_right, Contains-append_cases}
 use Rattle.std.proofs.lemmas.List.Sorted.{IsPermutation-sym, IsPermutation-trans, IsPermutation-cons, IsPermutation-middle, IsPermutation-map, IsPermutation-to_front}
-use Rattle.std.proofs.lemmas.List.Sorted.{length_permutation, IsPermutation-append_left, IsPermutation-append_comm, All-permutation}
+use Rattle.std.proofs.lemmas.List.Sorted.{length_permutation, All-permutation}
 use Rattle.std.proofs.lemmas.List.Kept.{AllPairs-cons}
 use Rattle.msp_class.proofs.Sums.{AllPairs-head, AllPairs-tail, Contains-tail, cond-no, OnceBelow, OnceBelow-range, OnceBelow-permutation, OnceBelow-distinct, OnceBelow-contains}
 use Rattle.msp_pieces.specs.BackToBack.{weighted_ends}
 use Rattle.msp_pieces.proofs.lists.WeightedEnds.{weighted_ends-later, weighted_ends-append}
 use Rattle.msp_trees.specs.Joining.{IsForward, IsBranch, IsLine, IsJoined, IsCheapest}
-use Rattle.msp_trees.proofs.Lists.{pairs_across, pairs_exchanged, taken, parted, concat-permutation, concat-singles, All-concat, permutation_from_once}
+use Rattle.msp_trees.proofs.Lists.{pairs_across, pairs_exchanged, taken, parted, concat-permutation, concat-singles, All-concat, permutation_from_once, exchanged}
 use Rattle.msp_pieces.proofs.lists.Pushes.{range-next}
 use Rattle.msp_pieces.proofs.lists.Parts.{All-front, All-back, AllPairs-back}
 
@@ -22,20 +22,13 @@ use Rattle.msp_pieces.proofs.lists.Parts.{All-front, All-back, AllPairs-back}
 module _ (p w : ℕ → ℕ) where
   pub weighted_ends-exchanged : (t : ℕ) (ys us zs : List ℕ) → sum_by w ys * sum_by p us ≤ sum_by w us * sum_by p ys → weighted_ends p w t (us ++ (ys ++ zs)) ≤ weighted_ends p w t (ys ++ (us ++ zs))
   weighted_ends-exchanged t ys us zs h =
-      let a = weighted_ends-append p w t us (ys ++ zs) in
-      let b = weighted_ends-append p w (t + sum_by p us) ys zs in
-      let c = weighted_ends-append p w t ys (us ++ zs) in
-      let d = weighted_ends-append p w (t + sum_by p ys) us zs in
-      let e = weighted_ends-later p w t (sum_by p us) ys in
-      let f = weighted_ends-later p w t (sum_by p ys) us in
       let move : t + sum_by p us + sum_by p ys ≡ t + sum_by p ys + sum_by p us = omega arith in
-      let g = ap (λ x. weighted_ends p w x zs) move in
-      sum (sum_by w ys) (sum_by p us) (sum_by w us) (sum_by p ys) _ _ _ _ _ _ _ _ _ _ h a b c d e f g
-    where
-      sum : (wy pu wu py su sy sz l r lm rm sy2 su2 sz2 : ℕ)
-          → wy * pu ≤ wu * py → l ≡ su + lm → lm ≡ sy2 + sz → r ≡ sy + rm → rm ≡ su2 + sz2 → sy2 ≡ sy + pu * wy → su2 ≡ su + py * wu → sz ≡ sz2 → l ≤ r
-      sum wy pu wu py su sy sz l r lm rm sy2 su2 sz2 h a b c d e f g = let one : wy * pu ≡ pu * wy = omega arith in
-          let two : wu * py ≡ py * wu = omega arith in omega (arith, h, a, b, c, d, e, f, g, one, two)
+      let us_then = weighted_ends-append p w (t + sum_by p us) ys zs in
+      let ys_then = weighted_ends-append p w (t + sum_by p ys) us zs in
+      let us_at = weighted_ends-append p w t us (ys ++ zs) in
+      let ys_at = weighted_ends-append p w t ys (us ++ zs) in
+      let same = ap (λ x. weighted_ends p w x zs) move in
+      omega (arith, h, us_at, us_then, ys_at, ys_then, weighted_ends-later p w t (sum_by p us) ys, weighted_ends-later p w t (sum_by p ys) us, same)
 
   pub parts-exchanged : (xs ys us zs : List ℕ) → sum_by w ys * sum_by p us ≤ sum_by w us * sum_by p ys → weighted_ends p w 0 (xs ++ (us ++ (ys ++ zs))) ≤ weighted_ends p w 0 (xs ++ (ys ++ (us ++ zs)))
   parts-exchanged xs ys us zs h = omega
@@ -44,18 +37,20 @@ module _ (p w : ℕ → ℕ) where
   -- a ratio no less than that of each block is no less than that of all together
   pub ratio-concat : (us : List ℕ) (blocks : List (List ℕ))
       → All (λ b. sum_by w b * sum_by p us ≤ sum_by w us * sum_by p b) blocks → sum_by w (concat blocks) * sum_by p us ≤ sum_by w us * sum_by p (concat blocks)
-  ratio-concat us [] h = none (sum_by p us) (sum_by w us)
-    where
-      none : (a b : ℕ) → 0 * a ≤ b * 0
-      none a b = omega arith
+  ratio-concat us [] h = omega arith
   ratio-concat us (b ∷ blocks) h =
       let R : List ℕ → Type 0 = λ c. sum_by w c * sum_by p us ≤ sum_by w us * sum_by p c in
-      more (sum_by p us) (sum_by w us) _ _ _ _ _ _ (All-head R b blocks h) (ratio-concat us blocks (All-tail R b blocks h)) (sum_by-append w b (concat blocks)) (sum_by-append p b (concat blocks))
-    where
-      more : (pu wu wb pb wc pc wt pt : ℕ) → wb * pu ≤ wu * pb → wc * pu ≤ wu * pc → wt ≡ wb + wc → pt ≡ pb + pc → wt * pu ≤ wu * pt
-      more pu wu wb pb wc pc wt pt h k e f = omega (arith, h, k, ap (λ x. x * pu) e, ap (λ x. wu * x) f)
+      let weight = ap (λ x. x * sum_by p us) (sum_by-append w b (concat blocks)) in
+      omega (arith, All-head R b blocks h, ratio-concat us blocks (All-tail R b blocks h), weight, ap (λ x. sum_by w us * x) (sum_by-append p b (concat blocks)))
 
 -- ---- branches
+-- what is before each job of the branch is in it or where what is before its first job is
+pub before_within : (before : ℕ → ℕ) (vs : List ℕ) (first : ℕ) (rest : List ℕ)
+    → IsBranch before (first ∷ rest) → Contains vs (before first) → All (λ j. Contains (vs ++ first ∷ rest) (before j)) (first ∷ rest)
+before_within before vs first rest k c =
+    All-cons (λ j. Contains (vs ++ first ∷ rest) (before j)) first rest (Contains-append_left vs (first ∷ rest) (before first) c)
+    (λ i d l. Contains-append_right vs (first ∷ rest) (before (get_or rest i d)) (k i d l))
+
 -- a branch put behind one that holds what is before its first job
 pub IsBranch-append : (before : ℕ → ℕ) (vs : List ℕ) (first : ℕ) (rest : List ℕ)
     → IsBranch before vs → IsBranch before (first ∷ rest) → Contains vs (before first) → IsBranch before (vs ++ first ∷ rest)
@@ -63,15 +58,7 @@ IsBranch-append before [] first rest h k c = absurd h
 IsBranch-append before (v ∷ vs) first rest h k c =
     All-append (λ j. Contains (v ∷ (vs ++ first ∷ rest)) (before j)) vs (first ∷ rest)
     (λ i d l. Contains-append_left (v ∷ vs) (first ∷ rest) (before (get_or vs i d)) (h i d l))
-    (All-cons (λ j. Contains (v ∷ (vs ++ first ∷ rest)) (before j)) first rest (Contains-append_left (v ∷ vs) (first ∷ rest) (before first) c)
-    (λ i d l. Contains-append_right (v ∷ vs) (first ∷ rest) (before (get_or rest i d)) (k i d l)))
-
--- what is before each job of the branch is in it or where what is before its first job is
-pub before_within : (before : ℕ → ℕ) (vs : List ℕ) (first : ℕ) (rest : List ℕ)
-    → IsBranch before (first ∷ rest) → Contains vs (before first) → All (λ j. Contains (vs ++ first ∷ rest) (before j)) (first ∷ rest)
-before_within before vs first rest k c =
-    All-cons (λ j. Contains (vs ++ first ∷ rest) (before j)) first rest (Contains-append_left vs (first ∷ rest) (before first) c)
-    (λ i d l. Contains-append_right vs (first ∷ rest) (before (get_or rest i d)) (k i d l))
+    (before_within before (v ∷ vs) first rest k c)
 
 -- ---- what is before each job
 pub record IsTree (n : ℕ) (before p : ℕ → ℕ) : Type 0 where
@@ -86,13 +73,10 @@ module _ (n : ℕ) (before p w : ℕ → ℕ) (tree : IsTree n before p) where
   pub start_is_first : (x : ℕ) (xs : List ℕ) → OnceBelow (n + 1) (x ∷ xs) → IsForward before (x ∷ xs) → x ≡ n
   start_is_first x xs o f = by (eqb x n) refl
     where
-      least : x < n + 1
-      least = All-head (λ y. y < n + 1) x xs o.within
-
       by : (b : Bool) → eqb x n ≡ b → x ≡ n
       by true e = eqb-true x n e
       by false e =
-          let small : x < n = omega (arith, least, eqb-false x n e) in
+          let small : x < n = omega (arith, All-head (λ y. y < n + 1) x xs o.within, eqb-false x n e) in
           let later = Contains-tail x xs (before x) (OnceBelow-contains o (before x) (tree.within x small)) (λ s. tree.loose x small (sym s)) in
           absurd (All-contains (λ y. before x ≢ y) xs (before x) (AllPairs-head (λ a b. before a ≢ b) x xs f) later refl)
 
@@ -123,17 +107,10 @@ module _ (n : ℕ) (before p w : ℕ → ℕ) (tree : IsTree n before p) where
       middle = concat between
 
       flat : concat ((front ++ vs ∷ between) ++ us ∷ back) ≡ early ++ (middle ++ (us ++ concat back))
-      flat =
-          concat-append (front ++ vs ∷ between) (us ∷ back)
-          ∙ ap (λ l. l ++ (us ++ concat back)) (concat-append front (vs ∷ between) ∙ sym (append_assoc (concat front) vs middle))
-          ∙ append_assoc early middle (us ++ concat back)
+      flat = simp (concat-append, append_assoc)
 
       flat_joined : concat (front ++ (vs ++ us) ∷ (between ++ back)) ≡ early ++ (us ++ (middle ++ concat back))
-      flat_joined =
-          concat-append front ((vs ++ us) ∷ (between ++ back))
-          ∙ ap (λ l. concat front ++ ((vs ++ us) ++ l)) (concat-append between back)
-          ∙ ap (λ l. concat front ++ l) (append_assoc vs us (middle ++ concat back))
-          ∙ sym (append_assoc (concat front) vs (us ++ (middle ++ concat back)))
+      flat_joined = simp (concat-append, append_assoc)
 
       once_flat : OnceBelow (n + 1) (early ++ (middle ++ (us ++ concat back)))
       once_flat = subst (OnceBelow (n + 1)) flat once
@@ -216,24 +193,19 @@ module _ (n : ℕ) (before p w : ℕ → ℕ) (tree : IsTree n before p) where
     pub joined-next : (new : List (List ℕ)) → IsPermutation ((vs ++ us) ∷ others) new → Contains (get_or new 0 []) n → IsJoined n before p w new
     joined-next new same start = record {
       once = OnceBelow-permutation joined.once (IsPermutation-trans (concat blocks) ((us ++ (vs ++ concat others))) (concat new) (concat-permutation blocks (us ∷ vs ∷ others) parts)
-          (IsPermutation-trans (us ++ (vs ++ concat others)) (concat ((vs ++ us) ∷ others)) (concat new) moved (concat-permutation ((vs ++ us) ∷ others) new same)));
+          (IsPermutation-trans (us ++ (vs ++ concat others)) (concat ((vs ++ us) ∷ others)) (concat new)
+          (subst (IsPermutation (us ++ (vs ++ concat others))) (sym (append_assoc vs us (concat others))) (exchanged us vs (concat others)))
+          (concat-permutation ((vs ++ us) ∷ others) new same)));
       branches = All-permutation (IsBranch before) ((vs ++ us) ∷ others) new same
           (All-cons (IsBranch before) (vs ++ us) others (IsBranch-append before vs first rest (All-head (IsBranch before) vs others (All-tail (IsBranch before) us (vs ∷ others) branches))
           branch behind) (All-tail (IsBranch before) vs others (All-tail (IsBranch before) us (vs ∷ others) branches)));
       start = start;
       cheap = λ order o f. let (line, h) = joined.cheap order o f in line_joined new same (weighted_ends p w 0 order) line h;
     }
-      where
-        moved : IsPermutation (us ++ (vs ++ concat others)) ((vs ++ us) ++ concat others)
-        moved = subst (λ l. IsPermutation l ((vs ++ us) ++ concat others))
-            (append_assoc us vs (concat others)) (IsPermutation-append_left (concat others) (us ++ vs) (vs ++ us) (IsPermutation-append_comm us vs))
 
   -- behind the start a row costs as much as from moment 0
   behind_start : (order : List ℕ) → weighted_ends p w 0 (n ∷ order) ≡ weighted_ends p w 0 order
-  behind_start order = ap (λ t. w n * (0 + t) + weighted_ends p w (0 + t) order) tree.time ∙ none (w n) (weighted_ends p w 0 order)
-    where
-      none : (a b : ℕ) → a * 0 + b ≡ b
-      none a b = omega arith
+  behind_start order = omega (arith, ap (λ t. w n * (0 + t) + weighted_ends p w (0 + t) order) tree.time)
 
   -- ---- the first blocks: the start, and each job
   pub joined-start : IsJoined n before p w ((n ∷ []) ∷ map (λ j. j ∷ []) (range_with_len 0 n))
@@ -299,9 +271,6 @@ module _ (n : ℕ) (before p w : ℕ → ℕ) (tree : IsTree n before p) where
     where
       OnceBelow-tail : (xs : List ℕ) → OnceBelow (n + 1) (n ∷ xs) → OnceBelow n xs
       OnceBelow-tail xs o = record {
-        within = λ k d l. below (get_or xs k d) (All-tail (λ y. y < n + 1) n xs o.within k d l) (AllPairs-head (λ a b. a ≢ b) n xs (OnceBelow-distinct o) k d l);
+        within = λ k d l. omega (arith, All-tail (λ y. y < n + 1) n xs o.within k d l, AllPairs-head (λ a b. a ≢ b) n xs (OnceBelow-distinct o) k d l);
         once = λ i l. omega (arith, o.once i (omega (arith, l)), sum_by-cons (λ y. cond (eqb y i) 1 0) n xs, cond-no 1 (ne_eqb n i (λ e. omega (arith, e, l))));
       }
-        where
-          below : (a : ℕ) → a < n + 1 → n ≢ a → a < n
-          below a h k = let other : a ≢ n = λ e. k (sym e) in omega (arith, h, other)

@@ -1,26 +1,33 @@
 -- Lists taken apart: pairs across an append, an element taken out of a reordered list, lists joined end to end, and orders of the numbers below n.
-use Rattle.std.proofs.Common.{◌≡◌, ℕ, zero, suc, ◌+◌, ◌<◌, ◌≤◌, ◌⊎◌, inl, inr, Bool, true, false, cond, eqb, List, [], ◌∷◌, ◌++◌, length, get_or, map, take, drop, remove, All, AllPairs, Contains}
-use Rattle.std.proofs.Common.{IsPermutation, count_by, refl, sym, ap, subst, ◌∙◌, arith}
+use Rattle.std.proofs.Common.{◌≡◌, ℕ, zero, suc, ◌<◌, ◌≤◌, ◌⊎◌, inl, inr, cond, eqb, List, [], ◌∷◌, ◌++◌, length, get_or, map, take, drop, remove, All, AllPairs}
+use Rattle.std.proofs.Common.{IsPermutation, count_by, refl, sym, ap, ◌∙◌, arith}
 use Rattle.std.specs.List.{concat}
 use Rattle.std.proofs.Math.Seq.{split_at}
-use Rattle.std.proofs.lemmas.List.{append_assoc}
-use Rattle.std.proofs.lemmas.Bool.{cases_lt, eqb-true, eq-eqb, ne_eqb}
+use Rattle.std.proofs.lemmas.List.{append_assoc, map-id}
+use Rattle.std.proofs.lemmas.Bool.{cases_lt, eq-eqb, ne_eqb}
 use Rattle.std.proofs.lemmas.List.Sums.{sum_by-cons}
-use Rattle.std.proofs.lemmas.List.Elements.{All-nil, All-cons, All-append, Contains-append_left, Contains-append_right}
-use Rattle.std.proofs.lemmas.List.Sorted.{IsPermutation-refl, IsPermutation-sym, IsPermutation-trans, IsPermutation-cons, IsPermutation-swap, IsPermutation-remove, sum_by-IsPermutation}
-use Rattle.std.proofs.lemmas.List.Sorted.{IsPermutation-append_left, IsPermutation-append_right, IsPermutation-append_comm}
+use Rattle.std.proofs.lemmas.List.Elements.{All-nil, All-cons, All-append}
+use Rattle.std.proofs.lemmas.List.Sorted.{IsPermutation-refl, IsPermutation-sym, IsPermutation-trans, IsPermutation-cons, IsPermutation-remove, sum_by-IsPermutation}
+use Rattle.std.proofs.lemmas.List.Sorted.{IsPermutation-append_left, IsPermutation-append_right, IsPermutation-append_comm, All-permutation}
 use Rattle.msp_pieces.proofs.feasible.Series.{AllPairs-append}
-use Rattle.msp_class.proofs.Sums.{AllPairs-head, AllPairs-tail, sum_by-some, sum_by-none, cond-yes, cond-no, OnceBelow}
+use Rattle.msp_class.proofs.Sums.{AllPairs-head, AllPairs-tail, sum_by-none, cond-yes, cond-no, OnceBelow}
 use Rattle.msp_pieces.proofs.lists.Parts.{All-front, All-back, AllPairs-front, AllPairs-back}
 use Rattle.msp_pieces.proofs.lists.Permuted.{permuted}
+use Rattle.msp_instance.proofs.ListingLemmas.{Contains-from_count}
+use Rattle.std.proofs.lemmas.List.Concat.{concat_is, flat_map_single}
+use Rattle.std.proofs.lemmas.List.Folds.{flat_map-map}
 
 -- ---- what holds of an append
+-- two neighbouring parts change places
+pub exchanged : {X : Type 0} (xs ys zs : List X) → IsPermutation (xs ++ (ys ++ zs)) (ys ++ (xs ++ zs))
+exchanged xs ys zs = rw (← append_assoc xs ys zs, ← append_assoc ys xs zs)
+    (IsPermutation-append_left zs (xs ++ ys) (ys ++ xs) (IsPermutation-append_comm xs ys))
+
 module _ {X : Type 0} (R : X → X → Type 0) where
   pub pairs_across : (xs ys : List X) → AllPairs R (xs ++ ys) → All (λ x. All (R x) ys) xs
   pairs_across [] ys h = All-nil (λ x. All (R x) ys)
   pairs_across (x ∷ xs) ys h = All-cons (λ x. All (R x) ys) x xs (All-back (R x) xs ys (AllPairs-head R x (xs ++ ys) h)) (pairs_across xs ys (AllPairs-tail R x (xs ++ ys) h))
 
-  -- two neighbouring parts change places
   pub pairs_exchanged : (xs ys us zs : List X) → AllPairs R (xs ++ (ys ++ (us ++ zs))) → All (λ u. All (R u) ys) us → AllPairs R (xs ++ (us ++ (ys ++ zs)))
   pairs_exchanged xs ys us zs h k =
       let rest = AllPairs-back R xs (ys ++ (us ++ zs)) h in
@@ -30,10 +37,8 @@ module _ {X : Type 0} (R : X → X → Type 0) where
       (AllPairs-append R us (ys ++ zs) (AllPairs-front R us zs later)
       (AllPairs-append R ys zs (AllPairs-front R ys (us ++ zs) rest) (AllPairs-back R us zs later) (λ i d l. All-back (R (get_or ys i d)) us zs (first i d l)))
       (λ i d l. All-append (R (get_or us i d)) ys zs (k i d l) (pairs_across us zs later i d l)))
-      (λ i d l. let all = pairs_across xs (ys ++ (us ++ zs)) h i d l in
-      let some = All-back (R (get_or xs i d)) ys (us ++ zs) all in
-      All-append (R (get_or xs i d)) us (ys ++ zs) (All-front (R (get_or xs i d)) us zs some)
-      (All-append (R (get_or xs i d)) ys zs (All-front (R (get_or xs i d)) ys (us ++ zs) all) (All-back (R (get_or xs i d)) us zs some)))
+      (λ i d l. All-permutation (R (get_or xs i d)) (ys ++ (us ++ zs)) (us ++ (ys ++ zs))
+      (exchanged ys us zs) (pairs_across xs (ys ++ (us ++ zs)) h i d l))
 
 -- ---- an element that stands in the middle of a reordered list
 module _ {X : Type 0} where
@@ -63,15 +68,12 @@ module _ {X : Type 0} where
       by (suc k) l = let (m, b, e, p) = s.1 k (omega (arith, l)) in (suc m, omega (arith, b), e, IsPermutation-cons y (remove xs m) (remove ys k) p)
 
   takes_exchanged : (x y : X) (xs : List X) → Takes (x ∷ y ∷ xs) (y ∷ x ∷ xs)
-  takes_exchanged x y xs = (swapped xs, by)
+  takes_exchanged x y xs = (exchanged (x ∷ []) (y ∷ []) xs, by)
     where
-      swapped : (xs : List X) → IsPermutation (x ∷ y ∷ xs) (y ∷ x ∷ xs)
-      swapped xs = IsPermutation-swap (x ∷ y ∷ xs) (y ∷ x ∷ xs) 0 1 (omega arith) (omega arith) refl
-
       by : (k : ℕ) → k < length (y ∷ x ∷ xs) → Has (x ∷ y ∷ xs) (y ∷ x ∷ xs) k
       by zero l = (suc zero, omega arith, λ d. refl, IsPermutation-refl (x ∷ xs))
       by (suc zero) l = (zero, omega arith, λ d. refl, IsPermutation-refl (y ∷ xs))
-      by (suc (suc k)) l = (suc (suc k), omega (arith, l), λ d. refl, swapped (remove xs k))
+      by (suc (suc k)) l = (suc (suc k), omega (arith, l), λ d. refl, exchanged (x ∷ []) (y ∷ []) (remove xs k))
 
   -- where xs is a reordering of x and the rest, x can be taken out of it
   pub taken : (x : X) (rest xs : List X) → IsPermutation (x ∷ rest) xs → (front : List X) × (back : List X) × IsTaken x xs rest front back
@@ -96,47 +98,26 @@ module _ {X : Type 0} where
 -- ---- lists joined end to end
 pub concat-permutation : (xs ys : List (List ℕ)) → IsPermutation xs ys → IsPermutation (concat xs) (concat ys)
 concat-permutation xs ys h = permuted (λ a b. IsPermutation (concat a) (concat b)) (λ a. IsPermutation-refl (concat a))
-    (λ a b c s t. IsPermutation-trans (concat a) (concat b) (concat c) s t) (λ x a b s. IsPermutation-append_right x (concat a) (concat b) s) exchanged xs ys h
-  where
-    exchanged : (x y : List ℕ) (zs : List (List ℕ)) → IsPermutation (x ++ (y ++ concat zs)) (y ++ (x ++ concat zs))
-    exchanged x y zs = subst (IsPermutation (x ++ (y ++ concat zs))) (append_assoc y x (concat zs))
-        (subst (λ l. IsPermutation l ((y ++ x) ++ concat zs)) (append_assoc x y (concat zs)) (IsPermutation-append_left (concat zs) (x ++ y) (y ++ x) (IsPermutation-append_comm x y)))
+    (λ a b c s t. IsPermutation-trans (concat a) (concat b) (concat c) s t)
+    (λ x a b s. IsPermutation-append_right x (concat a) (concat b) s) (λ x y zs. exchanged x y (concat zs)) xs ys h
 
 pub All-concat : (P : ℕ → Type 0) (xss : List (List ℕ)) → All P (concat xss) → All (All P) xss
 All-concat P [] h = All-nil (All P)
 All-concat P (xs ∷ xss) h = All-cons (All P) xs xss (All-front P xs (concat xss) h) (All-concat P xss (All-back P xs (concat xss) h))
 
 pub concat-singles : (xs : List ℕ) → concat (map (λ x. x ∷ []) xs) ≡ xs
-concat-singles [] = refl
-concat-singles (x ∷ xs) = ap (λ l. x ∷ l) (concat-singles xs)
-
-pub Contains-concat : (xss : List (List ℕ)) (k : ℕ) (x : ℕ) → k < length xss → Contains (get_or xss k []) x → Contains (concat xss) x
-Contains-concat [] k x l c = absurd (omega arith)
-Contains-concat (xs ∷ xss) zero x l c = Contains-append_left xs (concat xss) x c
-Contains-concat (xs ∷ xss) (suc k) x l c = Contains-append_right xs (concat xss) x (Contains-concat xss k x (omega arith) c)
+concat-singles xs = concat_is (map (λ x. x ∷ []) xs) ∙ flat_map-map (λ x. x) (λ x. x ∷ []) xs ∙ flat_map_single (λ x. x) xs ∙ map-id xs
 
 -- ---- lists with the same numbers
 permutation_from_counts : (xs ys : List ℕ) → ((i : ℕ) → count_by (λ x. eqb x i) xs ≡ count_by (λ x. eqb x i) ys) → IsPermutation xs ys
 permutation_from_counts [] [] same = IsPermutation-refl []
-permutation_from_counts [] (y ∷ ys) same = absurd (none _ _ _ (same y) (sum_by-cons (λ z. cond (eqb z y) 1 0) y ys) (cond-yes 1 (eq-eqb y y refl)))
-  where
-    none : (a b c : ℕ) → 0 ≡ a → a ≡ b + c → b ≡ 1 → ⊥
-    none a b c e f g = omega arith
+permutation_from_counts [] (y ∷ ys) same = absurd (omega (arith, same y, sum_by-cons (λ z. cond (eqb z y) 1 0) y ys, cond-yes 1 (eq-eqb y y refl)))
 permutation_from_counts (x ∷ xs) ys same =
-    let (k, l, e) = there x xs ys (same x) in
+    let (k, l, e) = Contains-from_count ys x (omega (arith, same x, sum_by-cons (λ z. cond (eqb z x) 1 0) x xs, cond-yes 1 (eq-eqb x x refl))) in
     let parts = IsPermutation-remove ys k x l (sym e) in
     IsPermutation-trans (x ∷ xs) (x ∷ remove ys k) ys (IsPermutation-cons x xs (remove ys k) (permutation_from_counts xs (remove ys k) (λ i. less i x xs ys (remove ys k) parts (same i))))
     (IsPermutation-sym ys (x ∷ remove ys k) parts)
   where
-    there : (x : ℕ) (xs ys : List ℕ) → count_by (λ z. eqb z x) (x ∷ xs) ≡ count_by (λ z. eqb z x) ys → Contains ys x
-    there x xs ys same =
-        let (z, c, p) = sum_by-some (λ z. cond (eqb z x) 1 0) ys (omega (arith, same, sum_by-cons (λ z. cond (eqb z x) 1 0) x xs, cond-yes 1 (eq-eqb x x refl))) in
-        subst (Contains ys) (is z x (eqb z x) refl p) c
-      where
-        is : (z x : ℕ) (b : Bool) → eqb z x ≡ b → 0 < cond b 1 0 → z ≡ x
-        is z x true e p = eqb-true z x e
-        is z x false e p = absurd (omega arith)
-
     less : (i x : ℕ) (xs ys rest : List ℕ) → IsPermutation ys (x ∷ rest) → count_by (λ z. eqb z i) (x ∷ xs) ≡ count_by (λ z. eqb z i) ys → count_by (λ z. eqb z i) xs ≡ count_by (λ z. eqb z i) rest
     less i x xs ys rest parts same = let one : ℕ → ℕ = λ z. cond (eqb z i) 1 0 in omega (arith, same, sum_by-IsPermutation one ys (x ∷ rest) parts, sum_by-cons one x xs, sum_by-cons one x rest)
 

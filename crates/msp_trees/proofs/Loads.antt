@@ -1,6 +1,5 @@
 -- Which block is joined next: the one of greatest weight for its time.
-use Rattle.std.proofs.Common.{◌≡◌, ℕ, ◌+◌, ◌*◌, ◌<◌, ◌≤◌, ◌⊎◌, inl, inr, List, [], length, get_or, refl, sym, ap, ap₂, subst, ◌∙◌, arith}
-use Rattle.std.proofs.lemmas.Bool.{cases_lt}
+use Rattle.std.proofs.Common.{◌≡◌, ℕ, ◌+◌, ◌*◌, ◌<◌, ◌≤◌, ◌⊎◌, inl, inr, List, [], length, get_or, refl, sym, ap, ap₂, subst, ◌∙◌, arith, below_more}
 use Rattle.msp_instance.specs.declared.Instance.{Instance}
 use Rattle.msp_route.proofs.Ratios.{strict_left, strict_right, level}
 use Rattle.msp_trees.specs.declared.joining.Load.{Load}
@@ -29,11 +28,8 @@ load i blocks k = make k (get_or (get_or blocks k []) 0 0) (time_of i (get_or bl
 
 module _ (i : Instance) (blocks : List (List ℕ)) where
   pub load_is : (x : Load) (jobs : List ℕ) (k : ℕ) → x.place ≡ k → x.first ≡ get_or jobs 0 0 → jobs ≡ get_or blocks k [] → x.time ≡ time_of i jobs → x.weight ≡ weight_of i jobs → x ≡ load i blocks k
-  load_is x jobs k place first e time weight =
-      made x.place k x.first _ x.time _ x.weight _ place (first ∙ ap (λ l. get_or l 0 0) e) (time ∙ ap (time_of i) e) (weight ∙ ap (weight_of i) e)
-    where
-      made : (p q f g t u w v : ℕ) → p ≡ q → f ≡ g → t ≡ u → w ≡ v → make p f t w ≡ make q g u v
-      made p q f g t u w v a b c d = ap₂ (λ p f. make p f t w) a b ∙ ap₂ (λ t w. make q g t w) c d
+  load_is x jobs k place first e time weight = ap₂ (λ p f. make p f x.time x.weight) place (first ∙ ap (λ l. get_or l 0 0) e)
+      ∙ ap₂ (make k (get_or (get_or blocks k []) 0 0)) (time ∙ ap (time_of i) e) (weight ∙ ap (weight_of i) e)
 
   -- a block among so many, by its load
   pub record IsOneOf (x : Load) (count : ℕ) : Type 0 where
@@ -65,10 +61,9 @@ module _ (i : Instance) (blocks : List (List ℕ)) where
       ] in
       record {
         one = one;
-        leads = λ m some l. elim (cases_lt m k) [
-          | inl earlier ↦ goes_on (load i blocks m) a r (positive m some l) h.one.some one.some (h.leads m some earlier) of_a
-          | inr late ↦ let now : k ≡ m = omega (arith, late, l) in subst (λ n. GoesNoLater r (load i blocks n)) now (subst (GoesNoLater r) e of_b)
-        ];
+        leads = λ m some l. below_more (λ m. 1 ≤ m → m < k + 1 → GoesNoLater r (load i blocks m)) k
+            (λ m early some l. goes_on (load i blocks m) a r (positive m some l) h.one.some one.some (h.leads m some early) of_a)
+            (λ _ _. subst (GoesNoLater r) e of_b) m l some l;
       }
 
   pub best-end : (best : Load) (count : ℕ) → length blocks ≤ count → IsBestSoFar best count → GoesNext i blocks best.place

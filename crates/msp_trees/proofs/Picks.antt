@@ -1,13 +1,13 @@
 -- A block that is joined and the one that it is joined behind, as the code passes them.
-use Rattle.std.proofs.Common.{◌≡◌, ◌≢◌, ℕ, zero, suc, ◌+◌, ◌-◌, ◌*◌, ◌<◌, ◌≤◌, inl, inr, Bool, false, if◌then◌else◌, List, [], ◌∷◌, ◌++◌, length, get_or, take, drop}
-use Rattle.std.proofs.Common.{set, remove, map, All, Contains, IsPermutation, sum_by, refl, sym, ap, ap₂, subst, subst₂, ◌∙◌, arith, slice_index_or, true≢false, None, Some}
-use Rattle.std.specs.Prelude.{◌==◌}
+use Rattle.std.proofs.Common.{◌≡◌, ◌≢◌, ℕ, zero, suc, ◌+◌, ◌-◌, ◌*◌, ◌<◌, ◌≤◌, inl, inr, Bool, false, if◌then◌else◌, List, [], ◌∷◌, ◌++◌, length, get_or, take, drop, below_more}
+use Rattle.std.proofs.Common.{set, remove, map, All, Contains, IsPermutation, sum_by, refl, sym, ap, ap₂, subst, subst₂, ◌∙◌, arith, slice_index_or, true≢false, None}
+use Rattle.std.specs.Prelude.{◌==◌, unwrap_or}
 use Rattle.std.specs.List.{concat, list_any, slice_get, range_with_len}
 use Rattle.std.proofs.lemmas.Bool.{cases_lt, eq-eqb, ne_eqb}
-use Rattle.std.proofs.lemmas.List.{append_assoc, take_all, drop_more, take_more, get_or_default, get_or_past, length-append, get_or-set_same, get_or-set_other, set_split}
-use Rattle.std.proofs.lemmas.Option.{slice_get_cases}
+use Rattle.std.proofs.lemmas.List.{append_assoc, take_all, drop_more, take_more, get_or_default, get_or-set_same, get_or-set_other, set_split}
+use Rattle.std.proofs.lemmas.Option.{unwrap_or-slice_get}
 use Rattle.std.proofs.lemmas.List.Edits.{get_or-remove_below}
-use Rattle.std.proofs.lemmas.List.Sums.{sum_by_more, sum_by-cons}
+use Rattle.std.proofs.lemmas.List.Sums.{sum_by_more, get_or-le-sum_by}
 use Rattle.std.proofs.lemmas.List.Elements.{All-head, All-contains, Contains-append_left, Contains-append_cases}
 use Rattle.std.proofs.lemmas.List.Sorted.{IsPermutation-remove, IsPermutation-middle, IsPermutation-trans, IsPermutation-sym, IsPermutation-cons, Contains-permutation}
 use Rattle.msp_class.proofs.Sums.{AllPairs-head, Contains-tail, OnceBelow, OnceBelow-distinct, OnceBelow-contains, length-OnceBelow}
@@ -31,22 +31,17 @@ use Rattle.msp_trees.proofs.HornBest.{IsHornInstance, IsHornInstance-from_class,
 use Rattle.msp_route.proofs.BackToBackAnswer.{IsBestRow}
 use Rattle.std.proofs.lemmas.List.Folds.{concat-append}
 use Rattle.msp_class.specs.declared.sizes.TheConstants.{MOST_JOBS}
+use Rattle.std.proofs.lemmas.List.Concat.{concat_is, length-flat_map}
 
 -- ---- reading the instance
-slice_get_none : (jobs : List Job) (j : ℕ) → slice_get jobs j ≡ None → length jobs ≤ j
-slice_get_none jobs j e = elim (slice_get_cases jobs j).1 [
-  | inl h ↦ absurd (never (sym h.2 ∙ e))
-  | inr h ↦ h.0
-]
-  where
-    never : {x : Job} → Some x ≡ None → ⊥
-    never e = absurd (cc)
+none_there : (jobs : List Job) (j : ℕ) → slice_get jobs j ≡ None → no_job ≡ get_or jobs j no_job
+none_there jobs j e = ap (λ o. unwrap_or o no_job) (sym e) ∙ unwrap_or-slice_get jobs j no_job
 
 pub time_past : (i : Instance) (j : ℕ) → slice_get i.jobs j ≡ None → 0 ≡ time_at i j
-time_past i j e = ap (λ x. (slice_index_or x.needs 0 no_need).time) (sym (get_or_past i.jobs j no_job (slice_get_none i.jobs j e)))
+time_past i j e = ap (λ x. (slice_index_or x.needs 0 no_need).time) (none_there i.jobs j e)
 
 pub weight_past : (i : Instance) (j : ℕ) → slice_get i.jobs j ≡ None → 0 ≡ weight_at i j
-weight_past i j e = ap (λ x. x.weight) (sym (get_or_past i.jobs j no_job (slice_get_none i.jobs j e)))
+weight_past i j e = ap (λ x. x.weight) (none_there i.jobs j e)
 
 -- ---- the loop over the arcs
 pub before-found : (arcs : List Arc) (k start job b : ℕ) (d : Arc) → k < length arcs → (get_or arcs k d).after ≡ job → b ≡ first_before (drop k arcs) start job → (get_or arcs k d).before ≡ b
@@ -71,13 +66,9 @@ HasNot blocks job k = (m : ℕ) → m < k → ¬ Contains (get_or blocks m []) j
 
 pub not_here-next : (blocks : List (List ℕ)) (job k : ℕ) (block slice : List ℕ) (r : Bool) → k < length blocks
     → block ≡ get_or blocks k block → slice ≡ block → r ≡ list_any (λ y. y == job) slice → r ≡ false → HasNot blocks job k → HasNot blocks job (k + 1)
-not_here-next blocks job k block slice r l at same found missed h m less c = elim (cases_lt m k) [
-  | inl early ↦ h m early c
-  | inr late ↦
-      let is : m ≡ k = omega (arith, less, late) in
-      let here : get_or blocks m [] ≡ slice = ap (λ x. get_or blocks x []) is ∙ get_or_default blocks k [] block l ∙ sym at ∙ sym same in
-      true≢false (sym (found ∙ list_any-from_Contains slice job (subst (λ b. Contains b job) here c)) ∙ missed)
-]
+not_here-next blocks job k block slice r l at same found missed h = below_more (λ m. ¬ Contains (get_or blocks m []) job) k h (λ c.
+    let here : get_or blocks k [] ≡ slice = get_or_default blocks k [] block l ∙ sym at ∙ sym same in
+    true≢false (sym (found ∙ list_any-from_Contains slice job (subst (λ b. Contains b job) here c)) ∙ missed))
 
 block_with : (blocks : List (List ℕ)) (job : ℕ) → Contains (concat blocks) job → (k : ℕ) × (k < length blocks) × Contains (get_or blocks k []) job
 block_with [] job c = absurd (omega (arith, c.1))
@@ -99,27 +90,21 @@ module _ (n : ℕ) (before p w : ℕ → ℕ) (blocks : List (List ℕ)) (joined
       some (x ∷ xs) h = omega arith
 
   pub block_is_few : (k : ℕ) → k < length blocks → length (get_or blocks k []) ≤ n + 1
-  block_is_few k l = omega (arith, shorter blocks k l, length-OnceBelow joined.once)
-    where
-      shorter : (bs : List (List ℕ)) (k : ℕ) → k < length bs → length (get_or bs k []) ≤ length (concat bs)
-      shorter [] k l = absurd (omega arith)
-      shorter (b ∷ bs) zero l = omega (arith, length-append b (concat bs))
-      shorter (b ∷ bs) (suc k) l = omega (arith, length-append b (concat bs), shorter bs k (omega arith))
+  block_is_few k l =
+      let all = ap length (concat_is blocks) ∙ length-flat_map (λ b. b) blocks in
+      omega (arith, get_or-le-sum_by length blocks k [] l, all, length-OnceBelow joined.once)
 
   -- the start is in the first one alone
   pub no_start : (k : ℕ) → 1 ≤ k → k < length blocks → All (λ j. j < n) (get_or blocks k [])
   no_start k some l = by blocks joined.once joined.start k some l
     where
-      below : (a : ℕ) → a < n + 1 → n ≢ a → a < n
-      below a h k = let other : a ≢ n = λ e. k (sym e) in omega (arith, h, other)
-
       by : (bs : List (List ℕ)) → OnceBelow (n + 1) (concat bs) → Contains (get_or bs 0 []) n → (k : ℕ) → 1 ≤ k → k < length bs → All (λ j. j < n) (get_or bs k [])
       by [] o s k some l = absurd (omega (arith, l))
       by (b ∷ bs) o s zero some l = absurd (omega arith)
       by (b ∷ bs) o s (suc k) some l =
           let apart = All-contains (λ x. All (λ y. x ≢ y) (concat bs)) b n (pairs_across (λ x y. x ≢ y) b (concat bs) (OnceBelow-distinct o)) s in
           let small = All-back (λ x. x < n + 1) b (concat bs) o.within in
-          All-concat (λ j. j < n) bs (λ m d t. below (get_or (concat bs) m d) (small m d t) (apart m d t)) k [] (omega arith)
+          All-concat (λ j. j < n) bs (λ m d t. omega (arith, small m d t, apart m d t)) k [] (omega arith)
 
   module _ (tree : IsTree n before p) (place : ℕ) (later : 1 ≤ place) (inside : place < length blocks) where
     abbrev next : List ℕ
@@ -204,12 +189,10 @@ module _ (i : Instance) (class : i.class ≡ horn_class) (inner : Inner i) (bloc
   horn = IsHornInstance-from_class i class inner
 
   pub block_takes_time : (k : ℕ) → 1 ≤ k → k < length blocks → 0 < time_of i (get_or blocks k [])
-  block_takes_time k later l = by (get_or blocks k []) (block_is_some (length i.jobs) (before i) (time_at i) (weight_at i) blocks joined k l)
-      (no_start (length i.jobs) (before i) (time_at i) (weight_at i) blocks joined k later l)
-    where
-      by : (b : List ℕ) → 0 < length b → All (λ j. j < length i.jobs) b → 0 < time_of i b
-      by [] h a = absurd (omega (arith, h))
-      by (x ∷ xs) h a = omega (arith, sum_by-cons (time_at i) x xs, takes_time i horn.plain x (All-head (λ j. j < length i.jobs) x xs a))
+  block_takes_time k later l =
+      let some = block_is_some (length i.jobs) (before i) (time_at i) (weight_at i) blocks joined k l in
+      let job = no_start (length i.jobs) (before i) (time_at i) (weight_at i) blocks joined k later l 0 0 some in
+      omega (arith, takes_time i horn.plain (get_or (get_or blocks k []) 0 0) job, get_or-le-sum_by (time_at i) (get_or blocks k []) 0 0 some)
 
   -- what is read at a place
   pub record IsBlock (k : ℕ) (slice : List ℕ) : Type 0 where

@@ -91,10 +91,10 @@ module _ (row : ℕ) (i j : Instance) (t upper : Schedule) (D : ℕ) (order : Li
 
 -- the unit as the code reads it
 unit_read : (j : Instance) (t : Schedule) (D : ℕ) → j.class.env ≡ One → Feasible j t → IsBounded j t → D ≡ nat_abs (to_z w128 (of_z w128 t.unit)) → D ≡ nat_abs t.unit
-unit_read j t D one f b e = e ∙ ap nat_abs (to_z-of_z w128 t.unit (fits t.unit f.unit (subst (λ e. t.unit ≤ℤ greatest_unit (kind_of e)) one b.sized.unit)))
-  where
-    fits : (u : ℤ) → pos 1 ≤ℤ u → u ≤ℤ GREATEST_UNIT → FitsSigned w128 u
-    fits u h k = omega (arith, ints)
+unit_read j t D one f b e =
+    let most : t.unit ≤ℤ GREATEST_UNIT = subst (λ e. t.unit ≤ℤ greatest_unit (kind_of e)) one b.sized.unit in
+    let fits : FitsSigned w128 t.unit = omega (arith, ints, f.unit, most) in
+    e ∙ ap nat_abs (to_z-of_z w128 t.unit fits)
 
 -- what the code finds: the order lists all jobs, in it they are feasible, and so they are brought back
 pub record IsFoundLine (row : ℕ) (i j : Instance) (upper t : Schedule) (D : ℕ) (order : List ℕ) : Type 0 where

@@ -1,24 +1,22 @@
 -- The ends of the jobs over more and more pieces, and in order.
-use Rattle.std.proofs.Common.{◌≡◌, ◌≢◌, ℕ, ◌+◌, ◌<◌, Bool, true, false, cond, inl, inr, List, [], ◌∷◌, length, get_or, take, set, map, All, AllPairs, IsPermutation, ℤ, pos, ◌≤ℤ◌}
+use Rattle.std.proofs.Common.{◌≡◌, ◌≢◌, ℕ, ◌+◌, ◌<◌, Bool, cond, inl, inr, List, [], ◌∷◌, length, get_or, take, set, map, All, AllPairs, IsPermutation, ℤ, pos, ◌≤ℤ◌}
 use Rattle.std.proofs.Common.{refl, sym, ap, subst, subst₂, ◌∙◌, arith}
-use Rattle.std.specs.Prelude.{◌==◌, int_lt}
+use Rattle.std.specs.Prelude.{◌==◌}
 use Rattle.std.specs.Int.{int_max}
 use Rattle.std.specs.List.{range_with_len}
-use Rattle.std.specs.Ordering.{is_lt, int_cmp, nat_cmp, ordering_then}
-use Rattle.std.specs.declared.cmp.Ordering.TheVariants.{Less, Equal, Greater}
 use Rattle.std.specs.Cmp.{IsStrictWeakOrder}
 use Rattle.std.specs.List.Sorted.{IsSortedBy}
 use Rattle.std.proofs.lemmas.Bool.{cases_eq, eq-eqb, ne_eqb}
-use Rattle.std.proofs.lemmas.Int.{ints}
 use Rattle.std.proofs.lemmas.List.{length-set, get_or-set_same, get_or-set_other}
 use Rattle.std.proofs.lemmas.List.FromFn.{fill_by_all, length-map-range_with_len, get_or-map-range_with_len}
 use Rattle.std.proofs.lemmas.List.Elements.{All-map}
-use Rattle.std.proofs.lemmas.List.Sorted.{IsPermutation-map, All-permutation, sorted_far}
+use Rattle.std.proofs.lemmas.List.Sorted.{IsPermutation-map, All-permutation}
 use Rattle.msp_pieces.specs.declared.Piece.{Piece}
 use Rattle.msp_pieces.proofs.changes.Moves.{AllPairs-map}
 use Rattle.msp_pieces.specs.Cost.{last_end}
 use Rattle.msp_pieces.proofs.costs.Ends.{last_end-more}
-use Rattle.msp_pieces.proofs.changes.SettledSchedules.{piece_less, piece_less-order}
+use Rattle.msp_pieces.proofs.lists.DateOrder.{date_less, date_less-order, date_sorted}
+use Rattle.msp_class.proofs.IntegerRing.{<ℤ_weak, ≤ℤ_of_same}
 use Rattle.msp_turn.specs.declared.ends.End.{End}
 
 abbrev pub no_piece : Piece
@@ -30,9 +28,6 @@ end_over ps j = record { moment = last_end ps j; job = j }
 
 abbrev pub ends_over : ℕ → List Piece → List End
 ends_over count ps = map (end_over ps) (range_with_len 0 count)
-
-none_over : (count : ℕ) → ends_over count [] ≡ map (λ j. record { moment = pos 0; job = j }) (range_with_len 0 count)
-none_over count = refl
 
 abbrev ended : ℕ → ℤ → End
 ended j m = record { moment = m; job = j }
@@ -77,25 +72,14 @@ ends_over-next count ends new ps k p d l is inside made so_far = fill_by_all (en
         ∙ ap (ended j) (sym (more j ∙ ap (λ t. cond t (int_max (last_end (take k ps) j) p.to) (last_end (take k ps) j)) (ne_eqb p.job j (λ e. n (sym e)))))
 
 -- ---- in order
--- ends compare as pieces that begin at their moments on the machines of their numbers
-abbrev as_piece : End → Piece
-as_piece e = record { job = e.job; op = 0; machine = e.job; from = e.moment; to = e.moment }
-
 abbrev pub end_less : End → End → Bool
-end_less x y = piece_less (as_piece x) (as_piece y)
+end_less = date_less (λ (e : End). e.moment) (λ e. e.job)
 
 pub end_less-order : IsStrictWeakOrder end_less
-end_less-order = record { one_way = λ x y. piece_less-order.one_way (as_piece x) (as_piece y); chain = λ x y z. piece_less-order.chain (as_piece x) (as_piece y) (as_piece z) }
-
-not_later : (x y : ℤ) (a b : ℕ) → is_lt (ordering_then (int_cmp y x) (nat_cmp b a)) ≡ false → x ≤ℤ y
-not_later x y a b h = by (int_lt y x) refl (int_lt x y) h
-  where
-    by : (s : Bool) → int_lt y x ≡ s → (t : Bool) → is_lt (ordering_then (cond s Less (cond t Greater Equal)) (nat_cmp b a)) ≡ false → x ≤ℤ y
-    by true e t h = absurd (cc)
-    by false e t h = omega (arith, ints)
+end_less-order = date_less-order (λ (e : End). e.moment) (λ e. e.job)
 
 pub ends_sorted : (es : List End) → IsSortedBy end_less es → AllPairs (λ a b. a.moment ≤ℤ b.moment) es
-ends_sorted es h i j d l k = not_later (get_or es i d).moment (get_or es j d).moment (get_or es i d).job (get_or es j d).job (sorted_far end_less end_less-order es h i j d (omega arith) k)
+ends_sorted es h i j d l k = elim (date_sorted (λ (e : End). e.moment) (λ e. e.job) es h i j d l k) [ inl less ↦ <ℤ_weak less | inr same ↦ ≤ℤ_of_same same.0 ]
 
 -- ---- the numbers
 pub numbers_are : (count : ℕ) (ps : List Piece) (ends sorted : List End) (order : List ℕ)

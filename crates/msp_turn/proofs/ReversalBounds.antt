@@ -10,7 +10,7 @@ use Rattle.std.proofs.lemmas.List.Sorted.{IsPermutation-refl}
 use Rattle.msp_class.specs.declared.environments.EnvKind.{EnvKind}
 use Rattle.msp_class.specs.declared.environments.EnvKind.TheVariants.{Identical}
 use Rattle.msp_class.specs.Env.{kind_of}
-use Rattle.msp_class.proofs.IntegerRing.{≤ℤ_refl, ≤ℤ_trans, ≤ℤ_of_same, le-pos, natural_some, zero-*ℤ, *ℤ-zero}
+use Rattle.msp_class.proofs.IntegerRing.{≤ℤ_refl, ≤ℤ_trans, ≤ℤ_of_same, le-pos, natural_some, +ℤ_idr, zero-*ℤ, *ℤ-zero}
 use Rattle.msp_class.specs.declared.sizes.TheConstants.{GREATEST}
 use Rattle.msp_instance.specs.declared.Instance.{Instance}
 use Rattle.msp_instance.specs.Instance.{no_job, job_at}
@@ -27,6 +27,7 @@ use Rattle.msp_route.proofs.Kept.{raises, unraised}
 use Rattle.msp_route.proofs.KindLimits.{greatest_unit-most}
 use Rattle.msp_route.specs.Rates.{raised_costs}
 use Rattle.msp_turn.specs.Reversal.{IsReversible, reversed_piece, turning_moment, reversed_for}
+use Rattle.msp_turn.specs.laws.ReversalRows.{IsReversal}
 use Rattle.msp_turn.specs.laws.ReversalLaw.{IsReverse, IsReverse-sym, turning-least, turning-charged, Feasible-reversed, IsBack-reversed}
 
 -- ---- a release date over the unit
@@ -92,10 +93,8 @@ module _ {a : ℤ} {i j : Instance} (r : IsReverse a (pos 0) i j) (inner : Inner
 
   -- without release dates they stay
   ends_stay : ((k : ℕ) → k < length i.jobs → (job_at i k).release ≡ 0) → (moment : ℤ) → EndsBy moment t → EndsBy moment (reversed_for i t)
-  ends_stay none moment e k d l = same _ moment (ends_by moment (pos 0) (≤ℤ_refl _) (λ m n. ≤ℤ_of_same (ap (λ x. t.unit *ℤ pos x) (none m n) ∙ *ℤ-zero t.unit)) e k d l)
-    where
-      same : (x m : ℤ) → x ≤ℤ (m +ℤ pos 0) → x ≤ℤ m
-      same x m h = omega (arith, ints)
+  ends_stay none moment e = subst (λ m. EndsBy m (reversed_for i t)) (+ℤ_idr moment)
+      (ends_by moment (pos 0) (≤ℤ_refl _) (λ m n. ≤ℤ_of_same (ap (λ x. t.unit *ℤ pos x) (none m n) ∙ *ℤ-zero t.unit)) e)
 
   ends_kept : (row : ℕ) → IsReversed i row → (moment : ℤ) → EndsBy moment t → EndsBy (moment_after row moment) (reversed_for i t)
   ends_kept row h moment e = by (row == 47) refl
@@ -133,7 +132,7 @@ module _ {a : ℤ} {i j : Instance} (r : IsReverse a (pos 0) i j) (inner : Inner
     };
     unit = is_unit;
     jobs = λ k d l. omega (arith, (f.place k d l).job, r.needs.count);
-    moments = λ k d l. within (get_or t.pieces k d).from (get_or t.pieces k d).to (f.span k d l) (b.ends k d l);
+    moments = λ k d l. both (get_or t.pieces k d).from (get_or t.pieces k d).to (f.span k d l) (≤ℤ_trans (b.ends k d l) (omega (arith, ints)));
   }
     where
       feasible : Feasible i (reversed_for i t)
@@ -141,9 +140,6 @@ module _ {a : ℤ} {i j : Instance} (r : IsReverse a (pos 0) i j) (inner : Inner
 
       both : (x y : ℤ) → (pos 0 ≤ℤ x) × (x <ℤ y) → y ≤ℤ (GREATEST_BACK_MOMENT +ℤ GREATEST_RAISE) → IsMoment x × IsMoment y
       both x y h k = ((h.0, omega (arith, ints, h.1)), (omega (arith, ints, h.0, h.1), omega (arith, ints)))
-
-      within : (x y : ℤ) → (pos 0 ≤ℤ x) × (x <ℤ y) → y ≤ℤ GREATEST_BACK_MOMENT → IsMoment x × IsMoment y
-      within x y h k = ((h.0, omega (arith, ints, h.1)), (omega (arith, ints, h.0, h.1), omega (arith, ints)))
 
 -- ---- what is brought back
 abbrev pub IsBroughtBack : ℕ → ℤ → Instance → Instance → Schedule → Solution → Type 0
@@ -154,11 +150,16 @@ IsBroughtBack row a i j t s = record {
   bounds : KeepsBounds row i j t s.schedule;
 }
 
-pub brought_back : {a : ℤ} {i j : Instance} (row : ℕ) → IsReverse a (pos 0) i j → IsReversed i row → Inner i → Inner j → (t : Schedule) → Feasible j t → IsBounded j t →
-    (s : Solution) → s.schedule ≡ reversed_for i t → IsSolution i s → IsBroughtBack row a i j t s
-brought_back {a} {i} {j} row r h inner low t f b s e solution = record {
-  solution = solution;
-  law = subst (IsBack (raised_costs a) i j t) (sym e) (IsBack-reversed r low t);
-  same = subst (IsReordered (reversed_for i t)) (sym e) (record { unit = refl; pieces = IsPermutation-refl (reversed_for i t).pieces });
-  bounds = subst (KeepsBounds row i j t) (sym e) (KeepsBounds-reversed r inner low t f b row h);
-}
+module _ {row : ℕ} {a : ℤ} {i j : Instance} (h : IsReversal row a i j) (inner : Inner i) (t : Solution) (given : IsSolution j t) (b : IsBounded j t.schedule) where
+  pub reversible : IsReversible i t.schedule
+  reversible = IsReversible-back h.reverse inner h.lower.inner t.schedule given.feasible b
+
+  pub brought_back : keeps_schedule row ≡ false → raises row ≡ (row == 47) → (s : Solution) → s.schedule ≡ reversed_for i t.schedule → IsSolution i s
+      → IsBroughtBack row a i j t.schedule s
+  brought_back changes moments s e solution = record {
+    solution = solution;
+    law = subst (IsBack (raised_costs a) i j t.schedule) (sym e) (IsBack-reversed h.reverse h.lower.inner t.schedule);
+    same = subst (IsReordered (reversed_for i t.schedule)) (sym e) (record { unit = refl; pieces = IsPermutation-refl (reversed_for i t.schedule).pieces });
+    bounds = subst (KeepsBounds row i j t.schedule) (sym e)
+        (KeepsBounds-reversed h.reverse inner h.lower.inner t.schedule given.feasible b row (record { changes = changes; moments = moments; none = h.none }));
+  }

@@ -4,7 +4,7 @@ use Rattle.std.proofs.Math.Nat.{mul-le-mul_left, mul-le-mul_right, le-mul_of_pos
 use Rattle.std.proofs.lemmas.List.Elements.{All-nil, All-cons}
 use Rattle.msp_uniform.specs.declared.unit.TheConstants.{GREATEST_PRODUCT}
 use Rattle.msp_uniform.specs.Uniform.{gap}
-use Rattle.msp_uniform.specs.Segments.{at, IsDifference}
+use Rattle.msp_uniform.specs.Segments.{IsDifference}
 use Rattle.msp_uniform.specs.Plans.{IsAffordable, greatest_work}
 
 -- ---- the gap of the speeds
@@ -22,54 +22,33 @@ gap_some speeds = le-max_left 1 _
 pub difference_gap : (speeds : List ℕ) (d : ℕ) → IsDifference speeds d → d ≤ gap speeds
 difference_gap speeds d (inl e) = subst (λ k. k ≤ gap speeds) (sym e) (gap_some speeds)
 difference_gap speeds d (inr (some, a, b, l, k, e)) =
-    le_trans (by (at speeds a) (at speeds b) (fold max 0 speeds) (fold min (fold max 0 speeds) speeds) e ((most 0 speeds).1 a 0 l) ((least (fold max 0 speeds) speeds).1 b 0 k)) (le-max_right 1 _)
-  where
-    by : (x y p q : ℕ) → d ≡ x - y → x ≤ p → q ≤ y → d ≤ p - q
-    by x y p q e l k = omega (arith, e, l, k)
+    le_trans (omega (arith, e, (most 0 speeds).1 a 0 l, (least (fold max 0 speeds) speeds).1 b 0 k)) (le-max_right 1 (fold max 0 speeds - fold min (fold max 0 speeds) speeds))
 
 module _ (speeds : List ℕ) (finest unit end : ℕ) where
-  unit_here : (h : ℕ) → IsAffordable speeds finest unit end h → unit * finest ≤ GREATEST_PRODUCT
-  unit_here h a = le_trans (mul-le-mul_right finest (le-mul_of_pos_right unit (one-le-pow (h - 1) (gap speeds) (gap_some speeds)))) a.unit_small
+  pub finest_small : (h : ℕ) → IsAffordable speeds finest unit end h → unit * finest ≤ GREATEST_PRODUCT
+  finest_small h a = le_trans (mul-le-mul_right finest (le-mul_of_pos_right unit (one-le-pow (h - 1) (gap speeds) (gap_some speeds)))) a.unit_small
 
   pub unit_small : (h : ℕ) → IsAffordable speeds finest unit end h → unit ≤ GREATEST_PRODUCT
-  unit_small h a = le_trans (le-mul_of_pos_right unit a.some) (unit_here h a)
-
-  pub finest_small : (h : ℕ) → IsAffordable speeds finest unit end h → unit * finest ≤ GREATEST_PRODUCT
-  finest_small = unit_here
+  unit_small h a = le_trans (le-mul_of_pos_right unit a.some) (finest_small h a)
 
   pub end_small : (h : ℕ) → IsAffordable speeds finest unit end h → end * finest ≤ unit * finest * greatest_work
-  end_small h a = by (mul-le-mul_right finest a.end_small)
-    where
-      by : end * finest ≤ unit * greatest_work * finest → end * finest ≤ unit * finest * greatest_work
-      by l = omega (arith, l)
+  end_small h a = omega (arith, mul-le-mul_right finest a.end_small)
 
   -- a turn makes the unit finer by a difference of speeds
   module _ (g d : ℕ) (some : 1 ≤ d) (is : IsDifference speeds d) (a : IsAffordable speeds finest unit end (suc (suc g))) where
     power : gap speeds ^ (suc (suc g) - 1) ≡ gap speeds ^ g * gap speeds
-    power = ap (λ k. gap speeds ^ k) (one g) ∙ pow-suc (gap speeds) g
-      where
-        one : (g : ℕ) → suc (suc g) - 1 ≡ suc g
-        one g = omega arith
+    power = let one : suc (suc g) - 1 ≡ suc g = omega arith in ap (λ k. gap speeds ^ k) one ∙ pow-suc (gap speeds) g
 
     finer : unit * d * gap speeds ^ g * finest ≤ unit * gap speeds ^ (suc (suc g) - 1) * finest
     finer = mul-le-mul_right finest
-        (subst (λ k. unit * d * gap speeds ^ g ≤ unit * k) (sym power) (by (gap speeds ^ g) (mul-le-mul_right (gap speeds ^ g) (mul-le-mul_left unit (difference_gap speeds d is)))))
-      where
-        by : (p : ℕ) → unit * d * p ≤ unit * gap speeds * p → unit * d * p ≤ unit * (p * gap speeds)
-        by p l = omega (arith, l)
+        (subst (λ k. unit * d * gap speeds ^ g ≤ unit * k) (sym power) (omega (arith, mul-le-mul_right (gap speeds ^ g) (mul-le-mul_left unit (difference_gap speeds d is)))))
 
     pub IsAffordable-turn : IsAffordable speeds finest (unit * d) (end * d) (suc g)
     IsAffordable-turn = record {
-      unit_small = subst (λ k. unit * d * gap speeds ^ k * finest ≤ GREATEST_PRODUCT) (sym (less g)) (le_trans finer a.unit_small);
-      end_small = by (mul-le-mul_right d a.end_small);
+      unit_small = subst (λ k. unit * d * gap speeds ^ k * finest ≤ GREATEST_PRODUCT) (omega arith) (le_trans finer a.unit_small);
+      end_small = omega (arith, mul-le-mul_right d a.end_small);
       some = a.some;
     }
-      where
-        less : (g : ℕ) → suc g - 1 ≡ g
-        less g = omega arith
-
-        by : end * d ≤ unit * greatest_work * d → end * d ≤ unit * d * greatest_work
-        by l = omega (arith, l)
 
     -- what a turn asks for
     pub end_finer : end * d ≤ GREATEST_PRODUCT * greatest_work

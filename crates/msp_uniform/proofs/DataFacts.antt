@@ -67,13 +67,10 @@ module _ (i : Instance) (class : i.class ≡ cut_class) (inner : Inner i) (ts sp
     }
 
     small : v * gap sp ^ (length sp - 1) * multiple ≤ GREATEST_PRODUCT
-    small = by fits.0 fits.1 fits.2 fits.3
-      where
-        by : (n : ℕ) → 1 ≤ n → All (λ s. (times : ℕ) × (n ≡ times * s)) i.speeds
-            → sum i.speeds * gap i.speeds ^ (i.machines - 1) * n ≤ GREATEST_PRODUCT → v * gap sp ^ (length sp - 1) * multiple ≤ GREATEST_PRODUCT
-        by n some c l = le_trans (mul-le-mul (mul-le-mul_right (gap sp ^ (length sp - 1)) (speed_most sp jobs machines (at ts) w v machines_by greatest))
-            (multiple_least sp multiple least n some (subst (All (λ s. (times : ℕ) × (n ≡ times * s))) (sym b) c)))
-            (subst (λ x. sum sp * gap sp ^ (x - 1) * n ≤ GREATEST_PRODUCT) (sym many_speeds) (subst (λ x. sum x * gap x ^ (i.machines - 1) * n ≤ GREATEST_PRODUCT) (sym b) l))
+    small = let (n, some, c, l) = fits in le_trans (mul-le-mul
+        (mul-le-mul_right (gap sp ^ (length sp - 1)) (speed_most sp jobs machines (at ts) w v machines_by greatest))
+        (multiple_least sp multiple least n some (subst (All (λ s. (times : ℕ) × (n ≡ times * s))) (sym b) c)))
+        (subst (λ x. sum sp * gap sp ^ (x - 1) * n ≤ GREATEST_PRODUCT) (sym many_speeds) (subst (λ x. sum x * gap x ^ (i.machines - 1) * n ≤ GREATEST_PRODUCT) (sym b) l))
 
     IsAsked-of : IsAsked t jobs machines
     IsAsked-of = record {

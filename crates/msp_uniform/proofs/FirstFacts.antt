@@ -1,9 +1,9 @@
 -- The first plan: one segment in which all machines are free, up to the least end.
 use Rattle.std.proofs.Common.{◌≡◌, ℕ, zero, suc, ◌*◌, ◌-◌, ◌^◌, ◌<◌, ◌≤◌, ◌⊎◌, inl, inr, List, [], ◌∷◌, ◌++◌, length, take, map, replicate, All, sum_by, refl, sym, ap, subst, ◌∙◌, arith}
 use Rattle.std.proofs.Math.Nat.{le_trans, mul-le-mul_left, mul-le-mul_right}
-use Rattle.std.proofs.lemmas.List.{get_or-replicate, length-replicate, take_all}
-use Rattle.std.proofs.lemmas.List.Elements.{All-nil, All-cons, All-head}
-use Rattle.std.proofs.lemmas.List.Sums.{sum_by-le, sum_by-take-le}
+use Rattle.std.proofs.lemmas.List.{get_or-replicate, length-replicate, take_all, take-take}
+use Rattle.std.proofs.lemmas.List.Elements.{All-nil, All-cons}
+use Rattle.std.proofs.lemmas.List.Sums.{sum_by-le, sum_by-take-le, get_or-le-sum_by}
 use Rattle.msp_class.specs.declared.sizes.TheConstants.{MOST_MACHINES, GREATEST}
 use Rattle.msp_class.specs.Sums.{total_below}
 use Rattle.msp_class.proofs.Sums.{sum_by-cons, sum_by-OnceBelow, OnceBelow-from_permutation, OnceBelow-contains, total_below-same, total_below-scale, total_below-none}
@@ -32,10 +32,7 @@ first_places f (suc k) [] l = absurd (omega (arith, l))
 first_places f (suc k) (x ∷ xs) l = omega (arith, total_below-first k (λ i. f (at (x ∷ xs) i)), first_places f k xs (omega (arith, l)), sum_by-cons f x (take k xs))
 
 take-mono : (f : ℕ → ℕ) (a b : ℕ) (xs : List ℕ) → a ≤ b → sum_by f (take a xs) ≤ sum_by f (take b xs)
-take-mono f zero b xs l = omega arith
-take-mono f (suc a) zero xs l = absurd (omega (arith, l))
-take-mono f (suc a) (suc b) [] l = omega arith
-take-mono f (suc a) (suc b) (x ∷ xs) l = omega (arith, sum_by-cons f x (take a xs), sum_by-cons f x (take b xs), take-mono f a b xs (omega (arith, l)))
+take-mono f a b xs l = subst (λ ys. sum_by f ys ≤ sum_by f (take b xs)) (take-take a b xs l) (sum_by-take-le f (take b xs) a)
 
 module _ (t : Task) (k : IsTask t) (jobs machines : List ℕ) (a : IsAsked t jobs machines) where
   abbrev n : ℕ
@@ -65,9 +62,6 @@ module _ (t : Task) (k : IsTask t) (jobs machines : List ℕ) (a : IsAsked t job
   job_in : All (λ x. x < n) jobs
   job_in = order_within n time jobs a.jobs_by
 
-  time_in : All (λ j. time j ≤ GREATEST) jobs
-  time_in i d l = (k.times _ 0 (job_in i d l)).1
-
   work_small : t.work ≤ greatest_work
   work_small = elim a.greatest.reached [
     | inl (e, f) ↦ omega (arith, e, all_small)
@@ -75,20 +69,15 @@ module _ (t : Task) (k : IsTask t) (jobs machines : List ℕ) (a : IsAsked t job
   ]
     where
       all_small : sum_by time jobs ≤ greatest_work
-      all_small = omega (arith, sum_by-le time GREATEST jobs time_in, many_jobs, k.few_jobs)
+      all_small = omega (arith, sum_by-le time GREATEST jobs (λ i d l. (k.times _ 0 (job_in i d l)).1), many_jobs, k.few_jobs)
 
   work_some : 1 ≤ t.work
-  work_some = by t.work (sum_by time jobs) t.speed
-      (sum_by speed machines) (some jobs (omega (arith, many_jobs, a.some_jobs)) (λ i d l. (k.times _ 0 (job_in i d l)).0)) a.greatest.some a.greatest.total
+  work_some = by t.work (sum_by time jobs) t.speed (sum_by speed machines)
+      (let l : 0 < length jobs = omega (arith, many_jobs, a.some_jobs) in le_trans (k.times _ 0 (job_in 0 0 l)).0 (get_or-le-sum_by time jobs 0 0 l))
+      a.greatest.some a.greatest.total
     where
-      some : (js : List ℕ) → 1 ≤ length js → All (λ j. 1 ≤ time j) js → 1 ≤ sum_by time js
-      some [] l h = absurd (omega (arith, l))
-      some (j ∷ js) l h = omega (arith, sum_by-cons time j js, All-head (λ j. 1 ≤ time j) j js h)
-
       by : (w s v r : ℕ) → 1 ≤ s → 1 ≤ v → s * v ≤ w * r → 1 ≤ w
-      by zero zero v r l p q = absurd (omega (arith, l))
-      by zero (suc s) v r l p q = absurd (omega (arith, p, q))
-      by (suc w) s v r l p q = omega arith
+      by w s v r l p q = grind arith
 
   -- the first jobs need no more than the first machines can do
   fits : (i : ℕ) → i ≤ length machines → sum_by time (take i jobs) * t.speed ≤ t.work * sum_by speed (take i machines)
@@ -139,12 +128,9 @@ module _ (t : Task) (k : IsTask t) (jobs machines : List ℕ) (a : IsAsked t job
     compared : (p q s r : ℕ) → p ≡ t.speed * s → q ≡ t.work * r → s * t.speed ≤ t.work * r → p ≤ q
     compared p q s r e f l = omega (arith, e, f, l)
 
-    turned : (i : ℕ) → i ≤ length machines → total_below i (works time t.speed jobs) ≤ total_below i (λ r. amount (rate_at speed r) (x ∷ []))
-    turned i l = compared _ _ _ _ (all_need i) (all_hold i l) (fits i l)
-
     first_fit : DoFit (length machines) (λ r. amount (rate_at speed r) (x ∷ [])) (length jobs) (works time t.speed jobs)
     first_fit = record {
-      firsts = turned;
+      firsts = λ i l. compared _ _ _ _ (all_need i) (all_hold i l) (fits i l);
       all = compared _ _ _ _ (all_need (length jobs)) (all_hold (length machines) (omega arith))
           (subst (λ js. sum_by time js * t.speed ≤ t.work * sum_by speed (take (length machines) machines)) (sym (take_all (length jobs) jobs (omega arith)))
           (subst (λ ms. sum_by time jobs * t.speed ≤ t.work * sum_by speed ms) (sym (take_all (length machines) machines (omega arith))) a.greatest.total));
@@ -165,7 +151,7 @@ module _ (t : Task) (k : IsTask t) (jobs machines : List ℕ) (a : IsAsked t job
       };
       affordable = record {
         unit_small = subst (λ q. t.speed * gap t.speeds.items ^ (q - 1) * t.multiple ≤ GREATEST_PRODUCT) (sym many_machines) a.small_unit;
-        end_small = le_trans work_small (by t.speed a.greatest.some);
+        end_small = omega (arith, work_small, a.greatest.some);
         some = a.some;
       };
       least = refl;
@@ -174,10 +160,6 @@ module _ (t : Task) (k : IsTask t) (jobs machines : List ℕ) (a : IsAsked t job
       few = omega (arith, many_machines);
       fewer = omega (arith, many_jobs);
     }
-      where
-        by : (v : ℕ) → 1 ≤ v → greatest_work ≤ v * greatest_work
-        by zero l = absurd (omega (arith, l))
-        by (suc v) l = omega arith
 
   pub IsReached-first : (unit h : ℕ) (xs : List Segment) → IsFirstPlan t machines unit h xs → IsReached t jobs unit h xs
   IsReached-first unit h xs p = subst (λ ys. IsReached t jobs unit h ys) (sym p.only)

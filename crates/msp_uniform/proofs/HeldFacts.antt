@@ -74,7 +74,7 @@ module _ (t : Task) (k : IsTask t) (holds : List ℕ) (j : ℕ) (left : List ℕ
   turns (suc g) early late r d l = record {
     before = omega arith;
     can_late = over_late t k j left unit g early late r l;
-    can_early = subst (λ a. CanBeLaid t.speeds.items a (need - done (suc g) late) early) (less g) (over_early t k j left unit g early late r l);
+    can_early = subst (λ a. CanBeLaid t.speeds.items a (need - done (suc g) late) early) (omega arith) (over_early t k j left unit g early late r l);
     next = λ h' early' late' w.
         let same : h' ≡ g = omega (arith, w.place_is) in
         let also = subst (λ a. AreLaid false (at t.speeds.items) j a (need - done (suc g) late) 0 early early' w.seconds) same w.also in
@@ -90,9 +90,6 @@ module _ (t : Task) (k : IsTask t) (holds : List ℕ) (j : ℕ) (left : List ℕ
           },
         );
   }
-    where
-      less : (g : ℕ) → g ≡ suc g - 1
-      less g = omega arith
 
   pub can_turn : (h : ℕ) (early late : List Segment) → IsTaped t (j ∷ left) unit h early late → DoHold t.speeds.items holds h early late → (sp : List ℕ) (work rest : ℕ)
       → sp ≡ t.speeds.items → work ≡ need → rest ≡ done h late → rest < work → CanTurn t sp holds j unit h rest (work - rest) early late

@@ -67,11 +67,8 @@ module _ (m n : ℕ) (speed : ℕ → ℕ) (h job work : ℕ) (xs fs ss : List S
       gained-mono (rate_at speed h) (rate_at speed g) laid.parts xs (λ k d l. (each k d l).falls g h (omega (arith, is)) (omega arith)),
       laid.gains,
     );
-    whole_seconds = λ some d w. subst (λ k. AreWhole (rate_at speed h) k ss) (done d _ laid.gains)
+    whole_seconds = λ some d w. subst (λ k. AreWhole (rate_at speed h) k ss) (omega (arith, laid.gains))
         (AreWhole-seconds Before (λ x b. b.0.lasts) (rate_at speed h) (λ x y b t. IsRead-place speed h y.length x y t) d laid.laid before (laid.order some).order w);
     whole_places = λ some k l d w. AreWhole-laid Before (λ x b. b.0.lasts) (rate_at speed k) (λ x y b t. IsRead-place speed k y.length x y t)
         (below k l) d laid.laid before (laid.order some).order w;
   }
-    where
-      done : (d k : ℕ) → k + 0 ≡ work → d + k ≡ d + work
-      done d k e = omega (arith, e)

@@ -1,5 +1,5 @@
 -- What segments hold that are laid in two parts.
-use Rattle.std.proofs.Common.{◌≡◌, ℕ, ◌+◌, ◌*◌, ◌≤◌, inl, inr, List, [], ◌∷◌, ◌++◌, All, refl, ap, arith}
+use Rattle.std.proofs.Common.{◌≡◌, ℕ, ◌+◌, ◌*◌, ◌≤◌, inl, inr, List, ◌∷◌, ◌++◌, All, refl, ap, arith}
 use Rattle.std.proofs.lemmas.List.Elements.{All-nil, All-cons, All-head, All-tail}
 use Rattle.std.proofs.Math.Nat.{mul-le-mul_left}
 use Rattle.msp_class.proofs.Sums.{sum_by-cons}
@@ -79,12 +79,10 @@ few_parts parts segments (inr l) = l.1
 
 -- rates that add up
 pub gained-add : (f g k : Segment → ℕ) (zs : List ℕ) (xs : List Segment) → All (λ x. f x ≡ g x + k x) xs → gained f zs xs ≡ gained g zs xs + gained k zs xs
-gained-add f g k [] xs h = refl
-gained-add f g k (z ∷ zs) [] h = refl
 gained-add f g k (z ∷ zs) (x ∷ xs) h = omega (arith, ap (λ v. z * v) (All-head (λ x. f x ≡ g x + k x) x xs h), gained-add f g k zs xs (All-tail (λ x. f x ≡ g x + k x) x xs h))
+gained-add f g k _ _ h = refl
 
 -- greater rates
 pub gained-mono : (f g : Segment → ℕ) (zs : List ℕ) (xs : List Segment) → All (λ x. f x ≤ g x) xs → gained f zs xs ≤ gained g zs xs
-gained-mono f g [] xs h = omega arith
-gained-mono f g (z ∷ zs) [] h = omega arith
 gained-mono f g (z ∷ zs) (x ∷ xs) h = omega (arith, mul-le-mul_left z (All-head (λ x. f x ≤ g x) x xs h), gained-mono f g zs xs (All-tail (λ x. f x ≤ g x) x xs h))
+gained-mono f g _ _ h = omega arith

@@ -186,17 +186,11 @@ module _ (n : ℕ) (before jobs : List ℕ) (t : ℕ) (old : List ℕ) (first : 
         (sym (append-nil pieces) ∙ ap (λ k. pieces ++ begun n before jobs t (at old) k) (sym e) ∙ s.laid, record { many = s.many; each = λ i k. s.done i (omega (arith, l)) k })
 
     module _ (b m : ℕ) (is : m + (b + 1) ≡ length jobs) (s : IsBack n before jobs t old first b ends pieces) where
-      now : length jobs - b ≡ suc m
-      now = omega (arith, is)
-
       next : length jobs - (b + 1) ≡ m
       next = omega (arith, is)
 
-      rest : List Piece
-      rest = begun n before jobs t (at old) m
-
       whole : pieces ++ (cond (eqb (at jobs m) (at before m)) [] (part_on n m (at jobs m) t (at old m)) ++ begun n before jobs t (at old) m) ≡ first ++ begun n before jobs t (at old) (length jobs)
-      whole = ap (λ k. pieces ++ begun n before jobs t (at old) k) (sym now) ∙ s.laid
+      whole = let now : suc m ≡ length jobs - b = omega (arith, is) in ap (λ k. pieces ++ begun n before jobs t (at old) k) now ∙ s.laid
 
       pub IsBack-kept : at jobs m ≡ at before m → IsBack n before jobs t old first (b + 1) ends pieces
       IsBack-kept e =

@@ -11,7 +11,8 @@ use Rattle.msp_uniform.specs.declared.segments.Segment.{Segment}
 use Rattle.msp_uniform.specs.Segments.{place_at, IsLaid, IsTaken, CanGain, HasPlaces, HasTaken, IsFirst, IsSecond, rate_at, gain_at, AreFew, AreLaid, IsOneLaid, IsFirstLaid, IsLaying, AreLaidUpTo}
 use Rattle.msp_uniform.specs.Plans.{IsLaidHere}
 use Rattle.msp_uniform.proofs.LaidFacts.{IsLaid-append, gained-append}
-use Rattle.msp_uniform.proofs.OrderFacts.{All-last, All-append_right, IsLaid-lengths, AreOrdered-next}
+use Rattle.msp_uniform.proofs.OrderFacts.{All-append_right, IsLaid-lengths, AreOrdered-next}
+use native.Mathlib.Nat.{eq-zero-or-pos}
 
 module _ (swap : Bool) (speed : ℕ → ℕ) (job r left : ℕ) (x : Segment) (fs ss : List Segment) (g : ℕ) (is : g ≡ gain_at swap speed r x) where
   pub IsOneLaid-whole : (a : Segment) (fs' : List Segment)
@@ -79,15 +80,10 @@ module _ (swap : Bool) (speed : ℕ → ℕ) (job r left : ℕ) (x : Segment) (f
 
     pub IsOneLaid-parted : (b : Segment) (fs' ss' : List Segment) → (left / g ≡ 0 → fs' ≡ fs) → (0 < left / g → HasTaken job r (left / g) x fs fs')
         → b.length ≡ x.length - left / g → IsSecond swap job r x b → ss' ≡ ss ++ b ∷ [] → IsOneLaid swap speed job r left 0 x fs ss fs' ss'
-    IsOneLaid-parted b fs' ss' none some e t f = by (zero_or_not (left / g))
-      where
-        zero_or_not : (n : ℕ) → (n ≡ 0) ⊎ (0 < n)
-        zero_or_not zero = inl refl
-        zero_or_not (suc n) = inr (omega arith)
-
-        by : (left / g ≡ 0) ⊎ (0 < left / g) → IsOneLaid swap speed job r left 0 x fs ss fs' ss'
-        by (inl z) = subst (λ l. IsOneLaid swap speed job r left 0 x fs ss l ss') (sym (none z)) (IsOneLaid-rest b ss' z e t f)
-        by (inr p) = let (a, taken, is) = some p in IsOneLaid-both a b fs' ss' p taken is e t f
+    IsOneLaid-parted b fs' ss' none some e t f = elim (eq-zero-or-pos (left / g)) [
+      | inl z ↦ subst (λ l. IsOneLaid swap speed job r left 0 x fs ss l ss') (sym (none z)) (IsOneLaid-rest b ss' z e t f)
+      | inr p ↦ let (a, taken, is) = some p in IsOneLaid-both a b fs' ss' p taken is e t f
+    ]
 
 module _ (swap : Bool) (speed : ℕ → ℕ) (job r whole : ℕ) where
   pub AreLaid-first : (xs : List Segment) → AreLaid swap speed job r whole whole [] [] []
@@ -100,7 +96,8 @@ module _ (swap : Bool) (speed : ℕ → ℕ) (job r whole : ℕ) where
     laid = subst₂ (λ f s. IsLaid (IsFirst job r) (IsSecond swap job r) (h.parts ++ o.part ∷ []) (xs ++ x ∷ []) f s) (sym o.firsts_are) (sym o.seconds_are) (IsLaid-append h.laid o.laid);
     gains = omega (arith, gained-append (gain_at swap speed r) h.laid (o.part ∷ []) (x ∷ []), h.gains, o.gains);
     order = λ p. AreOrdered-next left after h.parts xs x o.part (gain_at swap speed r x) (IsLaid-lengths h.laid)
-        (All-last (λ y. 1 ≤ gain_at swap speed r y) xs x p) (h.order (All-append_left (λ y. 1 ≤ gain_at swap speed r y) xs (x ∷ []) p)) o.gains o.enough o.short;
+        (All-head (λ y. 1 ≤ gain_at swap speed r y) x [] (All-append_right (λ y. 1 ≤ gain_at swap speed r y) xs (x ∷ []) p))
+        (h.order (All-append_left (λ y. 1 ≤ gain_at swap speed r y) xs (x ∷ []) p)) o.gains o.enough o.short;
     few = by h.few o.few;
   }
     where
@@ -119,11 +116,8 @@ module _ (swap : Bool) (speed : ℕ → ℕ) (job r whole : ℕ) where
   CanGain-nothing [] = refl
   CanGain-nothing (x ∷ xs) = by (x.length * gain_at swap speed r x) (CanGain-nothing xs)
     where
-      zero_less : (n : ℕ) → 0 ≡ 0 - n
-      zero_less n = omega arith
-
       by : (n : ℕ) → CanGain (gain_at swap speed r) 0 xs → ((n ≤ 0) × CanGain (gain_at swap speed r) (0 - n) xs) ⊎ ((0 < n) × (gain_at swap speed r x ∣ 0))
-      by zero c = inl (omega arith, subst (λ k. CanGain (gain_at swap speed r) k xs) (zero_less 0) c)
+      by zero c = inl (omega arith, subst (λ k. CanGain (gain_at swap speed r) k xs) (omega arith) c)
       by (suc n) c = inr (omega arith, dvd-zero _)
 
   -- what one segment leaves

@@ -1,11 +1,12 @@
 -- The law of the least end, from the law of speeds: the threshold is the speed of the slowest of the k fastest machines.
 use Rattle.std.proofs.Common.{◌≡◌, ◌≢◌, ℕ, zero, suc, ◌+◌, ◌-◌, ◌*◌, ◌<◌, ◌≤◌, Bool, true, cond, eqb, ltb, List, length, take, drop, get_or, count_by, sum_by, ℤ, pos, ◌*ℤ◌, ◌≤ℤ◌}
-use Rattle.std.proofs.Common.{All, AllPairs, ◌⊎◌, inl, inr, refl, sym, ap, subst, subst₂, ◌∙◌, arith}
+use Rattle.std.proofs.Common.{All, AllPairs, inl, inr, refl, sym, ap, subst, subst₂, ◌∙◌, arith}
 use Rattle.std.specs.List.{range_with_len}
 use Rattle.std.proofs.lemmas.Int.{ints}
 use Rattle.std.proofs.lemmas.List.{take-append-drop, length-take, length-drop, get_or-take, get_or-drop, get_or_default}
 use Rattle.std.proofs.lemmas.List.Elements.{All-take}
 use Rattle.msp_class.specs.Env.{kind_of}
+use Rattle.msp_class.proofs.Cases.{same_or_not}
 use Rattle.msp_class.proofs.Sums.{sum_by-append, sum_by-same, sum_by-add, sum_by-constant, sum_by-none, sum_by-IsPermutation, sum_by_counts, count_by-distinct, total_below-same}
 use Rattle.msp_class.proofs.Sums.{total_below-range, OnceBelow-from_permutation, OnceBelow-distinct, length-OnceBelow}
 use Rattle.msp_instance.specs.declared.Instance.{Instance}
@@ -14,11 +15,11 @@ use Rattle.msp_pieces.specs.Cost.{cost_of}
 use Rattle.msp_pieces.specs.Feasible.{Feasible}
 use Rattle.msp_pieces.specs.Laws.{time_together, jobs_together}
 use Rattle.msp_pieces.specs.BackToBack.{time_at}
-use Rattle.msp_pieces.specs.Speeds.{HaveSpeeds, HasSpeedFor, speed_of, speed_above}
+use Rattle.msp_pieces.specs.Speeds.{HasSpeedFor, speed_of}
 use Rattle.msp_pieces.proofs.costs.Makespan.{ends_by_cost, cost_natural}
 use Rattle.msp_pieces.proofs.bounds.SpeedBound.{law_of_speeds}
 use Rattle.msp_class.proofs.IntegerRing.{zero-le-pos, *ℤ_comm}
-use Rattle.msp_uniform.specs.Uniform.{cut_class, IsByFalling, work, speed, IsAfter, LawOfLeastEnd}
+use Rattle.msp_uniform.specs.Uniform.{cut_class, IsByFalling, work, IsAfter, LawOfLeastEnd}
 
 -- ---- a list of numbers as a test
 abbrev among : List ℕ → ℕ → Bool
@@ -35,10 +36,8 @@ sum_among f n xs h u = total_below-range n (λ j. cond (among xs j) (f j) 0)
 
 -- ---- the first k of a list
 AllPairs-take : {X : Type 0} (R : X → X → Type 0) (k : ℕ) (xs : List X) → AllPairs R xs → AllPairs R (take k xs)
-AllPairs-take R k xs h i j d a b = let (short, whole) = within_both in subst₂ R (sym (get_or-take k xs i d (omega arith))) (sym (get_or-take k xs j d short)) (h i j d a whole)
-  where
-    within_both : (j < k) × (j < length xs)
-    within_both = (omega (arith, length-take k xs, b), omega (arith, length-take k xs, b))
+AllPairs-take R k xs h i j d a b = let short : j < k = omega (arith, length-take k xs, b) in
+    subst₂ R (sym (get_or-take k xs i d (omega arith))) (sym (get_or-take k xs j d short)) (h i j d a (omega (arith, length-take k xs, b)))
 
 -- an order of the numbers below n
 module _ (n : ℕ) (key : ℕ → ℕ) (order : List ℕ) (o : IsByFalling n key order) where
@@ -62,32 +61,26 @@ module _ (key : ℕ → ℕ) (xs : List ℕ) (k : ℕ) (inside : suc k ≤ lengt
   early : All (λ x. key x ≡ threshold + (key x - threshold)) (take (suc k) xs)
   early i d l =
       let short : i < suc k = omega (arith, l, length-take (suc k) xs) in
-      subst (λ x. key x ≡ threshold + (key x - threshold)) (sym (get_or-take (suc k) xs i d short)) (by (key (get_or xs i d)) threshold (above i d short))
+      subst (λ x. key x ≡ threshold + (key x - threshold)) (sym (get_or-take (suc k) xs i d short)) (omega (arith, above i d short))
     where
-      by : (a t : ℕ) → t ≤ a → a ≡ t + (a - t)
-      by a t l = omega arith
-
       above : (i d : ℕ) → i < suc k → threshold ≤ key (get_or xs i d)
-      above i d b = elim (least_or i k b) [
+      above i d b = elim (same_or_not i k) [
         | inl e ↦ subst (λ x. key x ≤ key (get_or xs i d)) (get_or_default xs k d 0 (omega (arith, inside)) ∙ refl) (subst (λ m. key (get_or xs m d) ≤ key (get_or xs i d)) e (omega arith))
-        | inr c ↦ subst (λ x. key x ≤ key (get_or xs i d)) (get_or_default xs k d 0 (omega (arith, inside))) (falls i k d c (omega (arith, inside)))
+        | inr c ↦
+            let less : i < k = omega (arith, b, c) in
+            subst (λ x. key x ≤ key (get_or xs i d)) (get_or_default xs k d 0 (omega (arith, inside))) (falls i k d less (omega (arith, inside)))
       ]
-        where
-          least_or : (i k : ℕ) → i < suc k → (i ≡ k) ⊎ (i < k)
-          least_or i k l = grind arith
 
   late : All (λ x. key x - threshold ≡ 0) (drop (suc k) xs)
   late i d l =
       let within : suc k + i < length xs = omega (arith, l, length-drop (suc k) xs) in
-      subst (λ x. key x - threshold ≡ 0) (sym (get_or-drop (suc k) xs i d)) (by (key (get_or xs (suc k + i) d)) threshold
-      (subst (λ x. key (get_or xs (suc k + i) d) ≤ key x) (get_or_default xs k d 0 (omega (arith, inside))) (falls k (suc k + i) d (omega arith) within)))
-    where
-      by : (a t : ℕ) → a ≤ t → a - t ≡ 0
-      by a t l = omega arith
+      let low =
+      subst (λ x. key (get_or xs (suc k + i) d) ≤ key x) (get_or_default xs k d 0 (omega (arith, inside))) (falls k (suc k + i) d (omega arith) within) in
+      subst (λ x. key x - threshold ≡ 0) (sym (get_or-drop (suc k) xs i d)) (omega (arith, low))
 
   -- the excess over the threshold, and the threshold for each of them, are their sum
   pub excess : suc k * threshold + sum_by (λ x. key x - threshold) xs ≡ sum_by key (take (suc k) xs)
-  excess = omega (
+  excess = let long : length (take (suc k) xs) ≡ suc k = omega (arith, length-take (suc k) xs, inside) in omega (
     arith,
     ap (sum_by (λ x. key x - threshold)) (sym (take-append-drop (suc k) xs)),
     sum_by-append (λ x. key x - threshold) (take (suc k) xs) (drop (suc k) xs),
@@ -97,17 +90,11 @@ module _ (key : ℕ → ℕ) (xs : List ℕ) (k : ℕ) (inside : suc k ≤ lengt
     sum_by-constant threshold (take (suc k) xs),
     ap (λ m. m * threshold) long,
   )
-    where
-      long : length (take (suc k) xs) ≡ suc k
-      long = omega (arith, length-take (suc k) xs, inside)
 
 module _ (i : Instance) (class : i.class ≡ cut_class) (s : Schedule) (f : Feasible i s) (some : 1 ≤ length i.jobs)
     (jobs machines : List ℕ) (by_time : IsByFalling (length i.jobs) (time_at i) jobs) (by_speed : IsByFalling i.machines (speed_of i) machines) where
-  speeds : HaveSpeeds (kind_of i.class.env)
-  speeds = inr (ap (λ c. kind_of c.env) class)
-
   held : (test : ℕ → Bool) (threshold : ℕ) → HasSpeedFor i s test threshold (cost_of i s)
-  held test threshold = law_of_speeds.room i s test threshold (cost_of i s) speeds f
+  held test threshold = law_of_speeds.room i s test threshold (cost_of i s) (inr (ap (λ c. kind_of c.env) class)) f
       (subst (λ x. pos 0 ≤ℤ x) (sym (cost_natural i (ap (λ c. c.crit) class) s some)) (zero-le-pos _)) (λ j l e. ends_by_cost i (ap (λ c. c.crit) class) s j l)
 
   read : (w w' v v' : ℕ) (u c : ℤ) → w ≡ w' → v ≡ v' → (u *ℤ pos w) ≤ℤ (c *ℤ pos v) → (pos w' *ℤ u) ≤ℤ (c *ℤ pos v')
@@ -133,27 +120,17 @@ module _ (i : Instance) (class : i.class ≡ cut_class) (s : Schedule) (f : Feas
     count = sum_among (λ _. 1) (length i.jobs) (take k jobs) within distinct ∙ omega (arith, sum_by-constant 1 (take k jobs), first_length (length i.jobs) (time_at i) jobs by_time k few)
 
   pub first_works : (k : ℕ) → k ≤ i.machines → k ≤ length i.jobs → IsAfter i (take k jobs) (take k machines) (cost_of i s) s.unit
-  first_works zero l m = read 0 0 0 0 s.unit (cost_of i s) refl refl (none s.unit (cost_of i s))
-    where
-      none : (u c : ℤ) → (u *ℤ pos 0) ≤ℤ (c *ℤ pos 0)
-      none u c = omega (arith, ints)
+  first_works zero l m = read 0 0 0 0 s.unit (cost_of i s) refl refl (omega (arith, ints))
   first_works (suc k) l m =
       let long : suc k ≤ length machines = omega (arith, order_length i.machines (speed_of i) machines by_speed, l) in
       let t : ℕ = speed_of i (get_or machines k 0) in
       read _ _ _ _ s.unit (cost_of i s) (works (suc k) m)
-      (sums (jobs_together i (test (suc k) m)) (speed_above i t) t (count (suc k) m) (over_range (λ x. speed_of i x - t)) (excess (speed_of i) machines k long by_speed.falls))
-      (held (test (suc k) m) t)
-    where
-      sums : (c a t : ℕ) → c ≡ suc k → a ≡ sum_by (λ x. speed_of i x - t) machines
-          → suc k * t + sum_by (λ x. speed_of i x - t) machines ≡ speed i (take (suc k) machines) → c * t + a ≡ speed i (take (suc k) machines)
-      sums c a t e g h = omega (arith, ap (λ x. x * t) e, g, h)
+      (omega (arith, ap (λ x. x * t) (count (suc k) m), over_range (λ x. speed_of i x - t), excess (speed_of i) machines k long by_speed.falls)) (held (test (suc k) m) t)
 
   pub total_work : IsAfter i jobs machines (cost_of i s) s.unit
   total_work = read _ _ _ _ s.unit (cost_of i s) (sym (sum_by-IsPermutation (time_at i) (range_with_len 0 (length i.jobs)) jobs by_time.all))
-      (sums (jobs_together i (λ _. true)) (speed_above i 0) (over_range (λ x. speed_of i x - 0))) (held (λ _. true) 0)
-    where
-      sums : (c a : ℕ) → a ≡ sum_by (λ x. speed_of i x - 0) machines → c * 0 + a ≡ speed i machines
-      sums c a e = omega (arith, e, sum_by-same (λ x. speed_of i x - 0) (speed_of i) machines (λ j d l. omega arith))
+      (omega (arith, over_range (λ x. speed_of i x - 0), sum_by-same (λ x. speed_of i x - 0) (speed_of i) machines (λ j d l. omega arith)))
+      (held (λ _. true) 0)
 
 pub law_of_least_end : LawOfLeastEnd
 law_of_least_end = record {

@@ -1,17 +1,14 @@
 -- The parts of laid segments in order, and works that end at whole moments.
 use Rattle.std.proofs.Common.{◌≡◌, ℕ, zero, suc, ◌+◌, ◌*◌, ◌-◌, ◌<◌, ◌≤◌, inl, inr, Bool, true, false, leb, List, [], ◌∷◌, ◌++◌, length, map, All, refl, sym, ap, ap₂, subst, ◌∙◌, arith}
 use Rattle.std.specs.Int.{◌∣◌}
-use Rattle.std.proofs.Math.Nat.{dvd-add, dvd-mul_left, dvd-mul_left_of_dvd, eq_of_mul-eq-mul_right}
+use Rattle.std.proofs.Math.Nat.{dvd-add, dvd-mul_left, eq_of_mul-eq-mul_right, dvd-mul_right_of_dvd}
 use Rattle.std.proofs.lemmas.Bool.{leb-true, leb-false}
 use Rattle.std.proofs.lemmas.Nat.Gcd.{dvd_trans}
 use Rattle.std.proofs.lemmas.List.Elements.{All-nil, All-cons, All-head, All-tail, All-append}
 use Rattle.msp_class.proofs.Sums.{sum_by-cons}
 use Rattle.msp_uniform.specs.declared.segments.Segment.{Segment}
 use Rattle.msp_uniform.specs.Segments.{IsLaid, gained, amount, InOrder, AreOrdered, AreWhole}
-
-pub All-last : {X : Type 0} (P : X → Type 0) (xs : List X) (x : X) → All P (xs ++ x ∷ []) → P x
-All-last P [] x h = All-head P x [] h
-All-last P (y ∷ ys) x h = All-last P ys x (All-tail P y (ys ++ x ∷ []) h)
+use Rattle.std.proofs.lemmas.List.{map_push}
 
 pub All-append_right : {X : Type 0} (P : X → Type 0) (xs ys : List X) → All P (xs ++ ys) → All P ys
 All-append_right P [] ys h = h
@@ -28,30 +25,22 @@ InOrder-nothing : (zs : List ℕ) (xs : List Segment) (x : Segment) → length z
 InOrder-nothing [] [] x e h = inr (All-nil (λ y. y ≡ 0))
 InOrder-nothing (z ∷ zs) (y ∷ ys) x e (inl (f, o)) = inl (f, InOrder-nothing zs ys x (omega (arith, e)) o)
 InOrder-nothing (z ∷ zs) (y ∷ ys) x e (inr a) = inr (All-append (λ y. y ≡ 0) zs (0 ∷ []) a (All-cons (λ y. y ≡ 0) 0 [] refl (All-nil (λ y. y ≡ 0))))
-InOrder-nothing [] (y ∷ ys) x e h = absurd (omega (arith, e))
-InOrder-nothing (z ∷ zs) [] x e h = absurd (omega (arith, e))
+InOrder-nothing _ _ x e h = absurd (omega (arith, e))
 
 InOrder-whole : (z : ℕ) (xs : List Segment) (x : Segment) → InOrder (map (λ y. y.length) xs ++ z ∷ []) (xs ++ x ∷ [])
 InOrder-whole z [] x = inr (All-nil (λ y. y ≡ 0))
 InOrder-whole z (y ∷ ys) x = inl (refl, InOrder-whole z ys x)
 
-whole-more : (xs : List Segment) (x : Segment) → map (λ y. y.length) xs ++ x.length ∷ [] ≡ map (λ y. y.length) (xs ++ x ∷ [])
-whole-more [] x = refl
-whole-more (y ∷ ys) x = ap (λ l. y.length ∷ l) (whole-more ys x)
-
 pub AreOrdered-next : (left after : ℕ) (zs : List ℕ) (xs : List Segment) (x : Segment) (z g : ℕ) → length zs ≡ length xs → 1 ≤ g → AreOrdered left zs xs
     → z * g + after ≡ left → (x.length * g ≤ left → after ≡ left - x.length * g) → (left < x.length * g → after ≡ 0) → AreOrdered after (zs ++ z ∷ []) (xs ++ x ∷ [])
 AreOrdered-next zero after zs xs x z g size some h e enough short = record {
-  order = subst (λ k. InOrder (zs ++ k ∷ []) (xs ++ x ∷ [])) (sym (none z g some (omega (arith, e)))) (InOrder-nothing zs xs x size h.order);
+  order = subst (λ k. InOrder (zs ++ k ∷ []) (xs ++ x ∷ []))
+      (sym (eq_of_mul-eq-mul_right g some z 0 (omega (arith, e)))) (InOrder-nothing zs xs x size h.order);
   whole = λ l. absurd (omega (arith, l, e));
 }
-  where
-    none : (z g : ℕ) → 1 ≤ g → z * g ≡ 0 → z ≡ 0
-    none zero g l e = refl
-    none (suc z) g l e = absurd (omega (arith, e, l))
 AreOrdered-next (suc left) after zs xs x z g size some h e enough short = record {
   order = subst (λ l. InOrder (l ++ z ∷ []) (xs ++ x ∷ [])) (sym (h.whole (omega arith))) (InOrder-whole z xs x);
-  whole = λ l. ap₂ (λ a b. a ++ b ∷ []) (h.whole (omega arith)) (by l (leb (x.length * g) (suc left)) refl) ∙ whole-more xs x;
+  whole = λ l. ap₂ (λ a b. a ++ b ∷ []) (h.whole (omega arith)) (by l (leb (x.length * g) (suc left)) refl) ∙ sym (map_push (λ y. y.length) xs x);
 }
   where
     by : 1 ≤ after → (v : Bool) → leb (x.length * g) (suc left) ≡ v → z ≡ x.length
@@ -60,14 +49,16 @@ AreOrdered-next (suc left) after zs xs x z g size some h e enough short = record
 
 -- ---- whole moments
 InOrder-zeros : (zs : List ℕ) (xs : List Segment) → All (λ y. y ≡ 0) zs → InOrder zs xs
-InOrder-zeros [] xs a = tt
-InOrder-zeros (z ∷ zs) [] a = tt
 InOrder-zeros (z ∷ zs) (x ∷ xs) a = inr (All-tail (λ y. y ≡ 0) z zs a)
+InOrder-zeros _ _ a = tt
+
+InOrder-rest : (z : ℕ) (zs : List ℕ) (x : Segment) (xs : List Segment) → InOrder (z ∷ zs) (x ∷ xs) → InOrder zs xs
+InOrder-rest z zs x xs (inl (q, o)) = o
+InOrder-rest z zs x xs (inr a) = InOrder-zeros zs xs a
 
 gained-zeros : (rate : Segment → ℕ) (zs : List ℕ) (xs : List Segment) → All (λ y. y ≡ 0) zs → gained rate zs xs ≡ 0
-gained-zeros rate [] xs a = refl
-gained-zeros rate (z ∷ zs) [] a = refl
 gained-zeros rate (z ∷ zs) (x ∷ xs) a = omega (arith, ap (λ k. k * rate x) (All-head (λ y. y ≡ 0) z zs a), gained-zeros rate zs xs (All-tail (λ y. y ≡ 0) z zs a))
+gained-zeros rate _ _ a = refl
 
 module _ {First Second : Segment → Segment → Type 0} (P : Segment → Type 0)
     (lasts : (x : Segment) → P x → 1 ≤ x.length) (rate : Segment → ℕ) (of_second : (x y : Segment) → P x → Second x y → rate y ≡ rate x) where
@@ -81,43 +72,25 @@ module _ {First Second : Segment → Segment → Type 0} (P : Segment → Type 0
   pub AreWhole-seconds : (d : ℕ) {zs : List ℕ} {xs us vs : List Segment} → IsLaid First Second zs xs us vs → All P xs → InOrder zs xs → AreWhole rate d xs → AreWhole rate (d + gained rate zs xs) vs
   AreWhole-seconds d IsLaid.none p o w = tt
   AreWhole-seconds d (IsLaid.first {zs} {x} {a = y} {xs} {firsts = us} {seconds = vs} f e h) p o w =
-      subst (λ k. AreWhole rate k vs) (same d y.length x.length (rate x) (gained rate zs xs) e) (AreWhole-seconds (d + x.length * rate x) h (All-tail P x xs p) (by o) w.1)
-    where
-      same : (d a l r k : ℕ) → a ≡ l → d + l * r + k ≡ d + (a * r + k)
-      same d a l r k e = omega (arith, ap (λ n. n * r) e)
-
-      by : InOrder (y.length ∷ zs) (x ∷ xs) → InOrder zs xs
-      by (inl (q, o)) = o
-      by (inr a) = InOrder-zeros zs xs a
+      subst (λ k. AreWhole rate k vs) (omega (arith, ap (λ n. n * rate x) e))
+      (AreWhole-seconds (d + x.length * rate x) h (All-tail P x xs p) (InOrder-rest y.length zs x xs o) w.1)
   AreWhole-seconds d (IsLaid.second {zs} {x} {b = y} {xs} {firsts = us} {seconds = vs} f e h) p (inl (q, o)) w = absurd (omega (arith, q, lasts x (All-head P x xs p)))
   AreWhole-seconds d (IsLaid.second {zs} {x} {b = y} {xs} {firsts = us} {seconds = vs} f e h) p (inr a) w =
       let none : gained rate zs xs ≡ 0 = gained-zeros rate zs xs a in
       let is : rate y ≡ rate x = of_second x y (All-head P x xs p) f in (
-        subst (λ k. k ∣ d + (0 * rate x + gained rate zs xs)) (sym is) (subst (λ k. rate x ∣ k) (here d (rate x) (gained rate zs xs) none) w.0),
+        subst (λ k. k ∣ d + (0 * rate x + gained rate zs xs)) (sym is) (subst (λ k. rate x ∣ k) (omega (arith, none)) w.0),
         subst (λ k. AreWhole rate k vs)
-            (later d x.length y.length (rate x) (rate y) (gained rate zs xs) none e is) (AreWhole-seconds (d + x.length * rate x) h (All-tail P x xs p) (InOrder-zeros zs xs a) w.1),
+            (omega (arith, none, ap₂ (λ m n. m * n) e is)) (AreWhole-seconds (d + x.length * rate x) h (All-tail P x xs p) (InOrder-zeros zs xs a) w.1),
       )
-    where
-      here : (d r k : ℕ) → k ≡ 0 → d ≡ d + (0 * r + k)
-      here d r k e = omega (arith, e)
-
-      later : (d l b r s k : ℕ) → k ≡ 0 → b ≡ l → s ≡ r → d + l * r + k ≡ d + (0 * r + k) + b * s
-      later d l b r s k e f g = omega (arith, e, ap₂ (λ m n. m * n) f g)
   AreWhole-seconds d (IsLaid.both {zs} {x} {a = y} {b = v} {xs} {firsts = us} {seconds = vs} f g m n e h) p (inl (q, o)) w = absurd (omega (arith, q, n, e))
   AreWhole-seconds d (IsLaid.both {zs} {x} {a = y} {b = v} {xs} {firsts = us} {seconds = vs} f g m n e h) p (inr a) w =
       let none : gained rate zs xs ≡ 0 = gained-zeros rate zs xs a in
       let is : rate v ≡ rate x = of_second x v (All-head P x xs p) g in (
         subst (λ k. k ∣ d + (y.length * rate x + gained rate zs xs)) (sym is)
-            (subst (λ k. rate x ∣ k) (here d y.length (rate x) (gained rate zs xs) none) (dvd-add _ w.0 (dvd-mul_left (rate x) y.length))),
-        subst (λ k. AreWhole rate k vs)
-            (later d x.length y.length v.length (rate x) (rate v) (gained rate zs xs) none e is) (AreWhole-seconds (d + x.length * rate x) h (All-tail P x xs p) (InOrder-zeros zs xs a) w.1),
+            (subst (λ k. rate x ∣ k) (omega (arith, none)) (dvd-add _ w.0 (dvd-mul_left (rate x) y.length))),
+        subst (λ k. AreWhole rate k vs) (omega (arith, none, ap (λ n. n * rate x) e, ap (λ n. v.length * n) is))
+            (AreWhole-seconds (d + x.length * rate x) h (All-tail P x xs p) (InOrder-zeros zs xs a) w.1),
       )
-    where
-      here : (d a r k : ℕ) → k ≡ 0 → d + a * r ≡ d + (a * r + k)
-      here d a r k e = omega (arith, e)
-
-      later : (d l a b r s k : ℕ) → k ≡ 0 → a + b ≡ l → s ≡ r → d + l * r + k ≡ d + (a * r + k) + b * s
-      later d l a b r s k e f g = omega (arith, e, ap (λ n. n * r) f, ap (λ n. b * n) g)
 
   -- at a rate that first parts keep too
   pub AreWhole-laid : ((x y : Segment) → P x → First x y → rate y ≡ rate x) → (d : ℕ) {zs : List ℕ} {xs us vs : List Segment}
@@ -126,15 +99,9 @@ module _ {First Second : Segment → Segment → Type 0} (P : Segment → Type 0
   AreWhole-laid of_first d (IsLaid.first {zs} {x} {a = y} {xs} {firsts = us} {seconds = vs} f e h) p o w =
       let is : rate y ≡ rate x = of_first x y (All-head P x xs p) f in (
         subst (λ k. k ∣ d) (sym is) w.0,
-        subst (λ k. AreWhole rate k (us ++ vs)) (same d y.length x.length (rate y) (rate x) e is) (AreWhole-laid of_first (d + x.length * rate x) h (All-tail P x xs p) (by o) w.1),
+        subst (λ k. AreWhole rate k (us ++ vs)) (omega (arith, ap₂ (λ m n. m * n) e is))
+            (AreWhole-laid of_first (d + x.length * rate x) h (All-tail P x xs p) (InOrder-rest y.length zs x xs o) w.1),
       )
-    where
-      same : (d a l r s : ℕ) → a ≡ l → r ≡ s → d + l * s ≡ d + a * r
-      same d a l r s e f = omega (arith, ap₂ (λ m n. m * n) e f)
-
-      by : InOrder (y.length ∷ zs) (x ∷ xs) → InOrder zs xs
-      by (inl (q, o)) = o
-      by (inr a) = InOrder-zeros zs xs a
   AreWhole-laid of_first d (IsLaid.second {zs} {x} {b = y} {xs} {firsts = us} {seconds = vs} f e h) p (inl (q, o)) w = absurd (omega (arith, q, lasts x (All-head P x xs p)))
   AreWhole-laid of_first d (IsLaid.second {zs} {x} {b = y} {xs} {firsts = us} {seconds = vs} f e h) p (inr a) w =
       let is : rate y ≡ rate x = of_second x y (All-head P x xs p) f in
@@ -142,11 +109,8 @@ module _ {First Second : Segment → Segment → Type 0} (P : Segment → Type 0
       subst (λ l. AreWhole rate d (l ++ y ∷ vs)) (sym no) (
         subst (λ k. k ∣ d) (sym is) w.0,
         subst (λ l. AreWhole rate (d + y.length * rate y) (l ++ vs)) no (subst (λ k. AreWhole rate k (us ++ vs))
-            (same d y.length x.length (rate y) (rate x) e is) (AreWhole-laid of_first (d + x.length * rate x) h (All-tail P x xs p) (InOrder-zeros zs xs a) w.1)),
+            (omega (arith, ap₂ (λ m n. m * n) e is)) (AreWhole-laid of_first (d + x.length * rate x) h (All-tail P x xs p) (InOrder-zeros zs xs a) w.1)),
       )
-    where
-      same : (d a l r s : ℕ) → a ≡ l → r ≡ s → d + l * s ≡ d + a * r
-      same d a l r s e f = omega (arith, ap₂ (λ m n. m * n) e f)
   AreWhole-laid of_first d (IsLaid.both {zs} {x} {a = y} {b = v} {xs} {firsts = us} {seconds = vs} f g m n e h) p (inl (q, o)) w = absurd (omega (arith, q, n, e))
   AreWhole-laid of_first d (IsLaid.both {zs} {x} {a = y} {b = v} {xs} {firsts = us} {seconds = vs} f g m n e h) p (inr a) w =
       let is : rate y ≡ rate x = of_first x y (All-head P x xs p) f in
@@ -156,39 +120,25 @@ module _ {First Second : Segment → Segment → Type 0} (P : Segment → Type 0
         subst (λ l. AreWhole rate (d + y.length * rate y) (l ++ v ∷ vs)) (sym no) (
           subst (λ k. k ∣ d + y.length * rate y) (is ∙ sym also) (dvd-add _ (subst (λ k. k ∣ d) (sym is) w.0) (dvd-mul_left (rate y) y.length)),
           subst (λ l. AreWhole rate (d + y.length * rate y + v.length * rate v) (l ++ vs)) no (subst (λ k. AreWhole rate k (us ++ vs))
-              (same d y.length v.length x.length (rate y) (rate v) (rate x) e is also) (AreWhole-laid of_first (d + x.length * rate x) h (All-tail P x xs p) (InOrder-zeros zs xs a) w.1)),
+              (omega (arith, ap (λ n. n * rate x) e, ap (λ n. y.length * n) is, ap (λ n. v.length * n) also))
+              (AreWhole-laid of_first (d + x.length * rate x) h (All-tail P x xs p) (InOrder-zeros zs xs a) w.1)),
         ),
       )
-    where
-      same : (d a b l r s q : ℕ) → a + b ≡ l → r ≡ q → s ≡ q → d + l * q ≡ d + a * r + b * s
-      same d a b l r s q e f g = omega (arith, ap (λ n. n * q) e, ap (λ n. a * n) f, ap (λ n. b * n) g)
 
 -- one after another
 pub AreWhole-both : (rate : Segment → ℕ) (d : ℕ) (xs ys : List Segment) → AreWhole rate d xs → AreWhole rate (d + amount rate xs) ys → AreWhole rate d (xs ++ ys)
-AreWhole-both rate d [] ys a b = subst (λ k. AreWhole rate k ys) (same d) b
-  where
-    same : (d : ℕ) → d + 0 ≡ d
-    same d = omega arith
+AreWhole-both rate d [] ys a b = subst (λ k. AreWhole rate k ys) (omega arith) b
 AreWhole-both rate d (x ∷ xs) ys a b =
-    (a.0, AreWhole-both rate (d + x.length * rate x) xs ys a.1 (subst (λ k. AreWhole rate k ys) (same d (x.length * rate x) (amount rate xs) _ (sum_by-cons (λ y. y.length * rate y) x xs)) b))
-  where
-    same : (d a b c : ℕ) → c ≡ a + b → d + c ≡ d + a + b
-    same d a b c e = omega (arith, e)
+    (a.0, AreWhole-both rate (d + x.length * rate x) xs ys a.1 (subst (λ k. AreWhole rate k ys) (omega (arith, sum_by-cons (λ y. y.length * rate y) x xs)) b))
 
 pub AreWhole-first : (rate : Segment → ℕ) (d : ℕ) (xs ys : List Segment) → AreWhole rate d (xs ++ ys) → AreWhole rate d xs
 AreWhole-first rate d [] ys w = tt
 AreWhole-first rate d (x ∷ xs) ys w = (w.0, AreWhole-first rate (d + x.length * rate x) xs ys w.1)
 
 pub AreWhole-then : (rate : Segment → ℕ) (d : ℕ) (xs ys : List Segment) → AreWhole rate d (xs ++ ys) → AreWhole rate (d + amount rate xs) ys
-AreWhole-then rate d [] ys w = subst (λ k. AreWhole rate k ys) (same d) w
-  where
-    same : (d : ℕ) → d ≡ d + 0
-    same d = omega arith
+AreWhole-then rate d [] ys w = subst (λ k. AreWhole rate k ys) (omega arith) w
 AreWhole-then rate d (x ∷ xs) ys w =
-    subst (λ k. AreWhole rate k ys) (same d (x.length * rate x) (amount rate xs) _ (sum_by-cons (λ y. y.length * rate y) x xs)) (AreWhole-then rate (d + x.length * rate x) xs ys w.1)
-  where
-    same : (d a b c : ℕ) → c ≡ a + b → d + a + b ≡ d + c
-    same d a b c e = omega (arith, e)
+    subst (λ k. AreWhole rate k ys) (omega (arith, sum_by-cons (λ y. y.length * rate y) x xs)) (AreWhole-then rate (d + x.length * rate x) xs ys w.1)
 
 -- all lengths are multiples of a multiple of the rates
 pub AreWhole-multiples : (multiple : ℕ) (rate : Segment → ℕ) (d : ℕ) (xs : List Segment) → multiple ∣ d → All (λ x. multiple ∣ x.length) xs → All (λ x. rate x ∣ multiple) xs → AreWhole rate d xs
@@ -196,9 +146,6 @@ AreWhole-multiples multiple rate d [] e l r = tt
 AreWhole-multiples multiple rate d (x ∷ xs) e l r = (
   dvd_trans (rate x) (All-head (λ x. rate x ∣ multiple) x xs r) e,
   AreWhole-multiples multiple rate (d + x.length * rate x) xs
-      (dvd-add multiple e (subst (λ k. multiple ∣ k) (turned (rate x) x.length) (dvd-mul_left_of_dvd multiple (All-head (λ x. multiple ∣ x.length) x xs l) (rate x))))
+      (dvd-add multiple e (dvd-mul_right_of_dvd multiple (All-head (λ x. multiple ∣ x.length) x xs l) (rate x)))
       (All-tail (λ x. multiple ∣ x.length) x xs l) (All-tail (λ x. rate x ∣ multiple) x xs r),
 )
-  where
-    turned : (a b : ℕ) → a * b ≡ b * a
-    turned a b = omega arith

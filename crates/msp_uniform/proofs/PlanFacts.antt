@@ -1,5 +1,5 @@
 -- A plan over a finer unit, and with one job less.
-use Rattle.std.proofs.Common.{◌≡◌, ◌≢◌, ℕ, zero, suc, ◌+◌, ◌*◌, ◌<◌, ◌≤◌, inl, inr, true, List, [], ◌∷◌, ◌++◌, length, map, All, refl, sym, ap, subst, ◌∙◌, arith}
+use Rattle.std.proofs.Common.{◌≡◌, ◌≢◌, ℕ, zero, suc, ◌+◌, ◌*◌, ◌<◌, ◌≤◌, inl, inr, true, List, [], ◌∷◌, ◌++◌, length, All, refl, sym, ap, subst, ◌∙◌, arith, add-one, le_trans}
 use Rattle.std.proofs.Math.Nat.{one-le-mul, mul-le-mul_left}
 use Rattle.std.proofs.lemmas.List.Elements.{All-head, All-tail}
 use Rattle.msp_class.specs.Sums.{total_below}
@@ -26,7 +26,7 @@ module _ (speeds : List ℕ) (n : ℕ) (time : ℕ → ℕ) where
     absent = λ k e l. All-scaled (IsAbsent m _) (IsAbsent m _) d xs ys (λ x y a q i b f. a i b (sym (job_kept m n (at speeds) h _ x y q i) ∙ f)) s (p.absent k e l);
     done = λ j l. elim (p.done j l) [
       | inl c ↦ inl c
-      | inr e ↦ inr (amount-scaled (job_rate m (at speeds) j) (IsRead-job m (at speeds) j) d xs ys s ∙ ap (λ k. d * k) e ∙ turned d unit (time j))
+      | inr e ↦ inr (omega (arith, amount-scaled (job_rate m (at speeds) j) (IsRead-job m (at speeds) j) d xs ys s, ap (λ k. d * k) e))
     ];
     fit = record {
       firsts = λ k l. omega (arith, holds k, wants k, mul-le-mul_left d (p.fit.firsts k l));
@@ -37,15 +37,12 @@ module _ (speeds : List ℕ) (n : ℕ) (time : ℕ → ℕ) where
     inside = p.inside;
   }
     where
-      turned : (d u t : ℕ) → d * (u * t) ≡ u * d * t
-      turned d u t = omega arith
-
       holds : (k : ℕ) → total_below k (λ i. amount (rate_at (at speeds) i) ys) ≡ d * total_below k (λ i. amount (rate_at (at speeds) i) xs)
       holds k = total_below-same k _ (λ i. d * amount (rate_at (at speeds) i) xs) (λ i l. amount-scaled (rate_at (at speeds) i) (IsRead-place (at speeds) i) d xs ys s)
           ∙ total_below-scale k d (λ i. amount (rate_at (at speeds) i) xs)
 
       wants : (k : ℕ) → total_below k (works time (unit * d) left) ≡ d * total_below k (works time unit left)
-      wants k = total_below-same k _ (λ i. d * works time unit left i) (λ i l. sym (turned d unit (at (map time left) i))) ∙ total_below-scale k d (works time unit left)
+      wants k = total_below-same k _ (λ i. d * works time unit left i) (λ i l. omega arith) ∙ total_below-scale k d (works time unit left)
 
   -- ---- one job less
   works-falls : (unit : ℕ) (left : List ℕ) (b : ℕ) → All (λ j. time j ≤ b) left → (i : ℕ) → works time unit left i ≤ unit * b
@@ -96,21 +93,13 @@ module _ (speeds : List ℕ) (n : ℕ) (time : ℕ → ℕ) where
       holds : (i : ℕ) → amount (rate_at (at speeds) i) t.fine ≡ d * amount (rate_at (at speeds) i) xs
       holds i = amount-scaled (rate_at (at speeds) i) (IsRead-place (at speeds) i) d xs t.fine t.scaled
 
-      one : (r : ℕ) → r + 1 ≡ suc r
-      one r = omega arith
-
       work : unit * d * time j ≡ amount (rate_at (at speeds) (suc t.place)) t.fine + t.gain * d
-      work = by unit d (time j) (amount (rate_at (at speeds) (suc t.place)) xs) t.gain _ (t.gains ∙ ap (λ k. amount (rate_at (at speeds) k) xs + t.gain) (one t.place)) (holds (suc t.place))
-        where
-          by : (u d q a k b : ℕ) → u * q ≡ a + k → b ≡ d * a → u * d * q ≡ b + k * d
-          by u d q a k b e f = omega (arith, f, ap (λ x. d * x) e)
+      work = omega (arith, ap (λ x. d * x) (t.gains ∙ ap (λ k. amount (rate_at (at speeds) k) xs + t.gain) (add-one t.place)), holds (suc t.place))
 
       high : (i : ℕ) → i < t.place → unit * d * time j ≤ amount (rate_at (at speeds) i) t.fine
-      high i l = by unit d (time j) (amount (rate_at (at speeds) i) xs)
-          _ (omega (arith, t.enough, amount-mono (rate_at (at speeds) t.place) (rate_at (at speeds) i) xs (λ k e b. (p.each k e b).falls i t.place (omega arith) (omega (arith, t.inside))))) (holds i)
-        where
-          by : (u d q a b : ℕ) → u * q ≤ a → b ≡ d * a → u * d * q ≤ b
-          by u d q a b l e = omega (arith, e, mul-le-mul_left d l)
+      high i l =
+          let later = amount-mono (rate_at (at speeds) t.place) (rate_at (at speeds) i) xs (λ k e b. (p.each k e b).falls i t.place (omega arith) (omega (arith, t.inside))) in
+          omega (arith, mul-le-mul_left d (le_trans t.enough later), holds i)
 
   -- the next job's work is at most the first place
   pub first_enough : (j : ℕ) (left : List ℕ) (unit end h : ℕ) (xs : List Segment) → IsPlan speeds n time (j ∷ left) unit end (suc h) xs → unit * time j ≤ amount (rate_at (at speeds) 0) xs

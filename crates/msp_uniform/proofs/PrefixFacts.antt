@@ -1,7 +1,7 @@
 -- Works fit into places, turn after turn.
 use Rattle.std.proofs.Common.{◌≡◌, ℕ, zero, suc, ◌+◌, ◌<◌, ◌≤◌, ◌⊎◌, inl, inr, sym, subst, arith}
 use Rattle.msp_class.specs.Sums.{total_below}
-use Rattle.msp_class.proofs.Cases.{less_or_not}
+use Rattle.msp_class.proofs.Cases.{less_or_not, same_or_not}
 use Rattle.msp_class.proofs.Sums.{total_below-mono, total_below-same}
 use Rattle.msp_uniform.specs.Prefixes.{DoFit, IsMerged}
 
@@ -18,33 +18,18 @@ module _ (h r : ℕ) (holds works holds' : ℕ → ℕ) (m : IsMerged h r holds 
   below k l = total_below-same k holds' holds (λ i b. m.before i (omega arith))
 
   at_place : total_below (suc r) holds' + works 0 ≡ total_below (suc (suc r)) holds
-  at_place = by (total_below r holds') (total_below r holds) (holds' r) (below r (omega arith)) m.merged
-    where
-      by : (a b c : ℕ) → a ≡ b → c + works 0 ≡ holds r + holds (suc r) → a + c + works 0 ≡ b + holds r + holds (suc r)
-      by a b c e g = omega (arith, e, g)
-
-  step : (n : ℕ) → r ≤ n → suc (suc n) < h → total_below (suc n) holds' + works 0 ≡ total_below (suc (suc n)) holds → total_below (suc (suc n)) holds' + works 0 ≡ total_below (suc (suc (suc n))) holds
-  step n l b e = omega (arith, e, m.behind (suc n) (omega arith) b)
-
-  same_or_less : (n : ℕ) → r ≤ n → (r ≡ n) ⊎ (suc r ≤ n)
-  same_or_less n l = grind arith
+  at_place = omega (arith, below r (omega arith), m.merged)
 
   above : (n : ℕ) → r ≤ n → suc n < h → total_below (suc n) holds' + works 0 ≡ total_below (suc (suc n)) holds
   above zero l b = let is : r ≡ 0 = omega arith in subst (λ x. total_below (suc x) holds' + works 0 ≡ total_below (suc (suc x)) holds) is at_place
-  above (suc n) l b = elim (same_or_less (suc n) l) [
+  above (suc n) l b = elim (same_or_not r (suc n)) [
     | inl e ↦ subst (λ x. total_below (suc x) holds' + works 0 ≡ total_below (suc (suc x)) holds) e at_place
-    | inr c ↦ step n (omega arith) b (above n (omega arith) (omega arith))
+    | inr c ↦ omega (arith, above n (omega (arith, l, c)) (omega arith), m.behind (suc n) (omega (arith, l, c)) b)
   ]
 
 -- a work takes two places as far as it can
 module _ (h r n : ℕ) (holds works holds' : ℕ → ℕ) (inside : suc r < h) (fit : DoFit h holds (suc n) works) (m : IsMerged h r holds (works 0) holds') where
   -- each of the works left is at most each place up to r
-  short_firsts : (k : ℕ) → k ≤ r → ((i : ℕ) → i < k → rest works i ≤ holds i) → total_below k (rest works) ≤ total_below k holds'
-  short_firsts k l s = omega (arith, total_below-mono k (rest works) holds s, below h r holds works holds' m k l)
-
-  later_firsts : (k : ℕ) → r ≤ k → suc k < h → total_below (suc k) (rest works) ≤ total_below (suc k) holds'
-  later_firsts k b l = omega (arith, above h r holds works holds' m k b l, total_below-first (suc k) works, fit.firsts (suc (suc k)) (omega arith))
-
   pub DoFit-merged : ((k i : ℕ) → k ≤ r → i < k → rest works i ≤ holds i) → (g : ℕ) → h ≡ suc (suc g) → DoFit (suc g) holds' n (rest works)
   DoFit-merged s g e = record {
     firsts = λ k l. by k (less_or_not r k) l;
@@ -57,8 +42,10 @@ module _ (h r n : ℕ) (holds works holds' : ℕ → ℕ) (inside : suc r < h) (
   }
     where
       by : (k : ℕ) → (r < k) ⊎ (k ≤ r) → k ≤ suc g → total_below k (rest works) ≤ total_below k holds'
-      by k (inr b) l = short_firsts k b (λ i c. s k i b c)
-      by (suc k) (inl b) l = later_firsts k (omega arith) (omega (arith, e))
+      by k (inr b) l = omega (arith, total_below-mono k (rest works) holds (λ i c. s k i b c), below h r holds works holds' m k b)
+      by (suc k) (inl b) l =
+          let all = above h r holds works holds' m k (omega arith) (omega (arith, e)) in
+          omega (arith, all, total_below-first (suc k) works, fit.firsts (suc (suc k)) (omega (arith, e)))
       by zero (inl b) l = absurd (omega arith)
 
 -- the longest work is at most the first place

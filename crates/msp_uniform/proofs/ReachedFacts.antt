@@ -49,22 +49,16 @@ module _ (t : Task) (k : IsTask t) where
   module _ (j : ℕ) (unit : ℕ) where
     IsReached-turned : (left : List ℕ) (g d : ℕ) (xs zs : List Segment) → IsReached t (j ∷ left) unit (suc (suc g)) xs
         → IsTurned t.speeds.items (suc (suc g)) j (unit * at t.times.items j) xs d zs → IsReached t left (unit * d) (suc (suc g) - 1) zs
-    IsReached-turned left g d xs zs q w = subst (λ n. IsReached t left (unit * d) n zs) (one g) (record {
+    IsReached-turned left g d xs zs q w = let e : suc g ≡ suc (suc g) - 1 = omega arith in subst (λ n. IsReached t left (unit * d) n zs) e (record {
       end = q.end * d;
       plan = IsPlan-turned t.speeds.items (length t.times.items) (at t.times.items) j left unit q.end g d xs zs q.plan w;
       affordable = IsAffordable-turn t.speeds.items t.multiple unit q.end g d (difference_some t.speeds.items d w.factor) w.factor q.affordable;
-      least = times_d q.end t.speed t.work q.least;
+      least = omega (arith, ap (λ n. n * d) q.least);
       some = one-le-mul q.some (difference_some t.speeds.items d w.factor);
       places = omega arith;
       few = omega (arith, q.few, ap length w.whole, length-append w.firsts w.seconds, few_parts _ _ w.laid.few, length_all_zip (λ x y. IsPartOf (x.length * d) x y) xs w.fine w.scaled);
       fewer = omega (arith, q.fewer);
     })
-      where
-        one : (g : ℕ) → suc g ≡ suc (suc g) - 1
-        one g = omega arith
-
-        times_d : (e v w : ℕ) → e * v ≡ w * unit → e * d * v ≡ w * (unit * d)
-        times_d e v w f = omega (arith, ap (λ n. n * d) f)
 
     turning : (left : List ℕ) (h : ℕ) (xs : List Segment) → IsReached t (j ∷ left) unit h xs → amount (rate_at (at t.speeds.items) (h - 1)) xs < unit * at t.times.items j
         → IsTurning t t.speeds.items xs j unit h (unit * at t.times.items j) xs

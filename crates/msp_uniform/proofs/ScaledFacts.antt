@@ -1,34 +1,27 @@
 -- Finer units, and where a job has gained enough.
-use Rattle.std.proofs.Common.{◌≡◌, ℕ, zero, suc, ◌+◌, ◌*◌, ◌-◌, ◌<◌, ◌≤◌, ◌⊎◌, inl, inr, false, true, cond, eqb, List, [], ◌∷◌, ◌++◌, length, take, drop, get_or, drop-cons, append-nil}
+use Rattle.std.proofs.Common.{◌≡◌, ℕ, zero, suc, ◌+◌, ◌*◌, ◌-◌, ◌<◌, ◌≤◌, ◌⊎◌, inl, inr, false, true, cond, eqb, List, [], ◌∷◌, ◌++◌, length, take, drop, get_or, drop-cons, append-nil, mul-lt-mul_of_pos_right}
 use Rattle.std.proofs.Common.{append_assoc, All, sym, ap, subst, ◌∙◌, add-one, arith}
 use Rattle.std.specs.Int.{◌∣◌}
 use Rattle.std.proofs.Math.Nat.{mul-le-mul_left, dvd-mul_left}
-use Rattle.std.proofs.lemmas.List.{take_more, drop_all, take_all}
+use Rattle.std.proofs.lemmas.List.{drop_all, take_all}
 use Rattle.std.proofs.lemmas.List.Elements.{AllZip-push, All-nil, All-cons, All-head, All-tail}
 use Rattle.msp_class.specs.declared.sizes.TheConstants.{GREATEST_SPEED}
-use Rattle.msp_class.proofs.Sums.{sum_by-cons, sum_by-append, total_below-same}
+use Rattle.msp_class.proofs.Sums.{sum_by-cons, sum_by-append, total_below-same, sum_by-take_more, sum_by-mono}
 use Rattle.msp_instance.proofs.MultipleLemmas.{All-append_left}
 use Rattle.msp_uniform.specs.declared.segments.Segment.{Segment}
 use Rattle.msp_uniform.specs.Segments.{at, job_on, place_at, IsSegment, IsPartOf, rate_at, gain_at, job_rate, amount, CanGain, StopsAt, IsSeeking, IsDifference}
 use Rattle.msp_uniform.specs.Segments.{AreScaled, AreScaledUpTo, HasPlaces, greatest_length}
 use Rattle.msp_uniform.proofs.OrderFacts.{All-append_right}
+use Rattle.std.proofs.lemmas.List.Sums.{get_or-le-sum_by, sum_by-take-le}
 
 -- an amount with one more segment
 pub amount-more : (rate : Segment → ℕ) (xs : List Segment) (k : ℕ) (x : Segment) → k < length xs → x ≡ get_or xs k x → amount rate (take (k + 1) xs) ≡ amount rate (take k xs) + x.length * rate x
-amount-more rate xs k x l is = ap (amount rate) (take_more xs k x l) ∙ sum_by-append (λ y. y.length * rate y) (take k xs) (get_or xs k x ∷ []) ∙ one (get_or xs k x) (sym is)
-  where
-    one : (y : Segment) → y ≡ x → amount rate (take k xs) + amount rate (y ∷ []) ≡ amount rate (take k xs) + x.length * rate x
-    one y e = subst (λ z. amount rate (take k xs) + amount rate (z ∷ []) ≡ amount rate (take k xs) + x.length * rate x) (sym e) (omega (arith, sum_by-cons (λ z. z.length * rate z) x []))
+amount-more rate xs k x l is = sum_by-take_more (λ y. y.length * rate y) xs k x l ∙ ap (λ y. amount rate (take k xs) + y.length * rate y) (sym is)
 
 pub amount-all : (rate : Segment → ℕ) (xs : List Segment) (k : ℕ) → length xs ≤ k → amount rate (take k xs) ≡ amount rate xs
 amount-all rate xs k l = ap (amount rate) (take_all k xs l)
 
--- the first segments hold no more than all, and all no more than their time at the greatest rate
-pub amount-take : (rate : Segment → ℕ) (xs : List Segment) (k : ℕ) → amount rate (take k xs) ≤ amount rate xs
-amount-take rate xs zero = omega arith
-amount-take rate [] (suc k) = omega arith
-amount-take rate (x ∷ xs) (suc k) = omega (arith, sum_by-cons (λ y. y.length * rate y) x xs, sum_by-cons (λ y. y.length * rate y) x (take k xs), amount-take rate xs k)
-
+-- all segments hold no more than their time at the greatest rate
 pub amount-least : (rate : Segment → ℕ) (b : ℕ) (xs : List Segment) → All (λ x. rate x ≤ b) xs → amount rate xs ≤ amount (λ _. 1) xs * b
 amount-least rate b [] h = omega arith
 amount-least rate b (x ∷ xs) h = omega (
@@ -40,20 +33,10 @@ amount-least rate b (x ∷ xs) h = omega (
 )
 
 pub amount-mono : (f g : Segment → ℕ) (xs : List Segment) → All (λ x. f x ≤ g x) xs → amount f xs ≤ amount g xs
-amount-mono f g [] h = omega arith
-amount-mono f g (x ∷ xs) h = omega (
-  arith,
-  sum_by-cons (λ y. y.length * f y) x xs,
-  sum_by-cons
-      (λ y. y.length * g y) x xs,
-  mul-le-mul_left x.length (All-head (λ y. f y ≤ g y) x xs h),
-  amount-mono f g xs (All-tail (λ y. f y ≤ g y) x xs h),
-)
+amount-mono f g xs h = sum_by-mono (λ x. x.length * f x) (λ x. x.length * g x) xs (λ k d l. mul-le-mul_left (get_or xs k d).length (h k d l))
 
 pub length-short : (xs : List Segment) → All (λ x. x.length ≤ amount (λ _. 1) xs) xs
-length-short [] = All-nil (λ x. x.length ≤ 0)
-length-short (x ∷ xs) = All-cons (λ y. y.length ≤ amount (λ _. 1) (x ∷ xs))
-    x xs (omega (arith, sum_by-cons (λ y. y.length * 1) x xs)) (λ k d l. omega (arith, sum_by-cons (λ y. y.length * 1) x xs, length-short xs k d l))
+length-short xs k d l = omega (arith, get_or-le-sum_by (λ y. y.length * 1) xs k d l)
 
 -- ---- where enough is gained
 module _ (rate : Segment → ℕ) where
@@ -61,10 +44,9 @@ module _ (rate : Segment → ℕ) where
   IsSeeking-start whole xs = record { stops = λ d s. s; gains = omega arith }
 
   pub StopsAt-end : (whole left k : ℕ) (xs : List Segment) → length xs ≤ k → whole ≤ amount rate xs → IsSeeking rate whole left k xs → StopsAt rate whole xs 1
-  StopsAt-end whole left k xs l e h = h.stops 1 (subst (λ ys. StopsAt rate left ys 1) (sym (drop_all k xs l)) none)
-    where
-      none : left ≡ 0
-      none = omega (arith, h.gains, amount-all rate xs k l, e)
+  StopsAt-end whole left k xs l e h =
+      let none : left ≡ 0 = omega (arith, h.gains, amount-all rate xs k l, e) in
+      h.stops 1 (subst (λ ys. StopsAt rate left ys 1) (sym (drop_all k xs l)) none)
 
   pub IsSeeking-next : (whole left k : ℕ) (xs : List Segment) (x : Segment) → k < length xs
       → x ≡ get_or xs k x → x.length * rate x ≤ left → IsSeeking rate whole left k xs → IsSeeking rate whole (left - x.length * rate x) (k + 1) xs
@@ -84,8 +66,7 @@ pub IsDifference-here : (speeds : List ℕ) (r left : ℕ) (x : Segment) (d : �
 IsDifference-here speeds r left x d h e l = inr (some d l, place_at x r, place_at x (suc r), h.1, h.2, e)
   where
     some : (d : ℕ) → left < x.length * d → 1 ≤ d
-    some zero m = absurd (omega (arith, m))
-    some (suc d) m = omega arith
+    some d m = grind arith
 
 -- ---- over a finer unit
 -- a rate that is read from jobs and free machines
@@ -106,8 +87,7 @@ amount-scaled rate read d (x ∷ xs) (y ∷ ys) h = omega (
   ap (λ n. x.length * d * n) (read _ x y h.0),
   amount-scaled rate read d xs ys h.1,
 )
-amount-scaled rate read d [] (y ∷ ys) h = absurd h
-amount-scaled rate read d (x ∷ xs) [] h = absurd h
+amount-scaled rate read d _ _ h = absurd h
 
 -- lists that go on
 pub AreScaledUpTo-start : (d : ℕ) (xs ahead ys : List Segment) → ahead ≡ xs → ys ≡ [] → AreScaledUpTo d xs ahead ys
@@ -145,8 +125,9 @@ pub work_short : (speeds : List ℕ) (r k : ℕ) (xs : List Segment) (x : Segmen
     → All (λ s. s ≤ GREATEST_SPEED) speeds → All (HasPlaces (length speeds) false r) xs → amount (λ _. 1) xs ≤ greatest_length → k < length xs → x ≡ get_or xs k x
     → work ≡ amount (rate_at (at speeds) r) (take k xs) → rate ≡ rate_at (at speeds) r x → work + x.length * rate ≤ greatest_length * GREATEST_SPEED
 work_short speeds r k xs x work rate h p t l is e f =
+    let first = sum_by-take-le (λ y. y.length * rate_at (at speeds) r y) xs (k + 1) in
     let most : amount (rate_at (at speeds) r) xs ≤ amount (λ _. 1) xs * GREATEST_SPEED = amount-least (rate_at (at speeds) r) GREATEST_SPEED xs (rates_short speeds GREATEST_SPEED r xs h p) in
-    omega (arith, e, ap (λ n. x.length * n) f, amount-more (rate_at (at speeds) r) xs k x l is, amount-take (rate_at (at speeds) r) xs (k + 1), most, t)
+    omega (arith, e, ap (λ n. x.length * n) f, amount-more (rate_at (at speeds) r) xs k x l is, first, most, t)
 
 pub place_short : (speeds : List ℕ) (r : ℕ) (xs : List Segment) → All (λ s. s ≤ GREATEST_SPEED) speeds
     → All (HasPlaces (length speeds) false r) xs → amount (λ _. 1) xs ≤ greatest_length → amount (rate_at (at speeds) r) xs ≤ greatest_length * GREATEST_SPEED
@@ -161,29 +142,16 @@ CanGain-scaled rate read d left (x ∷ xs) (y ∷ ys) p s h = by s (λ l t. subs
     same = omega (arith, ap (λ n. n * rate y) h.0.long, ap (λ n. x.length * d * n) (read _ x y h.0))
 
     later : x.length * rate x ≤ left → (left - x.length * rate x) * d ≡ left * d - y.length * rate y
-    later l = both (x.length * rate x) left (y.length * rate y) l same
+    later l = apart (x.length * rate x) left (y.length * rate y) (left - x.length * rate x) (omega (arith, l)) same
       where
-        both : (a b c : ℕ) → a ≤ b → c ≡ a * d → (b - a) * d ≡ b * d - c
-        both a b c l e = apart a b c (b - a) (split a b l) e
-          where
-            split : (a b : ℕ) → a ≤ b → b ≡ a + (b - a)
-            split a b l = omega arith
-
-            apart : (a b c k : ℕ) → b ≡ a + k → c ≡ a * d → k * d ≡ b * d - c
-            apart a b c k e f = omega (arith, ap (λ n. n * d) e, f)
+        apart : (a b c k : ℕ) → b ≡ a + k → c ≡ a * d → k * d ≡ b * d - c
+        apart a b c k e f = omega (arith, ap (λ n. n * d) e, f)
 
     by : ((x.length * rate x ≤ left) × StopsAt rate (left - x.length * rate x) xs d) ⊎ ((left < x.length * rate x) × (d ≡ rate x))
         → (x.length * rate x ≤ left → StopsAt rate (left - x.length * rate x) xs d → CanGain rate (left * d - y.length * rate y) ys) → CanGain rate (left * d) (y ∷ ys)
-    by (inl (l, t)) k = inl (omega (arith, same, scaled_le (x.length * rate x) left l), k l t)
-      where
-        scaled_le : (a b : ℕ) → a ≤ b → a * d ≤ b * d
-        scaled_le a b l = omega (arith, mul-le-mul_left d l)
-    by (inr (l, e)) k = inr (omega (arith, same, scaled_lt (x.length * rate x) left l p), subst (λ r. r ∣ left * d) (e ∙ sym (read _ x y h.0)) (dvd-mul_left d left))
-      where
-        scaled_lt : (a b : ℕ) → b < a → 1 ≤ d → b * d < a * d
-        scaled_lt a b l p = grind arith
-CanGain-scaled rate read d left [] (y ∷ ys) p s h = absurd h
-CanGain-scaled rate read d left (x ∷ xs) [] p s h = absurd h
+    by (inl (l, t)) k = inl (omega (arith, same, mul-le-mul_left d l), k l t)
+    by (inr (l, e)) k = inr (omega (arith, same, mul-lt-mul_of_pos_right l p), subst (λ r. r ∣ left * d) (e ∙ sym (read _ x y h.0)) (dvd-mul_left d left))
+CanGain-scaled rate read d left _ _ p s h = absurd h
 
 module _ (m n : ℕ) (speed : ℕ → ℕ) (h k : ℕ) (x y : Segment) (p : IsPartOf k x y) where
   pub job_kept : (i : ℕ) → job_on y i ≡ job_on x i
@@ -211,8 +179,7 @@ IsRead-job m speed j n x y p = total_below-same m _ _ (λ i l. ap (λ v. cond (e
 pub All-scaled : (P Q : Segment → Type 0) (d : ℕ) (xs ys : List Segment) → ((x y : Segment) → P x → IsPartOf (x.length * d) x y → Q y) → AreScaled d xs ys → All P xs → All Q ys
 All-scaled P Q d [] [] f h a = All-nil Q
 All-scaled P Q d (x ∷ xs) (y ∷ ys) f h a = All-cons Q y ys (f x y (All-head P x xs a) h.0) (All-scaled P Q d xs ys f h.1 (All-tail P x xs a))
-All-scaled P Q d [] (y ∷ ys) f h a = absurd h
-All-scaled P Q d (x ∷ xs) [] f h a = absurd h
+All-scaled P Q d _ _ f h a = absurd h
 
 -- a place whose machines can do less than those of the first is not the first
 pub not_first : (f : ℕ → ℕ) (p work : ℕ) → f p < work → work ≤ f 0 → 1 ≤ p
@@ -220,7 +187,4 @@ not_first f zero work l m = absurd (omega (arith, l, m))
 not_first f (suc p) work l m = omega arith
 
 pub before_it : (f : ℕ → ℕ) (p work : ℕ) → 1 ≤ p → f p < work → f (p - 1 + 1) < work
-before_it f p work s l = subst (λ k. f k < work) (same p s) l
-  where
-    same : (p : ℕ) → 1 ≤ p → p ≡ p - 1 + 1
-    same p s = omega arith
+before_it f p work s l = subst (λ k. f k < work) (omega (arith, s)) l

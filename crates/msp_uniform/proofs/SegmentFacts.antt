@@ -1,22 +1,13 @@
 -- What a segment is once a job has taken a machine in it.
-use Rattle.std.proofs.Common.{◌≡◌, ◌≢◌, ℕ, zero, suc, ◌+◌, ◌<◌, ◌≤◌, inl, inr, Bool, true, false, cond, eqb, leb, List, length, refl, sym, ap, subst, subst₂, ◌∙◌, add-one, arith}
+use Rattle.std.proofs.Common.{◌≡◌, ◌≢◌, ℕ, suc, ◌<◌, ◌≤◌, inl, inr, cond, eqb, leb, List, length, sym, ap, subst, subst₂, ◌∙◌, add-one, arith}
 use Rattle.std.specs.Prelude.{remove}
 use Rattle.std.proofs.lemmas.Bool.{cond_both, cond-true, cond-false, leb-true, leb-false, le-leb, lt-leb, ne_eqb, eq-eqb}
 use Rattle.std.proofs.lemmas.List.{length-set, get_or-set_same, get_or-set_other}
 use Rattle.std.proofs.lemmas.List.Edits.{length-remove, get_or-remove_below, get_or-remove_above}
 use Rattle.msp_class.proofs.Cases.{same_or_not, less_or_not}
-use Rattle.msp_class.specs.Sums.{total_below}
-use Rattle.msp_class.proofs.Sums.{total_below-same}
+use Rattle.msp_class.proofs.Sums.{total_below-same, total_below-only}
 use Rattle.msp_uniform.specs.declared.segments.Segment.{Segment}
 use Rattle.msp_uniform.specs.Segments.{at, job_on, place_at, IsSegment, IsAbsent, IsTaken, rate_at, job_rate}
-
--- a total in which one term differs
-pub total_below-other : (m : ℕ) (f g : ℕ → ℕ) (k : ℕ) → k < m → ((i : ℕ) → i < m → i ≢ k → f i ≡ g i) → total_below m f + g k ≡ total_below m g + f k
-total_below-other zero f g k l h = absurd (omega arith)
-total_below-other (suc m) f g k l h = elim (same_or_not k m) [
-  | inl e ↦ omega (arith, total_below-same m f g (λ i b. h i (omega arith) (λ q. absurd (omega (arith, q, e)))), ap f e, ap g e)
-  | inr n ↦ omega (arith, total_below-other m f g k (omega (arith, l, n)) (λ i c. h i (omega arith)), h m (omega arith) (λ q. n (sym q)))
-]
 
 -- where the elements of a list stand after one is taken away
 abbrev pub after : ℕ → ℕ → ℕ
@@ -31,11 +22,8 @@ module _ (m n : ℕ) (speed : ℕ → ℕ) (h r job length' : ℕ)
   abbrev machine : ℕ
   machine = place_at x r
 
-  machine_in : machine < length x.body.value.jobs
-  machine_in = subst (λ n. machine < n) (sym s.all) (s.machines r inside)
-
   job_there : job_on y machine ≡ job
-  job_there = ap (λ l. at l machine) t.jobs ∙ get_or-set_same x.body.value.jobs machine job 0 machine_in
+  job_there = ap (λ l. at l machine) t.jobs ∙ get_or-set_same x.body.value.jobs machine job 0 (omega (arith, s.all, s.machines r inside))
 
   job_other : (i : ℕ) → i ≢ machine → job_on y i ≡ job_on x i
   job_other i d = ap (λ l. at l i) t.jobs ∙ get_or-set_other x.body.value.jobs machine i job 0 d
@@ -50,13 +38,9 @@ module _ (m n : ℕ) (speed : ℕ → ℕ) (h r job length' : ℕ)
   after_not k = cond_both (leb r k) (suc k) k (λ p. p ≢ r) (λ e q. absurd (omega (arith, leb-true r k e, q))) (λ e q. absurd (omega (arith, leb-false r k e, q)))
 
   after_less : (j k : ℕ) → j < k → after r j < after r k
-  after_less j k l = by (leb r j) (leb r k) refl refl
-    where
-      by : (v w : Bool) → leb r j ≡ v → leb r k ≡ w → cond v (suc j) j < cond w (suc k) k
-      by true true e f = omega arith
-      by true false e f = absurd (omega (arith, leb-true r j e, leb-false r k f))
-      by false true e f = omega arith
-      by false false e f = omega arith
+  after_less j k l = cond_both (leb r k) (suc k) k (λ q. after r j < q)
+      (λ f. cond_both (leb r j) (suc j) j (λ p. p < suc k) (λ e. omega arith) (λ e. omega arith))
+      (λ f. cond_both (leb r j) (suc j) j (λ p. p < k) (λ e. absurd (omega (arith, leb-true r j e, leb-false r k f))) (λ e. omega arith))
 
   distinct : (q k : ℕ) → q < suc h → k < suc h → q ≢ k → place_at x q ≢ place_at x k
   distinct q k a b d = elim (less_or_not q k) [ inl l ↦ s.apart q k l b | inr l ↦ λ e. s.apart k q (omega (arith, l, d)) a (sym e) ]
@@ -88,10 +72,10 @@ module _ (m n : ℕ) (speed : ℕ → ℕ) (h r job length' : ℕ)
   }
     where
       after_most : (q k : ℕ) → q ≤ k → after r q ≤ after r k
-      after_most q k l = elim (less_or_not q k) [ inl b ↦ omega (arith, after_less q k b) | inr b ↦ omega (arith, ap (after r) (same l b)) ]
-        where
-          same : q ≤ k → k ≤ q → q ≡ k
-          same l b = omega arith
+      after_most q k l = elim (less_or_not q k) [
+        | inl b ↦ omega (arith, after_less q k b)
+        | inr b ↦ let same : q ≡ k = omega (arith, l, b) in omega (arith, ap (after r) same)
+      ]
 
   -- the rates
   pub rate_below : (k : ℕ) → k < r → rate_at speed k y ≡ rate_at speed k x
@@ -104,17 +88,10 @@ module _ (m n : ℕ) (speed : ℕ → ℕ) (h r job length' : ℕ)
   part_on j z i = cond (eqb (job_on z i) j) (speed i) 0
 
   pub own_rate : job_rate m speed job y ≡ rate_at speed r x
-  own_rate = omega (
-    arith,
-    total_below-other m (part_on job y) (λ _. 0) machine (s.machines r inside) (λ i l d. ap (λ v. cond v (speed i) 0) (ne_eqb (job_on y i) job (λ q. d (job_once i l q)))),
-    total_below-same m (λ _. 0) (λ _. 0) (λ i l. refl),
-    none m,
-    ap (λ v. cond v (speed machine) 0) (eq-eqb (job_on y machine) job job_there),
-  )
-    where
-      none : (m : ℕ) → total_below m (λ _. 0) ≡ 0
-      none zero = refl
-      none (suc m) = omega (arith, none m)
+  own_rate = total_below-same m (part_on job y) (λ i. cond (eqb machine i) (speed i) 0) (λ i l. elim (same_or_not machine i) [
+    | inl e ↦ ap (λ v. cond v (speed i) 0) (eq-eqb (job_on y i) job (ap (job_on y) (sym e) ∙ job_there) ∙ sym (eq-eqb machine i e))
+    | inr d ↦ ap (λ v. cond v (speed i) 0) (ne_eqb (job_on y i) job (λ q. d (sym (job_once i l q))) ∙ sym (ne_eqb machine i d))
+  ]) ∙ total_below-only m speed machine (s.machines r inside)
 
   pub other_rate : (j : ℕ) → j < n → j ≢ job → job_rate m speed j y ≡ job_rate m speed j x
   other_rate j l d = total_below-same m (part_on j y) (part_on j x) (λ i b. elim (same_or_not i machine) [

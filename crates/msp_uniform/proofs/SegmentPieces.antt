@@ -116,11 +116,10 @@ module _ (m n : ℕ) where
         (inner f (job_on x i) t refl (omega arith) (begun x t (All-head Slice x xs h))))
       where
         inner : CoversLater t x xs → (k b : ℕ) → job_on x i ≡ k → b ≤ t → Started k b (t + long x) → All (Covers t (x ∷ xs)) (runs_from n i k b (t + long x) xs)
-        inner f k b e c s q d r = one (get_or (runs_from n i k b (t + long x) xs) q d) (early k b (t + long x) xs (omega (arith, c)) s (All-tail Slice x xs h) q d r) (f k b c s q d r)
-          where
-            one : (p : Piece) → (start p < t + long x → p.job ≡ k) → Covers (t + long x) xs p → Covers t (x ∷ xs) p
-            one p f g moment u v w = cond_both (ltb moment (t + long x)) _ _ (λ j. j ≡ p.job)
-                (λ z. e ∙ sym (f (omega (arith, v, ltb-true moment (t + long x) z)))) (λ z. g moment (ltb-false moment (t + long x) z) v w)
+        inner f k b e c s q d r moment u v w =
+            let first = early k b (t + long x) xs (omega (arith, c)) s (All-tail Slice x xs h) q d r in
+            cond_both (ltb moment (t + long x)) _ _ (λ j. j ≡ (get_or (runs_from n i k b (t + long x) xs) q d).job)
+            (λ z. e ∙ sym (first (omega (arith, v, ltb-true moment (t + long x) z)))) (λ z. f k b c s q d r moment (ltb-false moment (t + long x) z) v w)
 
     -- the pieces follow one another
     abbrev Follows : Piece → Piece → Type 0
@@ -146,11 +145,14 @@ module _ (m n : ℕ) where
 
       runs_work : (j a t : ℕ) (xs : List Segment) → a ≤ t → sum_by counted (runs_from n i j a t xs) ≡ (t - a) * value j + sum_by (λ x. long x * value (job_on x i)) xs
       runs_work j a t [] l = omega (arith, part_work j a t)
-      runs_work j a t (x ∷ xs) l = cond_both (eqb (job_on x i) j) _ _ (λ ps. sum_by counted ps ≡ (t - a) * value j + sum_by (λ y. long y * value (job_on y i)) (x ∷ xs))
+      runs_work j a t (x ∷ xs) l =
+          let parts : t + long x - a ≡ t - a + long x = omega (arith, l) in
+          let lasts : t + long x - t ≡ long x = omega arith in
+          cond_both (eqb (job_on x i) j) _ _ (λ ps. sum_by counted ps ≡ (t - a) * value j + sum_by (λ y. long y * value (job_on y i)) (x ∷ xs))
           (λ e. omega (
             arith,
             runs_work j a (t + long x) xs (omega (arith, l)),
-            both (value j) (long x),
+            ap (λ k. k * value j) parts,
             ap (λ k. long x * value k) (eqb-true (job_on x i) j e),
             sum_by-cons (λ y. long y * value (job_on y i)) x xs,
           ))
@@ -159,18 +161,9 @@ module _ (m n : ℕ) where
             sum_by-append counted (part_on n i j a t) (runs_from n i (job_on x i) t (t + long x) xs),
             part_work j a t,
             runs_work (job_on x i) t (t + long x) xs (omega arith),
-            ap (λ k. k * value (job_on x i)) (lasts (long x)),
+            ap (λ k. k * value (job_on x i)) lasts,
             sum_by-cons (λ y. long y * value (job_on y i)) x xs,
           ))
-        where
-          lasts : (d : ℕ) → t + d - t ≡ d
-          lasts d = omega arith
-
-          both : (v d : ℕ) → (t + d - a) * v ≡ (t - a) * v + d * v
-          both v d = ap (λ k. k * v) (parts d) ∙ omega arith
-            where
-              parts : (d : ℕ) → t + d - a ≡ t - a + d
-              parts d = omega (arith, l)
 
     runs_few : (j a t : ℕ) (xs : List Segment) → length (runs_from n i j a t xs) ≤ suc (length xs)
     runs_few j a t [] = cond_both (eqb j n) [] (piece_on i j a t ∷ []) (λ ps. length ps ≤ 1) (λ _. omega arith) (λ _. omega arith)

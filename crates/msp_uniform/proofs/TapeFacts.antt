@@ -17,11 +17,8 @@ use Rattle.msp_uniform.proofs.LaidAt.{IsLaidAt}
 pub CanGain-whole : (rate : Segment → ℕ) (done left : ℕ) (xs : List Segment) → AreWhole rate done xs → All (λ x. rate x ∣ done + left) xs → left ≤ amount rate xs → CanGain rate left xs
 CanGain-whole rate done left [] w d l = omega (arith, l)
 CanGain-whole rate done left (x ∷ xs) w d l = by (leb (x.length * rate x) left) refl (λ m. CanGain-whole rate (done + x.length * rate x) (left - x.length * rate x) xs w.1 (λ k e b.
-    subst (λ n. rate (get_or xs k e) ∣ n) (together done left (x.length * rate x) m) (All-tail (λ y. rate y ∣ done + left) x xs d k e b)) (omega (arith, l, sum_by-cons (λ y. y.length * rate y) x xs)))
+    subst (λ n. rate (get_or xs k e) ∣ n) (omega (arith, m)) (All-tail (λ y. rate y ∣ done + left) x xs d k e b)) (omega (arith, l, sum_by-cons (λ y. y.length * rate y) x xs)))
   where
-    together : (a b c : ℕ) → c ≤ b → a + b ≡ a + c + (b - c)
-    together a b c m = omega arith
-
     by : (v : Bool) → leb (x.length * rate x) left ≡ v → (x.length * rate x ≤ left → CanGain rate (left - x.length * rate x) xs) → CanGain rate left (x ∷ xs)
     by true e later = inl (leb-true (x.length * rate x) left e, later (leb-true (x.length * rate x) left e))
     by false e later = inr (omega (arith, leb-false (x.length * rate x) left e), (dvd-add_iff_right (rate x) w.0).1 (All-head (λ y. rate y ∣ done + left) x xs d))

@@ -1,9 +1,9 @@
 -- The tape begins: the jobs that are left need no more than the last place each.
-use Rattle.std.proofs.Common.{◌≡◌, ℕ, zero, suc, ◌*◌, ◌<◌, ◌≤◌, inl, inr, List, [], ◌∷◌, length, get_or, All, sum_by, refl, sym, ap, subst, ◌∙◌, zero-add, add-one, arith}
+use Rattle.std.proofs.Common.{◌≡◌, ℕ, suc, ◌*◌, ◌≤◌, inl, inr, List, [], ◌∷◌, length, All, AllPairs, sum_by, refl, sym, ap, subst, ◌∙◌, zero-add, add-one, arith, le_trans, get_or}
 use Rattle.std.specs.Int.{◌∣◌}
 use Rattle.std.proofs.Math.Nat.{mul-le-mul_left, dvd-mul_left, dvd-mul_right}
 use Rattle.std.proofs.lemmas.Nat.Gcd.{dvd-zero}
-use Rattle.std.proofs.lemmas.List.Elements.{All-nil}
+use Rattle.std.proofs.lemmas.List.Elements.{All-nil, All-cons}
 use Rattle.msp_class.specs.Sums.{total_below}
 use Rattle.msp_class.proofs.Sums.{sum_by-cons, AllPairs-head, total_below-none}
 use Rattle.msp_uniform.specs.declared.segments.Segment.{Segment}
@@ -23,17 +23,8 @@ works-total time unit (j ∷ js) = omega (arith, total_below-first (length js) (
 module _ (speeds : List ℕ) (n : ℕ) (time : ℕ → ℕ) (left : List ℕ) (unit end h : ℕ) (xs : List Segment) where
   -- the next job is the longest, so where it needs no more than so much, no job does
   pub longest_first : (j : ℕ) (js : List ℕ) (most : ℕ) → left ≡ j ∷ js → IsPlan speeds n time left unit end (suc h) xs → unit * time j ≤ most → All (λ i. unit * time i ≤ most) left
-  longest_first j js most e p l k d b = by k d b (subst (λ ys. IsPlan speeds n time ys unit end (suc h) xs) e p)
-    where
-      at_most : (a : ℕ) → time a ≤ time j → unit * time a ≤ most
-      at_most a t = omega (arith, l, mul-le-mul_left unit t)
-
-      by : (k d : ℕ) → k < length left → IsPlan speeds n time (j ∷ js) unit end (suc h) xs → unit * time (get_or left k d) ≤ most
-      by k d b q = subst (λ ys. unit * time (get_or ys k d) ≤ most) (sym e) (one k (subst (λ ys. k < length ys) e b))
-        where
-          one : (k : ℕ) → k < suc (length js) → unit * time (get_or (j ∷ js) k d) ≤ most
-          one zero b = l
-          one (suc k) b = at_most (get_or js k d) (AllPairs-head (λ a b. time b ≤ time a) j js q.falls k d (omega arith))
+  longest_first j js most e p l = subst (All (λ i. unit * time i ≤ most)) (sym e) (All-cons (λ i. unit * time i ≤ most) j js l (λ k d b.
+      le_trans (mul-le-mul_left unit (AllPairs-head (λ a b. time b ≤ time a) j js (subst (AllPairs (λ a b. time b ≤ time a)) e p.falls) k d b)) l))
 
   module _ (p : IsPlan speeds n time left unit end (suc h) xs) (short : All (λ j. unit * time j ≤ amount (rate_at (at speeds) h) xs) left) where
     pub IsTape-start : IsTape speeds n time left unit end h [] xs
@@ -47,14 +38,12 @@ module _ (speeds : List ℕ) (n : ℕ) (time : ℕ → ℕ) (left : List ℕ) (u
         | inl c ↦ inl c
         | inr e ↦ inr (zero-add (amount (job_rate (length speeds) (at speeds) j) xs) ∙ e)
       ];
-      room = omega (arith, works-total time unit left, p.fit.all, none h, ap (λ k. total_below k (λ i. amount (rate_at (at speeds) i) xs)) (sym (add-one h)));
+      room = let none = total_below-none h (λ _. 0) (λ i l. refl) in
+          omega (arith, works-total time unit left, p.fit.all, none, ap (λ k. total_below k (λ i. amount (rate_at (at speeds) i) xs)) (sym (add-one h)));
       short = λ g e k d l. subst (λ a. unit * time (get_or left k d) ≤ a) (sym (zero-add (amount (rate_at (at speeds) h) xs))) (short k d l);
       apart = p.apart;
       inside = p.inside;
     }
-      where
-        none : (h : ℕ) → total_below h (λ _. 0) ≡ 0
-        none h = total_below-none h (λ _. 0) (λ i l. refl)
 
   -- over a unit that is finer by a multiple of all speeds
   module _ (multiple : ℕ) (some : 1 ≤ multiple) (divides : All (λ s. (1 ≤ s) × (s ∣ multiple)) speeds)
@@ -80,7 +69,4 @@ module _ (speeds : List ℕ) (n : ℕ) (time : ℕ → ℕ) (left : List ℕ) (u
     }
 
     pub short_scaled : All (λ j. unit * time j ≤ amount (rate_at (at speeds) h) xs) left → All (λ j. unit * multiple * time j ≤ amount (rate_at (at speeds) h) ys) left
-    short_scaled s k d l = by (time (get_or left k d)) (amount (rate_at (at speeds) h) xs) _ (s k d l) (amount-scaled (rate_at (at speeds) h) (IsRead-place (at speeds) h) multiple xs ys scaled)
-      where
-        by : (t a b : ℕ) → unit * t ≤ a → b ≡ multiple * a → unit * multiple * t ≤ b
-        by t a b l e = omega (arith, e, mul-le-mul_left multiple l)
+    short_scaled s k d l = omega (arith, mul-le-mul_left multiple (s k d l), amount-scaled (rate_at (at speeds) h) (IsRead-place (at speeds) h) multiple xs ys scaled)

@@ -35,18 +35,12 @@ module _ (speeds : List ℕ) (n multiple : ℕ) (divides : All (λ s. (1 ≤ s) 
       before = w.before + work;
       divided = dvd-add multiple w.divided is;
       here = s.whole_seconds (places_gain h late each) w.before w.here;
-      more = subst (λ k. multiple ∣ k) (rest _ _ s.rest) (dvd-sub multiple w.more is);
+      more = subst (λ k. multiple ∣ k) (omega (arith, s.rest)) (dvd-sub multiple w.more is);
       below = λ k l. subst (AreWhole (rate_at (at speeds) k) 0) (sym (append_assoc early fs ss))
           (AreWhole-both (rate_at (at speeds) k) 0 early (fs ++ ss) (AreWhole-first (rate_at (at speeds) k) 0 early late (w.below k l))
           (s.whole_places (places_gain h late each) k l _ (AreWhole-then (rate_at (at speeds) k) 0 early late (w.below k l))));
-      holds = λ k l. subst (λ x. multiple ∣ x) (same _ _ _ _ _ (sum_by-append (λ y. y.length * rate_at (at speeds) k y) early fs) (s.places k l)) (w.holds k l);
+      holds = λ k l. subst (λ x. multiple ∣ x) (omega (arith, sum_by-append (λ y. y.length * rate_at (at speeds) k y) early fs, s.places k l)) (w.holds k l);
     }
-      where
-        rest : (a b : ℕ) → a + work ≡ b → b - work ≡ a
-        rest a b e = omega (arith, e)
-
-        same : (a b c d e : ℕ) → e ≡ a + b → b + c ≡ d → a + d ≡ e + c
-        same a b c d e f g = omega (arith, f, g)
 
   -- ---- a job that takes the rest of the last place, and the first part of the place before it
   module _ (g job rest more : ℕ) (early late cs bs fs : List Segment)
@@ -66,22 +60,13 @@ module _ (speeds : List ℕ) (n multiple : ℕ) (divides : All (λ s. (1 ≤ s) 
       divided = is;
       here = AreWhole-both (rate_at (at speeds) g) more bs fs (subst (λ k. AreWhole (rate_at (at speeds) g) k bs) (zero-add more)
           (a.whole_seconds (places_gain g early each_early) 0 (AreWhole-first (rate_at (at speeds) g) 0 early late (w.below g (omega arith)))))
-          (subst (λ k. AreWhole (rate_at (at speeds) g) k fs) (there _ _ a.rest) (below_late g (omega arith)));
-      more = subst (λ k. multiple ∣ k) (less _ _ _ _ _ a.rest (s.places g (omega arith)) (joined g)) (dvd-sub multiple (w.holds g (omega arith)) is);
+          (subst (λ k. AreWhole (rate_at (at speeds) g) k fs) (omega (arith, a.rest)) (below_late g (omega arith)));
+      more = subst (λ k. multiple ∣ k) (omega (arith, a.rest, s.places g (omega arith), joined g)) (dvd-sub multiple (w.holds g (omega arith)) is);
       below = λ k l. subst (AreWhole (rate_at (at speeds) k) 0) (append_assoc cs bs fs) (AreWhole-both (rate_at (at speeds) k) 0 (cs ++ bs) fs
           (a.whole_places (places_gain g early each_early) k l 0 (AreWhole-first (rate_at (at speeds) k) 0 early late (w.below k (omega arith))))
           (subst (λ a. AreWhole (rate_at (at speeds) k) (0 + a) fs) (earlier k l) (below_late k (omega arith))));
-      holds = λ k l. subst (λ a. multiple ∣ a) (same _ _ _ _ _ _ (a.places k l) (s.places k (omega arith)) (joined k)) (w.holds k (omega arith));
+      holds = λ k l. subst (λ a. multiple ∣ a) (omega (arith, a.places k l, s.places k (omega arith), joined k)) (w.holds k (omega arith));
     }
       where
-        there : (b e : ℕ) → b + more ≡ e → 0 + e ≡ more + b
-        there b e f = omega (arith, f)
-
-        less : (b e f l j : ℕ) → b + more ≡ e → f + 0 ≡ l → j ≡ b + f → e + l - more ≡ j
-        less b e f l j p q r = omega (arith, p, q, r)
-
-        same : (a b e f l j : ℕ) → a + b ≡ e → f + 0 ≡ l → j ≡ b + f → e + l ≡ a + j
-        same a b e f l j p q r = omega (arith, p, q, r)
-
         earlier : (k : ℕ) → k < g → amount (rate_at (at speeds) k) early ≡ amount (rate_at (at speeds) k) (cs ++ bs)
         earlier k l = sym (sum_by-append (λ y. y.length * rate_at (at speeds) k y) cs bs ∙ a.places k l)

@@ -1,5 +1,5 @@
 -- The tape, from its start to its end: what each step asks for, and what it keeps.
-use Rattle.std.proofs.Common.{◌≡◌, ℕ, zero, suc, ◌+◌, ◌*◌, ◌-◌, ◌<◌, ◌≤◌, inl, inr, Bool, true, false, List, [], ◌∷◌, ◌++◌, length, get_or, drop, drop-cons, All, Contains}
+use Rattle.std.proofs.Common.{◌≡◌, ℕ, zero, suc, ◌+◌, ◌*◌, ◌-◌, ◌<◌, ◌≤◌, inl, inr, Bool, true, false, List, [], ◌∷◌, ◌++◌, length, get_or, drop, drop-cons, All}
 use Rattle.std.proofs.Common.{refl, sym, ap, subst, ◌∙◌, add-one, arith}
 use Rattle.std.specs.Int.{◌∣◌}
 use Rattle.std.proofs.Math.Nat.{le_trans, one-le-mul, mul-le-mul_left, dvd-mul_left, dvd-mul_right_of_dvd}
@@ -47,21 +47,18 @@ module _ (t : Task) (k : IsTask t) where
     pub start_unit : unit * t.multiple ≤ GREATEST_PRODUCT
     start_unit = finest_small speeds t.multiple unit r.end h r.affordable
 
-    start_end : r.end * t.multiple ≤ unit * t.multiple * greatest_work
-    start_end = end_small speeds t.multiple unit r.end h r.affordable
-
     pub start_short : All (λ x. x.length * t.multiple ≤ greatest_length) xs
-    start_short i d l = by (get_or xs i d).length r.end (omega (arith, length-short xs i d l, r.plan.whole)) start_end start_unit
-      where
-        by : (a e : ℕ) → a ≤ e → e * t.multiple ≤ unit * t.multiple * greatest_work → unit * t.multiple ≤ GREATEST_PRODUCT → a * t.multiple ≤ greatest_length
-        by a e p q s = omega (arith, mul-le-mul_left t.multiple p, q, s)
+    start_short i d l =
+        let p : (get_or xs i d).length ≤ r.end = omega (arith, length-short xs i d l, r.plan.whole) in
+        omega (arith, mul-le-mul_left t.multiple p, end_small speeds t.multiple unit r.end h r.affordable, start_unit)
 
   pub IsTaped-start : (left : List ℕ) (unit h : ℕ) (xs : List Segment) → IsReached t left unit h xs → AreShort t left unit h xs
       → (ys : List Segment) → AreScaled t.multiple xs ys → IsTaped t left (unit * t.multiple) (h - 1) [] ys
   IsTaped-start left unit zero xs q s ys scaled = absurd (omega (arith, q.places))
   IsTaped-start left unit (suc g) xs q s ys scaled =
-      let shorter = subst (λ a. All (λ j. unit * at t.times.items j ≤ amount (rate_at (at speeds) a) xs) left) (less g) s in
-      subst (λ a. IsTaped t left (unit * t.multiple) a [] ys) (sym (less g)) (record {
+      let less : suc g - 1 ≡ g = omega arith in
+      let shorter = subst (λ a. All (λ j. unit * at t.times.items j ≤ amount (rate_at (at speeds) a) xs) left) less s in
+      subst (λ a. IsTaped t left (unit * t.multiple) a [] ys) (sym less) (record {
         end = q.end * t.multiple;
         tape = IsTape-start speeds n (at t.times.items) left (unit * t.multiple) (q.end * t.multiple)
             g ys (scaled_plan speeds n (at t.times.items) left unit q.end g xs t.multiple q.affordable.some divides ys scaled q.plan)
@@ -72,16 +69,10 @@ module _ (t : Task) (k : IsTask t) where
           some = one-le-mul q.some q.affordable.some;
           small = finest_small speeds t.multiple unit q.end (suc g) q.affordable;
           short = end_small speeds t.multiple unit q.end (suc g) q.affordable;
-          least = times_d q.end t.speed t.work q.least;
+          least = omega (arith, ap (λ a. a * t.multiple) q.least);
         };
         few = omega (arith, length_all_zip (λ x y. IsPartOf (x.length * t.multiple) x y) xs ys scaled, q.few, q.fewer, k.few_jobs, k.few_machines);
       })
-    where
-      less : (g : ℕ) → suc g - 1 ≡ g
-      less g = omega arith
-
-      times_d : (e v w : ℕ) → e * v ≡ w * unit → e * t.multiple * v ≡ w * (unit * t.multiple)
-      times_d e v w f = omega (arith, ap (λ a. a * t.multiple) f)
 
   -- ---- the last place
   module _ (left : List ℕ) (unit h : ℕ) (early late : List Segment) (r : IsTaped t left unit h early late) where
@@ -105,9 +96,6 @@ module _ (t : Task) (k : IsTask t) where
     pub tape_inside : j < n
     tape_inside = All-head (λ i. i < n) j left r.tape.inside
 
-    end_of : r.end ≤ GREATEST_PRODUCT * greatest_work
-    end_of = end_short (j ∷ left) unit h early late r
-
     pub each_of : All (IsSegment m n (at speeds) (suc h)) late
     each_of = each_late (j ∷ left) unit h early late r
 
@@ -119,7 +107,7 @@ module _ (t : Task) (k : IsTask t) where
     be_laid place gain xs each l g = record {
       machines = λ i d b. (each i d b).all;
       places = has_places speeds (suc place) n xs each place (omega arith);
-      short = λ i d b. le_trans (length-short xs i d b) (le_trans l (le_trans end_of (omega arith)));
+      short = λ i d b. le_trans (length-short xs i d b) (le_trans l (le_trans (end_short (j ∷ left) unit h early late r) (omega arith)));
       gains = g;
     }
 
@@ -148,7 +136,7 @@ module _ (t : Task) (k : IsTask t) where
         (All-weaker _ _ (slice_of m n h (at speeds)) early r.tape.each_early) (All-weaker _ _ (slice_of m n (h + 1) (at speeds)) late r.tape.each_late);
     whole = joined (λ _. 1) ∙ r.tape.whole;
     done = λ j l. elim (r.tape.done j l) [
-      | inl c ↦ absurd (nothing j c)
+      | inl c ↦ absurd (omega (arith, c))
       | inr e ↦ joined _ ∙ e
     ];
     within = r.within;
@@ -157,9 +145,6 @@ module _ (t : Task) (k : IsTask t) where
     where
       joined : (rate : Segment → ℕ) → amount rate (early ++ late) ≡ amount rate early + amount rate late
       joined rate = sum_by-append (λ y. y.length * rate y) early late
-
-      nothing : (j : ℕ) → Contains [] j → ⊥
-      nothing j c = absurd (omega (arith, c))
 
 -- ---- loops over jobs
 pub taped_next : (t : Task) (jobs : List ℕ) (k d unit h : ℕ) (early late : List Segment)

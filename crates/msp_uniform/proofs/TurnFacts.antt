@@ -69,10 +69,9 @@ module _ (m n : ℕ) (speed : ℕ → ℕ) (g r job gap : ℕ) (xs fs ss : List 
       (λ x y b t. other_rate m n speed (suc g) (suc r) job y.length x y b.0 t inside new b.1 j l d)
 
   gains : gained (rate_at speed r) laid.parts xs ≡ gained (rate_at speed (suc r)) laid.parts xs + gap
-  gains = omega (arith, gained-add (rate_at speed r) (rate_at speed (suc r)) (gain_at true speed r) laid.parts xs (λ k d l. by _ _ ((each k d l).falls r (suc r) (omega arith) inside)), laid.gains)
-    where
-      by : (a b : ℕ) → b ≤ a → a ≡ b + (a - b)
-      by a b l = omega arith
+  gains =
+      let parts = gained-add (rate_at speed r) (rate_at speed (suc r)) (gain_at true speed r) laid.parts xs
+      (λ k d l. omega (arith, (each k d l).falls r (suc r) (omega arith) inside)) in omega (arith, parts, laid.gains)
 
   pub own_work : amount (job_rate m speed job) (fs ++ ss) ≡ amount (rate_at speed (suc r)) xs + gap
   own_work = omega (

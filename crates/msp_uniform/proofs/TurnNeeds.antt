@@ -1,24 +1,15 @@
 -- What the steps of a turn ask for.
-use Rattle.std.proofs.Common.{◌≡◌, ℕ, suc, ◌+◌, ◌*◌, ◌-◌, ◌<◌, ◌≤◌, inl, inr, true, false, List, [], ◌∷◌, length, All, refl, ap, subst, ◌∙◌, arith}
+use Rattle.std.proofs.Common.{◌≡◌, ℕ, suc, ◌+◌, ◌*◌, ◌-◌, ◌<◌, ◌≤◌, inl, inr, true, false, List, length, All, ap, ◌∙◌, arith, add-one, mul-le-mul, get_or}
 use Rattle.std.proofs.Math.Nat.{one-le-mul, mul-le-mul_left}
-use Rattle.std.proofs.lemmas.List.Elements.{All-head, All-tail}
 use Rattle.msp_class.specs.declared.sizes.TheConstants.{GREATEST_SPEED}
-use Rattle.msp_class.proofs.Sums.{sum_by-cons}
 use Rattle.msp_uniform.specs.declared.segments.Segment.{Segment}
 use Rattle.msp_uniform.specs.Segments.{at, IsSegment, rate_at, gain_at, amount, CanGain, StopsAt, IsDifference, AreScaled, HasPlaces, greatest_length}
-use Rattle.msp_uniform.proofs.ScaledFacts.{IsRead, amount-least, length-short, rates_short, CanGain-scaled, All-scaled, IsSegment-part}
+use Rattle.msp_uniform.proofs.ScaledFacts.{amount-least, length-short, rates_short, CanGain-scaled, All-scaled, IsSegment-part}
+use Rattle.msp_class.proofs.Sums.{sum_by-same, sum_by-add}
 
 amount-add : (f g k : Segment → ℕ) (xs : List Segment) → All (λ x. f x ≡ g x + k x) xs → amount f xs ≡ amount g xs + amount k xs
-amount-add f g k [] h = refl
-amount-add f g k (x ∷ xs) h = omega (
-  arith,
-  sum_by-cons (λ y. y.length * f y) x xs,
-  sum_by-cons (λ y. y.length * g y) x xs,
-  sum_by-cons
-      (λ y. y.length * k y) x xs,
-  ap (λ v. x.length * v) (All-head (λ y. f y ≡ g y + k y) x xs h),
-  amount-add f g k xs (All-tail (λ y. f y ≡ g y + k y) x xs h),
-)
+amount-add f g k xs h = sum_by-same (λ x. x.length * f x) (λ x. x.length * g x + x.length * k x) xs
+    (λ q d l. omega (arith, ap (λ v. (get_or xs q d).length * v) (h q d l))) ∙ sum_by-add (λ x. x.length * g x) (λ x. x.length * k x) xs
 
 pub difference_some : (speeds : List ℕ) (d : ℕ) → IsDifference speeds d → 1 ≤ d
 difference_some speeds d (inl e) = omega (arith, e)
@@ -36,17 +27,12 @@ module _ (speeds : List ℕ) (h n : ℕ) (xs : List Segment) (each : All (IsSegm
   has_both r l x s = (omega (arith, s.places, l), s.machines r (omega arith), s.machines (suc r) l)
 
   gain_whole : (r : ℕ) → suc r < h → amount (rate_at (at speeds) r) xs ≡ amount (rate_at (at speeds) (suc r)) xs + amount (gain_at true (at speeds) r) xs
-  gain_whole r l = amount-add (rate_at (at speeds) r) (rate_at (at speeds) (suc r)) (gain_at true (at speeds) r) xs (λ k d m. by _ _ ((each k d m).falls r (suc r) (omega arith) l))
-    where
-      by : (a b : ℕ) → b ≤ a → a ≡ b + (a - b)
-      by a b l = omega arith
+  gain_whole r l = amount-add (rate_at (at speeds) r) (rate_at (at speeds) (suc r)) (gain_at true (at speeds) r) xs
+      (λ k d m. omega (arith, (each k d m).falls r (suc r) (omega arith) l))
 
   pub gain_enough : (r work next : ℕ) → r + 1 < h → work ≤ amount (rate_at (at speeds) r) xs → next ≡ amount (rate_at (at speeds) (r + 1)) xs → work - next ≤ amount (gain_at true (at speeds) r) xs
-  gain_enough r work next l m e = omega
-      (arith, m, e, subst (λ k. amount (rate_at (at speeds) r) xs ≡ amount (rate_at (at speeds) k) xs + amount (gain_at true (at speeds) r) xs) (one r) (gain_whole r (omega (arith, l))))
-    where
-      one : (r : ℕ) → suc r ≡ r + 1
-      one r = omega arith
+  gain_enough r work next l m e =
+      let next_is = ap (λ k. amount (rate_at (at speeds) k) xs) (add-one r) in omega (arith, m, e, next_is, gain_whole r (omega (arith, l)))
 
   module _ (d : ℕ) (short : amount (λ _. 1) xs * d ≤ greatest_length) where
     pub lengths_short : All (λ x. x.length * d ≤ greatest_length) xs
@@ -64,17 +50,12 @@ module _ (speeds : List ℕ) (h n : ℕ) (xs : List Segment) (each : All (IsSegm
       fine_short = All-scaled (λ x. x.length * d ≤ greatest_length) (λ x. x.length ≤ greatest_length) d xs ys (λ x y s p. omega (arith, p.long, s)) scaled lengths_short
 
       pub fine_gains : (r gain : ℕ) → StopsAt (gain_at true (at speeds) r) gain xs d → CanGain (gain_at true (at speeds) r) (gain * d) ys
-      fine_gains r gain s = CanGain-scaled (gain_at true (at speeds) r) reads d gain xs ys some s scaled
-        where
-          reads : IsRead (gain_at true (at speeds) r)
-          reads k x y p = ap (λ l. at speeds (at l r) - at speeds (at l (suc r))) p.free
+      fine_gains r gain s = CanGain-scaled (gain_at true (at speeds) r)
+          (λ k x y p. ap (λ l. at speeds (at l r) - at speeds (at l (suc r))) p.free) d gain xs ys some s scaled
 
 pub gain_short : (speeds : List ℕ) (h n : ℕ) (xs : List Segment) (work next d : ℕ) → All (IsSegment (length speeds) n (at speeds) h) xs → 2 ≤ h → All (λ s. s ≤ GREATEST_SPEED) speeds
     → amount (λ _. 1) xs ≤ greatest_length → work ≤ amount (rate_at (at speeds) 0) xs → d ≤ GREATEST_SPEED → (work - next) * d ≤ greatest_length * GREATEST_SPEED * GREATEST_SPEED
 gain_short speeds h n xs work next d each some small t l m =
     let most : amount (rate_at (at speeds) 0) xs ≤ amount (λ _. 1) xs * GREATEST_SPEED =
     amount-least (rate_at (at speeds) 0) GREATEST_SPEED xs (rates_short speeds GREATEST_SPEED 0 xs small (has_places speeds h n xs each 0 (omega (arith, some)))) in
-    by (work - next) d (omega (arith, l, most, t)) m
-  where
-    by : (a b : ℕ) → a ≤ greatest_length * GREATEST_SPEED → b ≤ GREATEST_SPEED → a * b ≤ greatest_length * GREATEST_SPEED * GREATEST_SPEED
-    by a b p q = omega (arith, mul-le-mul_left a q, p)
+    let low : work - next ≤ greatest_length * GREATEST_SPEED = omega (arith, l, most, t) in mul-le-mul low m

@@ -55,11 +55,8 @@ IsByFalling-same n f g order e o = record {
 -- a number over a unit that is natural is natural itself
 over_natural : (x : ℤ) (unit e : ℕ) → 1 ≤ unit → x *ℤ pos unit ≡ pos e → (n : ℕ) × (x ≡ pos n) × (n * unit ≡ e)
 over_natural x unit e some q =
-    let n = natural_some x (*ℤ-cancel unit some (subst₂ (λ a b. a ≤ℤ b) (sym (pos-*ℤ-pos unit 0)) (sym (*ℤ_comm (pos unit) x ∙ q)) (pos-le (nothing unit)))) in
+    let n = natural_some x (*ℤ-cancel unit some (subst₂ (λ a b. a ≤ℤ b) (sym (pos-*ℤ-pos unit 0)) (sym (*ℤ_comm (pos unit) x ∙ q)) (pos-le (omega arith)))) in
     (n.0, n.1, pos-same (sym (pos-*ℤ-pos n.0 unit) ∙ ap (λ y. y *ℤ pos unit) (sym n.1) ∙ q))
-  where
-    nothing : (u : ℕ) → u * 0 ≤ e
-    nothing u = omega arith
 
 module _ (i : Instance) (class : i.class ≡ cut_class)
     (inner : Inner i) (t : Task) (jobs machines : List ℕ) (k : IsTaskOf i t jobs machines) (unit : ℕ) (xs : List Segment) (f : IsFilled t unit xs) where
@@ -131,13 +128,9 @@ module _ (i : Instance) (class : i.class ≡ cut_class)
   pieces_lie = runs_lie_apart i.machines (length i.jobs) xs slices
 
   few : length made.pieces ≤ MOST_PIECES
-  few = by (length xs) i.machines (few_runs i.machines (length i.jobs) xs slices i.machines (omega arith)) f.few h.machines
-    where
-      by : (a b : ℕ) → length made.pieces ≤ b * suc a → a ≤ 2 * MOST_JOBS + MOST_MACHINES → b ≤ MOST_MACHINES → length made.pieces ≤ MOST_PIECES
-      by a b l p q = omega (arith, l, mul-le-mul_left b (more a p), q)
-        where
-          more : (a : ℕ) → a ≤ 2 * MOST_JOBS + MOST_MACHINES → suc a ≤ suc (2 * MOST_JOBS + MOST_MACHINES)
-          more a p = omega (arith, p)
+  few =
+      let more : suc (length xs) ≤ suc (2 * MOST_JOBS + MOST_MACHINES) = omega (arith, f.few) in
+      omega (arith, few_runs i.machines (length i.jobs) xs slices i.machines (omega arith), mul-le-mul_left i.machines more, h.machines)
 
   ends : All (λ p. finish p ≤ f.end) made.pieces
   ends a d l = omega (arith, pieces_lie.lies a d l, whole)
@@ -149,10 +142,9 @@ module _ (i : Instance) (class : i.class ≡ cut_class)
 
     -- the quotient of a work and a speed
     compared : (n d w v : ℕ) → n * unit ≡ f.end * d → w * t.speed ≤ t.work * v → w * d ≤ n * v
-    compared n d w v e l = le_of_mul-le-mul_left {k = unit * t.speed} (by (mul-le-mul_left (unit * d) l)) (one-le-mul f.within.some k.asked.greatest.some)
-      where
-        by : unit * d * (w * t.speed) ≤ unit * d * (t.work * v) → unit * t.speed * (w * d) ≤ unit * t.speed * (n * v)
-        by m = omega (arith, m, ap (λ x. x * (t.speed * v)) e, ap (λ x. x * (d * v)) f.within.least)
+    compared n d w v e l = le_of_mul-le-mul_left {k = unit * t.speed}
+        (omega (arith, mul-le-mul_left (unit * d) l, ap (λ x. x * (t.speed * v)) e, ap (λ x. x * (d * v)) f.within.least))
+        (one-le-mul f.within.some k.asked.greatest.some)
 
     -- numerator and denominator
     module _ (n d : ℕ) (num_is : c.num ≡ pos n) (den_is : c.den ≡ pos d) (e : n * unit ≡ f.end * d) where

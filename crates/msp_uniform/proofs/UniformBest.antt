@@ -1,5 +1,5 @@
 -- Segments one after another as a schedule on uniform machines: it is feasible, and best where its end is a least end.
-use Rattle.std.proofs.Common.{◌≡◌, ℕ, ◌*◌, ◌<◌, ◌≤◌, Bool, cond, eqb, List, length, get_or, filter, map, ℤ, pos, nat_abs, ◌*ℤ◌, ◌≤ℤ◌, All, sum_by, sym, ap}
+use Rattle.std.proofs.Common.{◌≡◌, ℕ, ◌*◌, ◌<◌, ◌≤◌, cond, eqb, List, length, get_or, filter, map, ℤ, pos, nat_abs, ◌*ℤ◌, ◌≤ℤ◌, All, sum_by, sym, ap}
 use Rattle.std.proofs.Common.{subst, subst₂, ◌∙◌, arith}
 use Rattle.std.proofs.lemmas.Bool.{ne_eqb}
 use Rattle.std.proofs.lemmas.Int.{ints}
@@ -87,12 +87,9 @@ module _ (i : Instance) (h : IsOfClass i cut_class) (unit end : ℕ) (xs : List 
       where
         by : (x u : ℤ) (c n : ℕ) → x ≡ pos c → u ≡ pos n → (pos w *ℤ u) ≤ℤ (x *ℤ pos v) → (pos end *ℤ u) ≤ℤ (x *ℤ pos unit)
         by x u c n e g l =
-            subst (λ y. (pos end *ℤ y) ≤ℤ (x *ℤ pos unit)) (sym g)
-            (subst (λ y. (pos end *ℤ pos n) ≤ℤ (y *ℤ pos unit)) (sym e)
-            (pos-le (cancelled c n (le-pos (subst₂ (λ y z. (pos w *ℤ y) ≤ℤ (z *ℤ pos v)) g e l)))))
-          where
-            cancelled : (c n : ℕ) → w * n ≤ c * v → end * n ≤ c * unit
-            cancelled c n l = le_of_mul-le-mul_left {k = v} (omega (arith, ap (λ k. k * n) reached, mul-le-mul_left unit l)) (omega (arith, fast))
+            let short = le-pos (subst₂ (λ y z. (pos w *ℤ y) ≤ℤ (z *ℤ pos v)) g e l) in
+            subst₂ (λ y z. (pos end *ℤ y) ≤ℤ (z *ℤ pos unit)) (sym g) (sym e)
+            (pos-le (le_of_mul-le-mul_left {k = v} (omega (arith, ap (λ k. k * n) reached, mul-le-mul_left unit short)) (omega (arith, fast))))
 
     pub cut_costs : cost_of i cut_schedule ≡ pos end
     cut_costs = ≤ℤ_antisym upper (by (cost_of i cut_schedule) (nat_abs (cost_of i cut_schedule)) (cost_natural i h.crit cut_schedule h.some) (lower cut_schedule cut_is_feasible))

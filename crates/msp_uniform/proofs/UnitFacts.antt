@@ -1,5 +1,5 @@
 -- Whether the unit stays small.
-use Rattle.std.proofs.Common.{◌≡◌, ℕ, zero, suc, ◌*◌, ◌-◌, ◌^◌, ◌/◌, ◌<◌, ◌≤◌, ◌↔◌, Bool, true, false, leb, List, get_or, All, IsTrue, sym, ap, subst, ◌∙◌, arith}
+use Rattle.std.proofs.Common.{◌≡◌, ℕ, zero, suc, ◌*◌, ◌-◌, ◌^◌, ◌/◌, ◌<◌, ◌≤◌, ◌↔◌, Bool, true, false, leb, List, get_or, All, IsTrue, sym, ap, subst, ◌∙◌, arith, le_of_eq, le_antisymm}
 use Rattle.std.specs.Int.{◌∣◌}
 use Rattle.std.proofs.Math.Nat.{le_trans, mul-le-mul_left, mul-le-mul, le-mul_of_pos_right, pow-le-pow_right, pow-suc, le_of_dvd, div-mul_cancel, dvd-mul_left}
 use Rattle.std.proofs.lemmas.Bool.{leb-true, le-leb, false≢true}
@@ -16,10 +16,9 @@ multiple_least speeds multiple h n some c = le_of_dvd some (h.least n (λ k d l.
 module _ (speeds : List ℕ) (m : ℕ) where
   -- some first product is too great
   pub too_great : (k : ℕ) → k ≤ m - 1 → GREATEST_PRODUCT < sum speeds * gap speeds ^ k → IsTrue false ↔ HaveSmallUnit speeds m
-  too_great k l great = (λ e. absurd (false≢true e), λ w. absurd (by w.0 w.1 w.3))
-    where
-      by : (n : ℕ) → 1 ≤ n → sum speeds * gap speeds ^ (m - 1) * n ≤ GREATEST_PRODUCT → ⊥
-      by n some small = absurd (omega (arith, great, small, le-mul_of_pos_right (sum speeds * gap speeds ^ (m - 1)) some, mul-le-mul_left (sum speeds) (pow-le-pow_right (gap_some speeds) l)))
+  too_great k l great =
+      let grown = mul-le-mul_left (sum speeds) (pow-le-pow_right (gap_some speeds) l) in
+      (λ e. absurd (false≢true e), λ w. absurd (omega (arith, great, w.3, le-mul_of_pos_right (sum speeds * gap speeds ^ (m - 1)) w.1, grown)))
 
   pub decided : (product multiple : ℕ) (answer : Bool) → IsLeastOfAll speeds multiple
       → product ≡ sum speeds * gap speeds ^ (m - 1) → answer ≡ leb (product * multiple) GREATEST_PRODUCT → IsTrue answer ↔ HaveSmallUnit speeds m
@@ -30,23 +29,12 @@ module _ (speeds : List ℕ) (m : ℕ) where
       yes l = omega (arith, l, ap (λ p. p * multiple) e)
 
       no : HaveSmallUnit speeds m → leb (product * multiple) GREATEST_PRODUCT ≡ true
-      no w = le-leb _ _ (le_trans (mul-le-mul (le_of e) (multiple_least speeds multiple h w.0 w.1 w.2)) w.3)
-        where
-          le_of : product ≡ sum speeds * gap speeds ^ (m - 1) → product ≤ sum speeds * gap speeds ^ (m - 1)
-          le_of e = omega (arith, e)
+      no w = le-leb _ _ (le_trans (mul-le-mul (le_of_eq e) (multiple_least speeds multiple h w.0 w.1 w.2)) w.3)
 
 pub power_more : (s g c : ℕ) → 1 ≤ c → s * g ^ (c - 1) * g ≡ s * g ^ c
 power_more s g zero l = absurd (omega (arith, l))
-power_more s g (suc c) l = subst (λ k. s * g ^ k * g ≡ s * g ^ suc c) (sym (less c)) (by (g ^ c) (pow-suc g c))
-  where
-    less : (c : ℕ) → suc c - 1 ≡ c
-    less c = omega arith
-
-    by : (p : ℕ) → g ^ suc c ≡ p * g → s * p * g ≡ s * g ^ suc c
-    by p e = omega (arith, ap (λ x. s * x) e)
+power_more s g (suc c) l =
+    let less : c ≡ suc c - 1 = omega arith in subst (λ k. s * g ^ k * g ≡ s * g ^ suc c) less (omega (arith, ap (λ x. s * x) (pow-suc g c)))
 
 pub power_at_end : (s g c m : ℕ) → 1 ≤ c → c ≤ m → m ≤ c → s * g ^ (c - 1) ≡ s * g ^ (m - 1)
-power_at_end s g c m some l k = ap (λ x. s * g ^ (x - 1)) (same l k)
-  where
-    same : c ≤ m → m ≤ c → c ≡ m
-    same l k = omega (arith, l, k)
+power_at_end s g c m some l k = ap (λ x. s * g ^ (x - 1)) (le_antisymm l k)

@@ -1,8 +1,6 @@
 -- One job after another is put into the table.
-use Rattle.std.proofs.Common.{◌≡◌, ℕ, ◌+◌, ◌-◌, ◌*◌, ◌<◌, ◌≤◌, false, inl, inr, List, length, get_or, take, ℤ, All, sym, subst, ◌∙◌, arith}
+use Rattle.std.proofs.Common.{◌≡◌, ℕ, ◌+◌, ◌-◌, ◌*◌, ◌<◌, ◌≤◌, false, List, length, get_or, take, ℤ, All, sym, subst, ◌∙◌, arith, below_more}
 use Rattle.std.specs.Prelude.{slice_index}
-use Rattle.std.proofs.Math.Nat.{mul-le-mul_right}
-use Rattle.std.proofs.lemmas.Bool.{cases_lt}
 use Rattle.std.proofs.lemmas.List.{length-take}
 use Rattle.std.proofs.lemmas.List.Elements.{All-take}
 use Rattle.msp_class.specs.declared.sizes.TheConstants.{MOST_JOBS, GREATEST}
@@ -13,13 +11,7 @@ use Rattle.msp_pieces.specs.BackToBack.{time_at}
 use Rattle.msp_pieces.proofs.costs.LateJobs.{due_at}
 use Rattle.msp_weighted.specs.Values.{weight_at, first_value, values_of, is_taken, is_flagged, IsPut, IsFilled}
 use Rattle.msp_weighted.proofs.ValueFacts.{gains-same, value_with-same, values-more, values_small}
-
--- a row ends within those of all
-pub row_room : (k n width room : ℕ) → k < n → n * width ≤ room → k * width + width ≤ room
-row_room k n width room l h = let p = mul-le-mul_right width (one_more k n l) in omega (arith, p, h)
-  where
-    one_more : (k n : ℕ) → k < n → k + 1 ≤ n
-    one_more k n l = omega arith
+use Rattle.msp_instance.proofs.BitLemmas.{row_inside}
 
 module _ (i : Instance) (order : List ℕ) (width : ℕ) where
   pub filled-start : (v m : List ℕ) → ((t : ℕ) → t < width → slice_index v t ≡ first_value t) → ((n : ℕ) → is_flagged m n ≡ false) → IsFilled i order width 0 v m
@@ -42,13 +34,10 @@ module _ (i : Instance) (order : List ℕ) (width : ℕ) where
     filled-next v' m' p = record {
       value = λ t n. p.value t n ∙ value_with-same (time_at i x) (weight_at i x) (due_at i x)
           (slice_index v) (values_of i (take k order)) t (h.value t n) (h.value (t - time_at i x) (omega (arith, n))) ∙ sym (values-more i order k t l);
-      flagged = λ j t a n. elim (cases_lt j k) as (λ _. is_flagged m' (j * width + t) ≡ is_taken i order j t) [
-        | inl b ↦ p.before (j * width + t) (omega (arith, row_room j k width (k * width) b (omega arith), n)) ∙ h.flagged j t b n
-        | inr b ↦
-            let is : k ≡ j = omega (arith, a, b) in
-            subst (λ y. is_flagged m' (y * width + t) ≡ is_taken i order y t) is
-            (p.flagged t n ∙ gains-same (time_at i x) (weight_at i x) (due_at i x) (slice_index v) (values_of i (take k order)) t (h.value t n) (h.value (t - time_at i x) (omega (arith, n))))
-      ];
+      flagged = λ j t a n. below_more (λ j. is_flagged m' (j * width + t) ≡ is_taken i order j t) k
+          (λ j b. p.before (j * width + t) (omega (arith, row_inside width k j b, n)) ∙ h.flagged j t b n)
+          (p.flagged t n ∙ gains-same (time_at i x) (weight_at i x) (due_at i x) (slice_index v) (values_of i (take k order)) t
+          (h.value t n) (h.value (t - time_at i x) (omega (arith, n)))) j a;
       clear = λ n a. p.behind n (omega (arith, a)) ∙ h.clear n (omega (arith, a));
     }
 

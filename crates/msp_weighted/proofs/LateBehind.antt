@@ -27,11 +27,7 @@ costs_weight true w some same = refl
 costs_weight false w some same = absurd (omega (arith, some, same))
 
 pub is_after : (a b : ℤ) → int_lt a b ≡ true → a <ℤ b
-is_after a b h = by (int_lt a b) refl
-  where
-    by : (t : Bool) → int_lt a b ≡ t → a <ℤ b
-    by true e = omega (arith, ints)
-    by false e = absurd (cc)
+is_after a b h = omega (arith, ints)
 
 -- a job that is not the first one ends as it does in the rest
 rest_ends : (p : ℕ → ℕ) (t x : ℕ) (js : List ℕ) (j : ℕ) → x ≢ j → end_in p t (x ∷ js) j ≡ end_in p (t + p x) js j
@@ -56,7 +52,5 @@ module _ (i : Instance) where
   EndLate-behind t (x ∷ xs) js u h =
       subst (λ n. EndLate i n js) (omega (arith, sum_by-cons (time_at i) x xs))
       (EndLate-behind (t + time_at i x) xs js (AllPairs-tail (λ x y. x ≢ y) x (xs ++ js) u)
-      (λ k d l. subst (λ e. due_at i (get_or js k d) <ℤ pos e) (rest_ends (time_at i) t x (xs ++ js) (get_or js k d) (apart k d l)) (h k d l)))
-    where
-      apart : All (λ y. x ≢ y) js
-      apart = All-back (λ y. x ≢ y) xs js (AllPairs-head (λ x y. x ≢ y) x (xs ++ js) u)
+      (λ k d l. subst (λ e. due_at i (get_or js k d) <ℤ pos e) (rest_ends (time_at i) t x (xs ++ js) (get_or js k d)
+      (All-back (λ y. x ≢ y) xs js (AllPairs-head (λ x y. x ≢ y) x (xs ++ js) u) k d l)) (h k d l)))

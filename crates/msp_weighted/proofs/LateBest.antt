@@ -4,23 +4,22 @@ use Rattle.std.proofs.Common.{IsPermutation, sum_by, sym, subst, arith}
 use Rattle.std.specs.List.{range_with_len}
 use Rattle.std.proofs.lemmas.List.Sorted.{IsPermutation-trans, IsPermutation-append_right}
 use Rattle.msp_class.proofs.IntegerRing.{one-*ℤ}
-use Rattle.msp_class.proofs.Sums.{OnceBelow, OnceBelow-from_permutation, AllPairs-tail, cond-le}
+use Rattle.msp_class.proofs.Sums.{OnceBelow, OnceBelow-from_permutation, cond-le}
 use Rattle.msp_instance.specs.declared.Instance.{Instance}
 use Rattle.msp_instance.specs.Instance.{no_job}
-use Rattle.msp_instance.specs.Conditions.{Inner}
 use Rattle.msp_pieces.specs.Feasible.{Feasible}
 use Rattle.msp_pieces.specs.Cost.{end_of}
 use Rattle.msp_pieces.specs.BackToBack.{time_at, schedule_in_order}
 use Rattle.msp_pieces.proofs.lists.BackToBack.{end_in}
 use Rattle.msp_pieces.proofs.costs.LateJobs.{due_at, is_late, OnTime}
 use Rattle.msp_pieces.proofs.lists.DateOrder.{dates_rise}
-use Rattle.msp_pieces.proofs.lists.Parts.{All-back}
+use Rattle.msp_pieces.proofs.lists.Parts.{All-back, AllPairs-back}
 use Rattle.msp_route.proofs.BackToBackAnswer.{IsBestRow, short_jobs, free_is_feasible}
 use Rattle.msp_route.proofs.OnTimeFirst.{distinct, ends, late_are, lower, on_time_first_is_best}
 use Rattle.msp_route.specs.Dates.{IsDueBefore}
-use Rattle.msp_weighted.specs.Late.{late_class, EndInTime, EndLate, IsLateOrder}
+use Rattle.msp_weighted.specs.Late.{EndInTime, EndLate, IsLateOrder}
 use Rattle.msp_weighted.specs.Values.{weight_at, IsTableOrder}
-use Rattle.msp_weighted.proofs.LateCost.{IsLateInstance, IsLateInstance-from_class, late_weight_cost}
+use Rattle.msp_weighted.proofs.LateCost.{IsLateInstance, late_weight_cost}
 use Rattle.msp_weighted.proofs.LateBehind.{same_each, costs_weight, is_after, EndLate-behind}
 use Rattle.msp_weighted.proofs.SplitFacts.{split-permutation, split-pairs}
 
@@ -83,9 +82,10 @@ module _ (i : Instance) (h : IsLateInstance i) (order : List ℕ) (o : IsTableOr
       past : (j : ℕ) → j < length i.jobs → late_share j ≡ weight_at i j → due_at i j <ℤ pos (end_in (time_at i) 0 (o.on_time ++ o.late) j)
       past j l w =
           let after = is_after (pos 1 *ℤ due_at i j) (end_of (schedule_in_order i order) j) (costs_weight (is_late i (schedule_in_order i order) j) (weight_at i j) (h.heavy j no_job l) w) in
-          subst (λ e. due_at i j <ℤ e) (ends i h.free.plain (weight_at i) order o.on_time o.late o.whole once early j l) (subst (λ d. d <ℤ end_of (schedule_in_order i order) j) (one-*ℤ (due_at i j)) after)
+          subst (λ e. due_at i j <ℤ e) (ends i h.free.plain (weight_at i) order o.on_time o.late o.whole once early j l)
+          (subst (λ d. d <ℤ end_of (schedule_in_order i order) j) (one-*ℤ (due_at i j)) after)
 
-  late_order : IsLateOrder i order
+  pub late_order : IsLateOrder i order
   late_order = record {
     on_time = o.on_time;
     late = o.late;
@@ -94,27 +94,11 @@ module _ (i : Instance) (h : IsLateInstance i) (order : List ℕ) (o : IsTableOr
     by_date = split-pairs (IsDueBefore i) o.split o.sorted;
     in_time = o.in_time;
     too_late = too_late;
-    by_number = λ a b d l k. strict (get_or o.late a d) (get_or o.late b d) (apart a b d l k) (o.by_number a b d l k);
+    by_number = λ a b d l k. omega (arith, AllPairs-back (λ x y. x ≢ y) o.on_time o.late distinct_jobs a b d l k, o.by_number a b d l k);
   }
-    where
-      apart : AllPairs (λ x y. x ≢ y) o.late
-      apart = back o.on_time o.late distinct_jobs
-        where
-          back : (xs ys : List ℕ) → AllPairs (λ x y. x ≢ y) (xs ++ ys) → AllPairs (λ x y. x ≢ y) ys
-          back [] ys h = h
-          back (x ∷ xs) ys h = back xs ys (AllPairs-tail (λ x y. x ≢ y) x (xs ++ ys) h)
 
-      strict : (x y : ℕ) → x ≢ y → x ≤ y → x < y
-      strict x y n h = omega (arith, h, n)
-
-  late_row : IsBestRow i order
+  pub late_row : IsBestRow i order
   late_row = record {
     short = short_jobs i h.free.plain order once;
     best = on_time_first_is_best i h.free.plain (weight_at i) order o.on_time o.late o.whole once early o.by_date dates sorted most feasible (λ t d. late_weight_cost i t d h.free.crit_is);
   }
-
-pub IsBestRow-late : (i : Instance) → i.class ≡ late_class → Inner i → (order : List ℕ) → IsTableOrder i order → IsBestRow i order
-IsBestRow-late i class inner order o = late_row i (IsLateInstance-from_class i class inner) order o
-
-pub IsLateOrder-made : (i : Instance) → i.class ≡ late_class → Inner i → (order : List ℕ) → IsTableOrder i order → IsLateOrder i order
-IsLateOrder-made i class inner order o = late_order i (IsLateInstance-from_class i class inner) order o

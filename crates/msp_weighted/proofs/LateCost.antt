@@ -15,6 +15,7 @@ use Rattle.msp_route.proofs.PlainJobs.{IsPlainFree, IsPlainFree-from}
 use Rattle.msp_route.proofs.OnTimeFirst.{late_weight}
 use Rattle.msp_weighted.specs.Late.{late_class}
 use Rattle.msp_weighted.specs.Values.{weight_at}
+use Rattle.std.proofs.lemmas.Int.{ints}
 
 pub record IsLateInstance (i : Instance) : Type 0 where
   pub free : IsPlainFree i SumWU
@@ -37,11 +38,5 @@ late_weight_cost i s d e u =
     ∙ ap pos (total_below-scale (length i.jobs) d (λ j. cond (is_late i s j) (weight_at i j) 0))
   where
     one : (w : ℕ) (b : Bool) → (pos w *ℤ (if b then pos d else pos 0)) ≡ pos (d * cond b w 0)
-    one w true = ap pos (swapped w d)
-      where
-        swapped : (w d : ℕ) → w * d ≡ d * w
-        swapped w d = omega arith
-    one w false = ap pos (none w)
-      where
-        none : (w : ℕ) → w * 0 ≡ d * 0
-        none w = omega arith
+    one w true = omega (arith, ints)
+    one w false = omega (arith, ints)

@@ -1,5 +1,5 @@
 -- What the table and the way back through it give is the table's order.
-use Rattle.std.proofs.Common.{◌≡◌, ℕ, ◌+◌, ◌<◌, ◌≤◌, Bool, cond, List, ◌++◌, length, get_or, filter, reverse, All, AllPairs, IsPermutation, sum_by, sym, ap, subst, ◌∙◌, arith}
+use Rattle.std.proofs.Common.{◌≡◌, ℕ, ◌+◌, ◌<◌, ◌≤◌, Bool, cond, List, ◌++◌, length, get_or, filter, reverse, All, AllPairs, IsPermutation, sum_by, sym, ap, ◌∙◌, arith}
 use Rattle.std.specs.Prelude.{slice_index}
 use Rattle.std.specs.List.{range_with_len}
 use Rattle.std.proofs.lemmas.List.{take_all}
@@ -72,12 +72,3 @@ module _ (i : Instance) (order : List ℕ) (all : IsPermutation (range_with_len 
       by_number = by_number;
       whole = whole;
     }
-
--- ---- at the lists as the code passes them
-pub filled_at : (i : Instance) (width : ℕ) (shown order values flags : List ℕ) → shown ≡ order → IsFilled i shown width (length shown) values flags → IsFilled i order width (length order) values flags
-filled_at i width shown order values flags e h = subst (λ js. IsFilled i js width (length js) values flags) e h
-
-pub best_at : (shown values : List ℕ) (width moment : ℕ)
-    → shown ≡ values → length values ≡ width → moment < length shown → ((t : ℕ) → t < length shown → slice_index shown t ≤ slice_index shown moment)
-    → (moment < width) × ((t : ℕ) → t < width → slice_index values t ≤ slice_index values moment)
-best_at shown values width moment e w inside best = (omega (arith, inside, ap length e, w), λ t l. subst (λ xs. slice_index xs t ≤ slice_index xs moment) e (best t (omega (arith, l, ap length e, w))))

@@ -1,14 +1,14 @@
 -- The way back through the flags, from the last job to the first.
-use Rattle.std.proofs.Common.{◌≡◌, ℕ, suc, ◌+◌, ◌-◌, ◌<◌, ◌≤◌, Bool, true, false, List, [], ◌∷◌, ◌++◌, length, get_or, take, drop, reverse, pos, ◌≤ℤ◌, sum_by, refl, sym, ap, subst}
-use Rattle.std.proofs.Common.{subst₂, ◌∙◌, arith, drop-cons}
-use Rattle.std.proofs.lemmas.List.{take_all, reverse-append}
+use Rattle.std.proofs.Common.{◌≡◌, ℕ, ◌+◌, ◌-◌, ◌<◌, ◌≤◌, Bool, true, false, List, [], ◌∷◌, ◌++◌, length, get_or, take, drop, reverse, pos, ◌≤ℤ◌, sum_by, refl, sym, ap, subst}
+use Rattle.std.proofs.Common.{subst₂, ◌∙◌, arith}
+use Rattle.std.proofs.lemmas.List.{take_all, reverse-append, drop_all, drop_more}
 use Rattle.std.proofs.lemmas.List.Sums.{sum_by-cons}
 use Rattle.msp_instance.specs.declared.Instance.{Instance}
 use Rattle.msp_pieces.specs.BackToBack.{time_at}
 use Rattle.msp_pieces.proofs.costs.LateJobs.{due_at}
 use Rattle.msp_weighted.specs.Late.{EndInTime}
-use Rattle.msp_weighted.specs.Values.{weight_at, value_with, values_of, is_taken, IsSplit, empty, first, second, IsChosen}
-use Rattle.msp_weighted.proofs.ValueFacts.{gains-yes, gains-no, values-more, first_is}
+use Rattle.msp_weighted.specs.Values.{weight_at, value_with, values_of, is_taken, IsSplit, empty, first, second}
+use Rattle.msp_weighted.proofs.ValueFacts.{gains-yes, gains-no, values-more}
 
 -- of the jobs from the place on those are chosen that take the time from the moment t on, and the others are left
 pub record IsWalk (i : Instance) (order : List ℕ) (value place t : ℕ) (chosen left : List ℕ) : Type 0 where
@@ -24,18 +24,11 @@ module _ (i : Instance) (order : List ℕ) where
       let all : take (length order) order ≡ order = take_all (length order) order (omega arith) in
       subst₂ (IsWalk i order (values_of i order t) (length order) t) (sym ec) (sym el) (record {
         inside = omega arith;
-        split = subst (λ xs. IsSplit xs [] []) (sym (drop_all order)) empty;
+        split = subst (λ xs. IsSplit xs [] []) (sym (drop_all (length order) order (omega arith))) empty;
         in_time = tt;
-        weight = ap (λ xs. values_of i xs t) (sym all) ∙ plus_none (values_of i (take (length order) order) t);
+        weight = omega (arith, ap (λ xs. values_of i xs t) all);
         some = subst (λ xs. 0 < values_of i xs t) (sym all) some;
       })
-    where
-      plus_none : (n : ℕ) → n ≡ n + 0
-      plus_none n = omega arith
-
-      drop_all : (xs : List ℕ) → drop (length xs) xs ≡ []
-      drop_all [] = refl
-      drop_all (x ∷ xs) = drop_all xs
 
   module _ (value k t : ℕ) (chosen left : List ℕ) (l : k < length order) (h : IsWalk i order value (k + 1) t chosen left) where
     abbrev x : ℕ
@@ -45,10 +38,7 @@ module _ (i : Instance) (order : List ℕ) where
     before = values_of i (take k order)
 
     rest : drop k order ≡ x ∷ drop (k + 1) order
-    rest = drop-cons order k 0 l ∙ ap (λ n. x ∷ drop n order) (one_more k)
-      where
-        one_more : (k : ℕ) → suc k ≡ k + 1
-        one_more k = omega arith
+    rest = drop_more order k 0 l
 
     front : (xs : List ℕ) → reverse (xs ++ x ∷ []) ≡ x ∷ reverse xs
     front xs = reverse-append xs (x ∷ [])
@@ -93,10 +83,7 @@ module _ (i : Instance) (order : List ℕ) where
       last = omega (arith, h.inside, some)
 
       before : IsWalk i order value (place - 1 + 1) t chosen left
-      before = subst (λ n. IsWalk i order value n t chosen left) (is place some) h
-        where
-          is : (n : ℕ) → 0 < n → n ≡ n - 1 + 1
-          is n l = omega arith
+      before = let is : place ≡ place - 1 + 1 = omega (arith, some) in subst (λ n. IsWalk i order value n t chosen left) is h
 
       by : (c : Bool) → b ≡ c → IsWalk i order value (place - 1) t' chosen' left' × (t' ≤ t)
       by true e =
@@ -111,19 +98,6 @@ module _ (i : Instance) (order : List ℕ) where
   pub walk_time : (value place t : ℕ) (chosen left : List ℕ) → 0 < place → IsWalk i order value place t chosen left
       → (job time : ℕ) (b : Bool) → job ≡ get_or order (place - 1) 0 → time ≡ time_at i job → b ≡ is_taken i order (place - 1) t → b ≡ true → time ≤ t
   walk_time value place t chosen left some h job time b ej et eb e =
-      omega (
-        arith,
-        et,
-        ap (time_at i) ej,
-        (gains-yes (time_at i (get_or order (place - 1) 0))
-            (weight_at i (get_or order (place - 1) 0)) (due_at i (get_or order (place - 1) 0)) (values_of i (take (place - 1) order)) t (sym eb ∙ e)).0,
-      )
-
-  pub walk-end : (value t : ℕ) (chosen left on_time : List ℕ) → IsWalk i order value 0 t chosen left → on_time ≡ reverse chosen → IsChosen i order value on_time left
-  walk-end value t chosen left on_time h e =
-      let start = first_is i t h.some in
-      subst (λ xs. IsChosen i order value xs left) (sym e) (record {
-        split = h.split;
-        in_time = subst (λ n. EndInTime i n (reverse chosen)) start.0 h.in_time;
-        weight = omega (arith, h.weight, start.1);
-      })
+      let x = get_or order (place - 1) 0 in
+      let fits = (gains-yes (time_at i x) (weight_at i x) (due_at i x) (values_of i (take (place - 1) order)) t (sym eb ∙ e)).0 in
+      omega (arith, et, ap (time_at i) ej, fits)

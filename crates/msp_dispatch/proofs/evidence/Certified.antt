@@ -1,5 +1,5 @@
 -- What certified solutions are made of: the report of a solver's answer, its class, and the proof of its cost.
-use Rattle.std.proofs.Common.{◌≡◌, ◌≢◌, ℕ, ◌^◌, ◌<◌, ◌≤◌, inl, List, [], ◌∷◌, get_or, Contains, Some, ℤ, pos, negsuc, nat_abs, ◌≤ℤ◌, unsigned_abs, refl, sym, ap, ◌∙◌, subst, arith}
+use Rattle.std.proofs.Common.{◌≡◌, ◌≢◌, ℕ, ◌<◌, ◌≤◌, inl, List, [], ◌∷◌, get_or, Contains, Some, ℤ, pos, ◌≤ℤ◌, unsigned_abs, refl, sym, ap, ◌∙◌, subst, arith}
 use Rattle.std.proofs.lemmas.Int.{ints}
 use Rattle.std.proofs.lemmas.List.{get_or-map}
 use Rattle.msp_class.specs.declared.class.Class.{Class}
@@ -7,27 +7,23 @@ use Rattle.msp_class.specs.declared.environments.EnvKind.{EnvKind}
 use Rattle.msp_class.specs.declared.environments.EnvKind.TheVariants.{Unrelated, OpenShop}
 use Rattle.msp_class.specs.declared.sizes.TheConstants.{GREATEST_UNIT}
 use Rattle.msp_class.specs.Env.{kind_of}
-use Rattle.msp_class.proofs.IntegerRing.{natural, le-pos}
 use Rattle.msp_instance.specs.declared.Instance.{Instance}
-use Rattle.msp_instance.specs.Conditions.{InClass, LiesWithin}
+use Rattle.msp_instance.specs.Conditions.{InClass}
 use Rattle.msp_instance.proofs.Limits.{Inner-from_class}
 use Rattle.msp_pieces.specs.declared.Frac.{Frac}
 use Rattle.msp_pieces.specs.declared.Schedule.{Schedule}
-use Rattle.msp_pieces.specs.declared.limits.TheConstants.{GREATEST_COMPARED_DENOMINATOR}
 use Rattle.msp_pieces.specs.declared.Solution.{Solution}
 use Rattle.msp_pieces.specs.Feasible.{Feasible}
 use Rattle.msp_pieces.specs.Fraction.{IsLowest, IsSameFraction, IsComparable}
 use Rattle.msp_pieces.specs.Within.{Within}
 use Rattle.msp_route.specs.Bounds.{IsAnswer, answer_unit}
-use Rattle.msp_uniform.specs.Uniform.{cut_class}
 use Rattle.msp_cert.specs.declared.Proof.{Proof}
-use Rattle.msp_cert.specs.declared.Certificate.{Certificate}
 use Rattle.msp_cert.specs.Search.{IsFound}
 use Rattle.msp_cert.proofs.Found.{found_within, found_holds}
 use Rattle.msp_dispatch.specs.declared.certify.Maker.{Maker}
 use Rattle.msp_dispatch.specs.declared.certify.Maker.TheVariants as maker
 use Rattle.msp_dispatch.specs.Dispatch.{IsReported}
-use Rattle.msp_dispatch.specs.Certify.{HasCertificate, FitsWhereWanted, IsProofOf, KeepsTextLimits, found, searched_classes}
+use Rattle.msp_dispatch.specs.Certify.{HasCertificate, FitsWhereWanted, IsProofOf, found, searched_classes}
 use Rattle.msp_dispatch.specs.Shown.{class_of, FitsMaker, IsCertifiable, Certifies, IsTriedValue}
 use Rattle.msp_dispatch.proofs.evidence.Fractions.{IsNatural-lowest, whole_lowest, same_over}
 use Rattle.msp_dispatch.proofs.evidence.Found.{IsShort-within}
@@ -67,12 +63,9 @@ listed maker.Lexical = (5, omega arith, refl)
 listed maker.Unrelated = (6, omega arith, refl)
 listed maker.Blocks = (7, omega arith, refl)
 
-other_class : (a b c : Class) → a ≡ b → b ≢ c → a ≢ c
-other_class a b c e differs f = differs (sym e ∙ f)
-
 fits_by : (m : Maker) (i : Instance) → i.class ≡ class_of m → FitsMaker m i → FitsWhereWanted i
 fits_by maker.UniformCut i e h = λ _. h
-fits_by _ i e h = λ f. absurd (other_class i.class _ cut_class e (λ g. let x = ap (λ (c : Class). c.env) g in cc) f)
+fits_by _ i e h = λ f. let x = ap (λ (c : Class). c.env) (sym e ∙ f) in absurd cc
 
 pub IsCertifiable-made : (i : Instance) (m : Maker) → i.class ≡ class_of m → FitsMaker m i → IsCertifiable i
 IsCertifiable-made i m e h = record { listed = subst HasCertificate (sym e) (listed m); fits = fits_by m i e h }
@@ -127,14 +120,3 @@ Certifies-whole i s p r w is =
         levels = w.short.levels;
       };
     }
-
--- ---- a bound within the limits of texts can be compared
-size_within : (x : ℤ) → LiesWithin (10 ^ 24) x → unsigned_abs x ≤ 10 ^ 24
-size_within (pos n) h = omega (arith, ints, h.1)
-size_within (negsuc n) h = omega (arith, ints, h.0)
-
-pub IsComparable-text : (c : Certificate) → KeepsTextLimits c → IsComparable c.bound
-IsComparable-text c h = record { num = omega (arith, size_within c.bound.num h.num); den = den (nat_abs c.bound.den) (natural c.bound.den (omega (arith, ints, h.den.0))) }
-  where
-    den : (n : ℕ) → c.bound.den ≡ pos n → unsigned_abs c.bound.den ≤ GREATEST_COMPARED_DENOMINATOR
-    den n is = omega (arith, ap unsigned_abs is, le-pos (subst (λ x. x ≤ℤ GREATEST_UNIT) is h.den.1))

@@ -60,16 +60,13 @@ module _ (i : Instance) (c : InClass i) (makespan : i.class.crit ≡ Cmax) (spee
       let each = sum_by-mono (λ x. x) (λ _. GREATEST_SPEED) (take k order) (All-take (λ s. s ≤ GREATEST_SPEED) k order small.slow) in
       omega (arith, first k, each, sum_by-constant GREATEST_SPEED (take k order), length-take k order, small.few)
 
-  speed_at_least : (k : ℕ) → 1 ≤ k → 1 ≤ sum_by (speed_of i) (take k machines)
-  speed_at_least k some = omega (arith, first k, first_some order k some small.some small.fast)
-
   pub IsTriedValue-group : (cost : Frac) (k time : ℕ) → 1 ≤ k → k ≤ length i.jobs → IsOver cost (pos time) (pos (sum_by (speed_of i) (take k machines)))
       → time ≤ (MOST_JOBS * GREATEST) → ((longest : List ℕ) → AreLongestFirst i longest → time ≡ total_time i (take k longest)) → IsTriedValue i cost
   IsTriedValue-group cost k time some few over short work = record {
     value = time;
     unit = sum_by (speed_of i) (take k machines);
     over = over;
-    some = speed_at_least k some;
+    some = omega (arith, first k, first_some order k some small.some small.fast);
     value_small = omega (arith, short);
     unit_small = omega (arith, speed_at_most k);
     proof = λ longest level first _.

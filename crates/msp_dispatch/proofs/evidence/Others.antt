@@ -55,9 +55,6 @@ pub record IsWholeValue (i : Instance) (s : Solution) (p : Proof) : Type 0 where
 few_apart : (i : Instance) (jobs : List ℕ) → InClass i → All (λ j. j < length i.jobs) jobs → AllPairs (λ j k. j ≢ k) jobs → length jobs ≤ MOST_JOBS
 few_apart i jobs c inside apart = omega (arith, length-once (length i.jobs) jobs inside (λ k. count_by-distinct jobs k apart), c.conditions.few)
 
-natural_within : (n : ℕ) → n ≤ greatest_value → LiesWithin greatest_value (pos n)
-natural_within n l = (omega (arith, ints), omega (arith, ints, l))
-
 -- ---- segments
 module _ (i : Instance) (c : InClass i) (class : i.class ≡ lexical_class)
     (s : Solution) (best : IsBest i s) (lists : List (List ℕ)) (are : AreSegments i lists) (least : IsLeastCost i (segments_bound i lists)) where
@@ -83,7 +80,7 @@ module _ (i : Instance) (c : InClass i) (class : i.class ≡ lexical_class)
       segments = are;
     };
     is = (refl, refl);
-    small = natural_within (segments_bound i lists) (omega (arith, bound_small));
+    small = (omega (arith, ints), omega (arith, ints, bound_small));
     short = record { limits = record { few = omega (arith, jobs_few, lists_few); small = tt }; levels = tt };
   }
 

@@ -1,5 +1,5 @@
 -- In open shops the load of a machine or the length of a job shows the best cost.
-use Rattle.std.proofs.Common.{◌≡◌, ℕ, ◌<◌, inl, inr, length, pos, refl, ap, subst, arith}
+use Rattle.std.proofs.Common.{◌≡◌, ℕ, ◌^◌, ◌<◌, ◌≤◌, inl, inr, List, length, Contains, pos, refl, ap, subst, arith}
 use Rattle.std.specs.Prelude.{⊤, MatchOption}
 use Rattle.msp_class.specs.Env.{is_shop, fixed_machines}
 use Rattle.msp_instance.specs.declared.Instance.{Instance}
@@ -7,8 +7,10 @@ use Rattle.msp_instance.specs.Conditions.{InClass}
 use Rattle.msp_pieces.specs.declared.Frac.{Frac}
 use Rattle.msp_pieces.specs.Fraction.{IsOver}
 use Rattle.msp_pieces.specs.Loads.{machine_load, job_length}
+use Rattle.msp_cert.specs.declared.Proof.{Proof}
 use Rattle.msp_cert.specs.declared.Proof.TheVariants.{Machine, Line}
-use Rattle.msp_cert.specs.Certificates.{IsShop}
+use Rattle.msp_cert.specs.Certificates.{IsShop, HoldsFor, IsValue}
+use Rattle.msp_cert.specs.Search.{tried}
 use Rattle.msp_shops.specs.Open.{open_class, IsOpenCost}
 use Rattle.msp_shops.specs.OpenCut.{open_cut_class, IsOpenCutCost}
 use Rattle.msp_dispatch.specs.Shown.{IsTriedValue}
@@ -16,27 +18,25 @@ use Rattle.msp_dispatch.proofs.evidence.Sizes.{load_short, length_short}
 use Rattle.msp_dispatch.proofs.evidence.Tried.{tried-machine, tried-line}
 
 module _ (i : Instance) (c : InClass i) (shop : IsShop i) (cost : Frac) (end : ℕ) (over : IsOver cost (pos end) (pos 1)) where
-  IsTriedValue-machine : (m : ℕ) → m < i.machines → end ≡ machine_load i m → IsTriedValue i cost
-  IsTriedValue-machine m l e = record {
+  of_proof : (p : Proof) → end ≤ 10 ^ 15 → ((longest level : List ℕ) → Contains (tried i longest level) p)
+      → HoldsFor i p → IsValue i p (pos end) 1 → IsTriedValue i cost
+  of_proof p short among holds is = record {
     value = end;
     unit = 1;
     over = over;
     some = omega arith;
-    value_small = omega (arith, e, load_short i c m);
+    value_small = short;
     unit_small = omega arith;
-    proof = λ longest level _ _. (Machine m, tried-machine i longest level m l, (shop, l), (ap pos e, refl));
+    proof = λ longest level _ _. (p, among longest level, holds, is);
   }
 
+  IsTriedValue-machine : (m : ℕ) → m < i.machines → end ≡ machine_load i m → IsTriedValue i cost
+  IsTriedValue-machine m l e =
+      of_proof (Machine m) (omega (arith, e, load_short i c m)) (λ longest level. tried-machine i longest level m l) (shop, l) (ap pos e, refl)
+
   IsTriedValue-line : (j : ℕ) → j < length i.jobs → end ≡ job_length i j → IsTriedValue i cost
-  IsTriedValue-line j l e = record {
-    value = end;
-    unit = 1;
-    over = over;
-    some = omega arith;
-    value_small = omega (arith, e, length_short i c j l);
-    unit_small = omega arith;
-    proof = λ longest level _ _. (Line j, tried-line i longest level j l, (shop, l), (ap pos e, refl));
-  }
+  IsTriedValue-line j l e =
+      of_proof (Line j) (omega (arith, e, length_short i c j l)) (λ longest level. tried-line i longest level j l) (shop, l) (ap pos e, refl)
 
 pub IsTriedValue-open_cut : (i : Instance) (cost : Frac) → InClass i → i.class ≡ open_cut_class → IsOpenCutCost i cost → IsTriedValue i cost
 IsTriedValue-open_cut i cost c class (end, greatest, over) = elim greatest.reached [

@@ -1,5 +1,5 @@
 -- From the answer to the text: what is read is its instance, and a fault is one that a text can have.
-use Rattle.std.proofs.Common.{◌≡◌, ◌≢◌, AllPairs, ℕ, zero, suc, inl, inr, refl, ◌<◌, List, [], length, get_or, slice_get, Option, Some, Result, Ok, sym, subst, ◌∙◌, arith, Err}
+use Rattle.std.proofs.Common.{◌≡◌, ℕ, zero, suc, inl, inr, refl, ◌<◌, List, [], length, get_or, slice_get, Option, Some, Result, Ok, sym, subst, ◌∙◌, arith, Err}
 use Rattle.std.proofs.lemmas.Option.{slice_get-get_or}
 use Rattle.msp_instance.specs.declared.Instance.{Instance}
 use Rattle.msp_instance.specs.declared.membership.ClassFault.{ClassFault}
@@ -7,18 +7,17 @@ use Rattle.msp_instance.specs.declared.membership.ClassFault.TheVariants as clas
 use Rattle.msp_instance.specs.Instance.{no_job}
 use Rattle.msp_instance.specs.Conditions.{InClass}
 use Rattle.msp_instance.specs.Faults.{turn_of, IsSooner, IsFirstFault}
-use Rattle.msp_instance.proofs.FaultLemmas.{HasArc-from_all, Condition-from_meets}
+use Rattle.msp_instance.proofs.FaultLemmas.{Condition-from_meets}
 use Rattle.msp_instance.proofs.CycleLemmas.{not_acyclic}
 use Rattle.msp_grammar.specs.declared.lines.fault.FileFault.{FileFault}
 use Rattle.msp_grammar.specs.declared.lines.fault.FileFault.TheVariants.{Class, Cycle, Memory, After}
 use Rattle.msp_grammar.specs.declared.filed.Filed.{Filed}
 use Rattle.msp_grammar.specs.InstanceText.{IsInstanceText}
 use Rattle.msp_file.specs.instance.Reading.{Reads, ReadsFront}
-use Rattle.msp_file.specs.instance.Steps.{IsFaultOfFiled}
-use Rattle.msp_file.specs.instance.Answers.{faulty_name, IsClassFault, IsCycleFault, IsFaultBy, IsFaultOf, IsFrontFaultOf, IsTextClassFault, IsTextFault, IsFrontFault, IsFrontText}
+use Rattle.msp_file.specs.instance.Answers.{faulty_name, IsFaultBy, IsFaultOf, IsFrontFaultOf, IsTextClassFault, IsTextFault, IsFrontFault, IsFrontText}
 use Rattle.msp_grammar.specs.lines.Answers.{Fails}
-use Rattle.msp_file.proofs.instances.AnswerLemmas.{fault_of_whole}
-use Rattle.msp_file.proofs.instances.LineFaults.{front}
+use Rattle.msp_file.proofs.instances.FirstFaults.{earlier}
+use Rattle.msp_file.proofs.instances.LineCounts.{front}
 use Rattle.msp_grammar.proofs.reading.LineLaws.{reads, ok_is}
 use Rattle.msp_file.proofs.instances.Readings.{front_same, reads_same, front_done}
 use Rattle.msp_file.proofs.instances.TextLaws.{IsReadText, whole_takes, whole_again, front_takes, front_again, text_read, times_read}
@@ -45,9 +44,6 @@ filed i names = record { instance = i; names = names }
 abbrev pub given : Instance → List (List ℕ) → Result Filed FileFault
 given i names = Ok (filed i names)
 
-same_filed : (f g : Filed) → given f.instance f.names ≡ given g.instance g.names → f ≡ g
-same_filed f g h = cc
-
 pub again_read : (b : List ℕ) (f : Filed) → Reads b (Ok f) → (i : Instance) (names : List (List ℕ)) → IsInstanceText b i names → given i names ≡ Ok f
 again_read b f e i names h = reads_same b (given i names) (Ok f) (whole_again b i names h) e
 
@@ -62,15 +58,11 @@ pub record IsGood (Reading : Result Filed FileFault → Type 0) (good : Filed) :
 in_class_of : (R : Result Filed FileFault → Type 0) (good f : Filed) → IsGood R good → R (Ok f) → InClass f.instance
 in_class_of R good f h e = subst (λ (g : Filed). InClass g.instance) (ok_is good f (h.one (Ok good) (Ok f) h.read e)) h.in_class
 
-no_class_fault : (R : Result Filed FileFault → Type 0) (good : Filed) (fault : ClassFault) (name : Option (List ℕ)) → IsGood R good → ¬ IsClassFault R fault name
-no_class_fault R good fault name h k = k.first.broken (Condition-from_meets k.filed.instance fault (in_class_of R good k.filed h k.reads).conditions k.first.within)
-
-no_cycle_fault : (R : Result Filed FileFault → Type 0) (good : Filed) (job : ℕ) (name : List ℕ) → IsGood R good → ¬ IsCycleFault R job name
-no_cycle_fault R good job name h k = not_acyclic k.filed.instance job k.conditions.ends k.least.inside k.least.cycle (in_class_of R good k.filed h k.reads).acyclic
-
 no_fault : (R : Result Filed FileFault → Type 0) (good : Filed) (e : FileFault) → IsGood R good → IsFaultBy R e → Fails e (reads good)
-no_fault R good (Class fault name) h k = absurd (no_class_fault R good fault name h k)
-no_fault R good (Cycle job name) h k = absurd (no_cycle_fault R good job name h k)
+no_fault R good (Class fault name) h k =
+    absurd (k.first.broken (Condition-from_meets k.filed.instance fault (in_class_of R good k.filed h k.reads).conditions k.first.within))
+no_fault R good (Cycle job name) h k =
+    absurd (not_acyclic k.filed.instance job k.conditions.ends k.least.inside k.least.cycle (in_class_of R good k.filed h k.reads).acyclic)
 no_fault R good Memory h k = tt
 no_fault R good e h k = h.one (reads good) (Err e) h.read k
 
@@ -95,24 +87,16 @@ need_sooner : (j : ℕ) → IsSooner (turn_of (class_fault.Need 0)) (turn_of (cl
 need_sooner zero = inr (refl, inr (refl, omega arith))
 need_sooner (suc j) = inr (refl, inl (omega arith))
 
-some_job : {n : ℕ} (j : ℕ) → j < n → 0 < n
-some_job j h = omega arith
-
 class_fault_of : (b : List ℕ) (f : Filed) (fault : ClassFault) (name : Option (List ℕ))
     → IsReadText b f → IsFirstFault f.instance fault → name ≡ faulty_name f.names fault → IsTextClassFault fault name
 class_fault_of b f class_fault.Jobs name t first e = subst (IsTextClassFault class_fault.Jobs) (sym e) tt
-class_fault_of b f class_fault.Machines name t first e = absurd (first.broken t.machines)
-class_fault_of b f class_fault.Speeds name t first e = absurd (first.broken t.speeds)
-class_fault_of b f class_fault.Multiple name t first e = absurd (first.broken t.multiple)
 class_fault_of b f (class_fault.Need j) name t first e = subst (IsTextClassFault (class_fault.Need j)) (sym (e ∙ named_job f j t.one_each first.within)) tt
-class_fault_of b f (class_fault.Unit j) name t first e = absurd (first.broken (times_read b f t j first.within (first.first (class_fault.Need 0) (some_job j first.within) (need_sooner j))))
-class_fault_of b f (class_fault.Head j) name t first e = absurd (first.broken (t.jobs j no_job first.within).release)
-class_fault_of b f (class_fault.Due j) name t first e = absurd (first.broken (t.jobs j no_job first.within).due)
-class_fault_of b f (class_fault.Weight j) name t first e = absurd (first.broken (t.jobs j no_job first.within).weight)
-class_fault_of b f (class_fault.Curve j) name t first e = absurd (first.broken (t.jobs j no_job first.within).curve)
-class_fault_of b f class_fault.Arcs name t first e = absurd (first.broken t.arcs)
-class_fault_of b f (class_fault.Arc at) name t first e = absurd (first.broken (HasArc-from_all f.instance at t.ends t.once first.within))
+class_fault_of b f (class_fault.Unit j) name t first e =
+    absurd (first.broken (times_read b f t j first.within (first.first (class_fault.Need 0) (omega (arith, first.within)) (need_sooner j))))
 class_fault_of b f (class_fault.Degree j) name t first e = subst (IsTextClassFault (class_fault.Degree j)) (sym (e ∙ named_job f j t.one_each first.within)) tt
+class_fault_of b f fault name t first e =
+    absurd (first.broken (earlier b f t
+    (λ g. g ≡ fault) (λ s. absurd cc) (λ k w s. absurd cc) (λ k s. absurd cc) (λ k s. absurd cc) fault first.within refl))
 
 fault_by : (R : Result Filed FileFault → Type 0) (e : FileFault) → ((f : Filed) → R (Ok f) → (text : List ℕ) × IsReadText text f) → IsFaultBy R e → IsTextFault e
 fault_by R (Class fault name) takes k = let t = takes k.filed k.reads in class_fault_of t.0 k.filed fault name t.1 k.first k.named
@@ -121,13 +105,6 @@ fault_by R e takes k = tt
 pub fault_of_text : (b : List ℕ) (e : FileFault) → IsFaultOf b e → IsTextFault e
 fault_of_text b e k = fault_by (Reads b) e (λ f h. (b, whole_takes b f h)) k
 
-pub fault_of_filed : (b : List ℕ) (f : Filed) (e : FileFault) → Reads b (Ok f) → IsFaultOfFiled f e → IsTextFault e
-fault_of_filed b f e h k = fault_of_text b e (fault_of_whole b f e h k)
-
 pub fault_of_front_text : (b : List ℕ) (e : FileFault) → IsFrontFaultOf b e → IsFrontFault e
 fault_of_front_text b (After at) k = front b (After at) k
 fault_of_front_text b e k = fault_by (ReadsFront b) e (front_takes b) k
-
--- no arc stands twice in what is read
-pub once_of_read : (b : List ℕ) (f : Filed) → Reads b (Ok f) → AllPairs (λ x y. x ≢ y) f.instance.arcs
-once_of_read b f h = (whole_takes b f h).once

@@ -1,13 +1,15 @@
 -- From the reading of the lines to the answer.
-use Rattle.std.proofs.Common.{◌≡◌, ℕ, List, Result, Ok, inl, inr}
+use Rattle.std.proofs.Common.{◌≡◌, ℕ, List, Result, Ok, Err, inl, inr, ap, ◌∙◌}
+use Rattle.std.specs.Result.{IsErrAnd}
+use Rattle.std.proofs.lemmas.Result.{err_from_is_err_and}
 use Rattle.msp_grammar.specs.declared.lines.fault.FileFault.{FileFault}
 use Rattle.msp_grammar.specs.declared.lines.fault.FileFault.TheVariants.{Class, Cycle, Memory, After}
 use Rattle.msp_grammar.specs.declared.filed.Filed.{Filed}
-use Rattle.msp_file.specs.instance.Reading.{filed_at, front_at, Reads, ReadsFront}
+use Rattle.msp_file.specs.instance.Reading.{filed_at, front_at, Reads}
 use Rattle.msp_grammar.specs.lines.Answers.{Fails}
 use Rattle.msp_file.specs.instance.Steps.{IsFaultOfFiled}
 use Rattle.msp_file.specs.instance.Answers.{IsFaultBy, IsFaultOf, IsFrontFaultOf}
-use Rattle.msp_file.proofs.instances.LineFaults.{whole, front}
+use Rattle.msp_file.proofs.instances.LineCounts.{whole, front}
 
 -- a fault of the lines is the first fault of the text
 pub fault_of_lines : (b : List ℕ) (e : FileFault) → Fails e (filed_at b) → IsFaultOf b e
@@ -32,5 +34,6 @@ fault_of_read Reading filed e h f = absurd f
 pub fault_of_whole : (b : List ℕ) (filed : Filed) (e : FileFault) → Reads b (Ok filed) → IsFaultOfFiled filed e → IsFaultOf b e
 fault_of_whole b filed e h f = fault_of_read (Reads b) filed e h f
 
-pub fault_of_filed_front : (b : List ℕ) (filed : Filed) (e : FileFault) → ReadsFront b (Ok filed) → IsFaultOfFiled filed e → IsFrontFaultOf b e
-fault_of_filed_front b filed e h f = fault_of_read (ReadsFront b) filed e h f
+-- how a function that reads ends at a `?`
+pub failed : {A E : Type 0} {e : E} (r : Result A E) → IsErrAnd r (λ d. d ≡ e) → r ≡ Err e
+failed {e = e} r h = let p = err_from_is_err_and {Q = λ d. d ≡ e} r h in p.1 ∙ ap Err p.2

@@ -1,60 +1,46 @@
 -- The lines of arcs: what is read is the text of the arcs, and the text of arcs is read as those arcs.
-use Rattle.std.proofs.Common.{◌≡◌, ◌≢◌, ℕ, ◌<◌, ◌≤◌, Bool, true, false, not, ◌&&◌, ◌==◌, if◌then◌else◌, List, [], ◌∷◌, ◌++◌, length, All, AllPairs, Contains, None, Result, Ok, bytes_eq}
+use Rattle.std.proofs.Common.{◌≡◌, ◌≢◌, ℕ, ◌<◌, ◌≤◌, Bool, true, false, not, ◌&&◌, ◌==◌, if◌then◌else◌, List, [], ◌∷◌, ◌++◌, length, All, AllPairs, Contains, None, Ok, bytes_eq}
 use Rattle.std.proofs.Common.{codes, refl, sym, ap, subst, ◌∙◌, append_assoc, append-nil, arith, length-append, ltb-true, lt-ltb, eqb-true, eq-eqb}
 use Rattle.std.specs.List.{AllByRecursion}
-use Rattle.std.proofs.lemmas.Bool.{and_parts}
+use Rattle.std.proofs.lemmas.Bool.{and_parts, both_ways, not-true, not_from_false, false_from_ne_true}
 use Rattle.std.proofs.lemmas.Map.Views.{Contains-from_any}
 use Rattle.std.proofs.lemmas.List.Folds.{list_any_at}
 use Rattle.std.proofs.lemmas.List.{get_or_at}
 use Rattle.std.proofs.lemmas.List.Elements.{All-push}
 use Rattle.msp_instance.specs.declared.Arc.{Arc}
 use Rattle.msp_class.specs.declared.sizes.TheConstants.{MOST_ARCS}
-use Rattle.msp_grammar.specs.declared.lines.fault.FileFault.{FileFault}
 use Rattle.msp_file.specs.declared.instance.draft.Draft.{Draft}
 use Rattle.msp_job_name.specs.JobName.{IsJobName, AreDistinct}
 use Rattle.msp_grammar.specs.ScheduleText.{name_at}
 use Rattle.msp_grammar.specs.InstanceText.{line_text, arc_fields, arcs_text}
 use Rattle.msp_file.specs.instance.ArcFlags.{is_arc_among}
 use Rattle.msp_grammar.specs.lines.Reading.{◌>>=◌, Place, line_at, fields_of, first_of, others_of, LineRead, job_read, more_read, end_read, end_at}
-use Rattle.msp_file.specs.instance.Reading.{with_arc, arc_line_at, arc_or_end, arc_step, arcs_from}
+use Rattle.msp_file.specs.instance.Reading.{with_arc, arc_line_at, arc_or_end, arc_step}
 use Rattle.msp_job_name.proofs.NameLists.{same_bytes}
 use Rattle.msp_file.proofs.instances.Apart.{apart_push, apart_before}
 use Rattle.msp_grammar.proofs.reading.LineLaws.{bind_ok, provided_ok, ok_is, Takes, Takes-then, IsField, fields_takes, line_then, two_fields, end_text, end_field, end_takes}
-use Rattle.msp_grammar.proofs.reading.Lines.{line_less, Follows, lines_take, GetsLines, line_gets}
+use Rattle.msp_grammar.proofs.reading.Lines.{line_less, Follows, GetsLines, line_gets}
 use Rattle.msp_grammar.proofs.reading.FieldLaws.{known_takes, known_again, name_field}
 
 -- ---- the line of an arc
 
-same_arc : Arc → Arc → Bool
+abbrev same_arc : Arc → Arc → Bool
 same_arc a b = (b.before == a.before) && (b.after == a.after)
 
 same_arc_is : (a b : Arc) → same_arc a b ≡ true → a ≡ b
-unfolding same_arc
 same_arc_is a b h =
     let parts = and_parts (b.before == a.before) (b.after == a.after) h in
     rw (sym (eqb-true _ _ parts.0), sym (eqb-true _ _ parts.1)) refl
 
 same_arc_itself : (a : Arc) → same_arc a a ≡ true
-unfolding same_arc
 same_arc_itself a = rw (eq-eqb a.before a.before refl, eq-eqb a.after a.after refl) refl
 
-arc_among : (arcs : List Arc) (a : Arc) → is_arc_among arcs a.before a.after ≡ true → Contains arcs a
-unfolding same_arc
-arc_among arcs a h = Contains-from_any {eq = same_arc} same_arc_is a arcs h
-
-arc_found : (arcs : List Arc) (a : Arc) → Contains arcs a → is_arc_among arcs a.before a.after ≡ true
-unfolding same_arc
-arc_found arcs a h = list_any_at (same_arc a) arcs h.0 a h.1 (subst (λ (b : Arc). same_arc a b ≡ true) (sym h.2) (same_arc_itself a))
-
 not_there : (arcs : List Arc) (a : Arc) → not (is_arc_among arcs a.before a.after) ≡ true → ¬ Contains arcs a
-not_there arcs a h m = let e = arc_found arcs a m in absurd cc
+not_there arcs a h m =
+    both_ways _ (not-true _ h) (list_any_at (same_arc a) arcs m.0 a m.1 (subst (λ (b : Arc). same_arc a b ≡ true) (sym m.2) (same_arc_itself a)))
 
 is_new : (arcs : List Arc) (a : Arc) → ¬ Contains arcs a → not (is_arc_among arcs a.before a.after) ≡ true
-is_new arcs a h = by (is_arc_among arcs a.before a.after) refl
-  where
-    by : (b : Bool) → is_arc_among arcs a.before a.after ≡ b → not b ≡ true
-    by true e = absurd (h (arc_among arcs a e))
-    by false e = refl
+is_new arcs a h = not_from_false _ (false_from_ne_true _ (λ e. h (Contains-from_any {eq = same_arc} same_arc_is a arcs e)))
 
 -- What the line of an arc adds to a draft.
 pub record AddsArc (d : Draft) (fields : List (List ℕ)) (e : Draft) : Type 0 where
@@ -175,19 +161,16 @@ arc_step_takes d p next e =
     let l = bind_ok (line_at p) _ next e in
     arc_or_end_takes true p.at d (fields_of l.0.0) p l.0.1 next (fields_takes p l.0 l.1) l.2
 
-abbrev Arcs : Draft → Place → Draft × Place → Type 0
+abbrev pub Arcs : Draft → Place → Draft × Place → Type 0
 Arcs d p x = AreArcs d.names d.arcs → AddsArcs d p x.0 x.1
 
-arcs_on : (d : Draft) (p : Place) (line : LineRead Draft) (x : Draft × Place) → arc_step d p ≡ Ok line → Follows None Arcs line x → Arcs d p x
+pub arcs_on : (d : Draft) (p : Place) (line : LineRead Draft) (x : Draft × Place) → arc_step d p ≡ Ok line → Follows None Arcs line x → Arcs d p x
 arcs_on d p line x e = by line (arc_step_takes d p line e)
   where
     by : (line : LineRead Draft) → TakesArc true d p line → Follows None Arcs line x → Arcs d p x
     by (job_read e q) t k fit = absurd t
     by (more_read e q) t k fit = then_arcs d t.0 e p q x t.1 t.2 fit k
     by (end_read e q) t k fit = no_arcs d p x q fit (k ∙ ap (λ (y : Draft). (y, q)) t.0) t.1
-
-pub arcs_take : (d : Draft) (p : Place) (x : Draft × Place) → AreArcs d.names d.arcs → arcs_from d p ≡ Ok x → AddsArcs d p x.0 x.1
-arcs_take d p x fit e = lines_take arc_step None Arcs arcs_on _ d p x e fit
 
 -- an arc at its place among others
 pub arc_in : (names : List (List ℕ)) (arcs : List Arc) (a : Arc) (more : List Arc) → AreArcs names (arcs ++ a ∷ more)

@@ -18,10 +18,11 @@ use Rattle.msp_grammar.specs.declared.lines.fault.FileFault.TheVariants.{Count, 
 use Rattle.msp_grammar.specs.InstanceText.{line_text, where_wanted, step_fields, curve_fields}
 use Rattle.msp_grammar.specs.lines.Reading.{Place, worded_at, natural_at, integer_at}
 use Rattle.msp_file.specs.instance.Reading.{steps_at, curve_fields_at, steps_in, curve_line_at, curve_at}
-use Rattle.msp_grammar.proofs.reading.LineLaws.{bind_ok, provided_ok, ok_is, Takes, Gets, IsField, worded_takes, worded_again, reads, bind_again, provided_again}
-use Rattle.msp_grammar.proofs.reading.FieldLaws.{natural_takes, natural_again, natural_field, integer_takes, integer_again, integer_field}
+use Rattle.msp_grammar.proofs.reading.LineLaws.{bind_ok, provided_ok, ok_is, Takes, Gets, IsField, worded_takes, worded_again, bind_again, provided_again}
+use Rattle.msp_grammar.proofs.reading.FieldLaws.{wide_takes, wide_again, natural_field, signed_takes, signed_again, integer_field}
 use Rattle.msp_file.proofs.instances.KeyLaws.{limit}
-use Rattle.msp_file.proofs.instances.NeedLaws.{two_parts, word_field}
+use Rattle.msp_grammar.proofs.reading.CostLaws.{plain_word}
+use Rattle.msp_file.proofs.instances.NeedLaws.{two_parts, none_takes, none_again}
 
 -- A step in range.
 abbrev IsStep : Step → Type 0
@@ -37,8 +38,8 @@ steps_takes at steps (w ∷ v ∷ ws) after e =
     let b = bind_ok (natural_at at what.Add 0 GREATEST v) _ after a.2 in
     let next : Step = record { above = a.0; add = b.0 } in
     let r = steps_takes at (steps ++ next ∷ []) ws after b.2 in
-    let t = natural_takes at what.Above 0 GREATEST w a.0 limit a.1 in
-    let u = natural_takes at what.Add 0 GREATEST v b.0 limit b.1 in
+    let t = wide_takes at what.Above 0 GREATEST w a.0 limit a.1 in
+    let u = wide_takes at what.Add 0 GREATEST v b.0 limit b.1 in
     (next ∷ r.0, r.1 ∙ append_assoc steps (next ∷ []) r.0, two_parts t.0 (two_parts u.0 r.2), All-cons IsStep next r.0 (t.2, u.2) r.3)
 
 pub steps_again : (at : ℕ) (steps more : List Step) → All IsStep more → steps_at at steps (flat_map step_fields more) ≡ Ok (steps ++ more)
@@ -46,8 +47,8 @@ unfolding steps_at
 steps_again at steps [] h = ap Ok (sym (append-nil steps))
 steps_again at steps (s ∷ more) h =
     let first = All-head IsStep s more h in
-    bind_again _ _ _ _ (natural_again at what.Above 0 GREATEST s.above limit (omega arith) first.0) (
-    bind_again _ _ _ _ (natural_again at what.Add 0 GREATEST s.add limit (omega arith) first.1) (
+    bind_again _ _ _ _ (wide_again at what.Above 0 GREATEST s.above limit (omega arith) first.0) (
+    bind_again _ _ _ _ (wide_again at what.Add 0 GREATEST s.add limit (omega arith) first.1) (
     steps_again at (steps ++ s ∷ []) more (All-tail IsStep s more h)
     ∙ ap Ok (append_assoc steps (s ∷ []) more)))
 
@@ -75,8 +76,8 @@ curve_fields_takes at w u ws v e =
     let a = bind_ok (natural_at at what.Slope 0 GREATEST w) _ v e in
     let b = bind_ok (integer_at at what.Base GREATEST u) _ v a.2 in
     let d = bind_ok (steps_at at [] ws) _ v b.2 in
-    let t = natural_takes at what.Slope 0 GREATEST w a.0 limit a.1 in
-    let r = integer_takes at what.Base GREATEST u b.0 limit b.1 in
+    let t = wide_takes at what.Slope 0 GREATEST w a.0 limit a.1 in
+    let r = signed_takes at what.Base GREATEST u b.0 limit b.1 in
     let s = steps_takes at [] ws d.0 d.1 in
     let made : Curve = record { slope = a.0; base = b.0; steps = d.0 } in
     let rest : ws ≡ flat_map step_fields d.0 = s.2 ∙ ap (flat_map step_fields) (sym s.1) in
@@ -86,8 +87,8 @@ curve_fields_takes at w u ws v e =
 curve_fields_again : (at : ℕ) (v : Curve) → AreInRange v → curve_fields_at at (curve_words v) ≡ Ok v
 unfolding curve_fields_at
 curve_fields_again at v h =
-    bind_again _ _ _ _ (natural_again at what.Slope 0 GREATEST v.slope limit (omega arith) h.slope) (
-    bind_again _ _ _ _ (integer_again at what.Base GREATEST v.base limit h.base) (
+    bind_again _ _ _ _ (wide_again at what.Slope 0 GREATEST v.slope limit (omega arith) h.slope) (
+    bind_again _ _ _ _ (signed_again at what.Base GREATEST v.base limit h.base) (
     bind_again _ _ _ _ (steps_again at [] v.steps h.steps) refl))
 
 -- a line of at least two fields
@@ -115,7 +116,7 @@ curve_line_takes p x e =
 curve_line_again : (at : ℕ) (v : Curve) (rest : List ℕ) → IsCurve text_limits v → Gets (curve_line_at (record { at = at; rest = line_text (curve_fields v) ++ rest })) v rest
 unfolding curve_line_at
 curve_line_again at v rest h =
-    let fields : AllByRecursion IsField (curve_fields v) = (word_field (codes "curve") refl refl, (natural_field v.slope h.slope, (integer_field v.base h.base, steps_fields v.steps h.steps))) in
+    let fields : AllByRecursion IsField (curve_fields v) = (plain_word (codes "curve") refl refl, (natural_field v.slope h.slope, (integer_field v.base h.base, steps_fields v.steps h.steps))) in
     let line = worded_again (codes "curve") (curve_words v) at rest fields in
     let counted = length-steps v.steps in (
       line.0,
@@ -137,26 +138,20 @@ curve_line_again at v rest h =
 abbrev pub curve_line : Crit → Curve → List ℕ
 curve_line crit v = where_wanted (uses_curve crit) (line_text (curve_fields v))
 
-none_takes : (p : Place) (x : Curve × Place) → reads (no_curve, p) ≡ Ok x → Takes p [] x.1 × (x.0 ≡ no_curve)
-none_takes p x e = subst (λ (y : Curve × Place). Takes p [] y.1 × (y.0 ≡ no_curve)) (ok_is (no_curve, p) x e) (refl, refl)
-
 curve_by_takes : (curved : Bool) (p : Place) (x : Curve × Place) → (if curved then curve_line_at p else Ok (no_curve, p)) ≡ Ok x
     → Takes p (where_wanted curved (line_text (curve_fields x.0))) x.1 × HasCurve text_limits curved x.0
 curve_by_takes true p x e = curve_line_takes p x e
-curve_by_takes false p x e = none_takes p x e
+curve_by_takes false p x e = none_takes no_curve p x e
 
 pub curve_takes : (crit : Crit) (p : Place) (x : Curve × Place) → curve_at crit p ≡ Ok x → Takes p (curve_line crit x.0) x.1 × HasCurve text_limits (uses_curve crit) x.0
 unfolding curve_at
 curve_takes crit p x e = curve_by_takes (uses_curve crit) p x e
 
-none_again : (at : ℕ) (v : Curve) (rest : List ℕ) → v ≡ no_curve → Gets (reads (no_curve, record { at = at; rest = rest })) v rest
-none_again at v rest e = (at, ap (λ c. reads (c, record { at = at; rest = rest })) (sym e))
-
 curve_by_again : (curved : Bool) (at : ℕ) (v : Curve) (rest : List ℕ) → HasCurve text_limits curved v
     → Gets {A = Curve} (if curved then curve_line_at (record { at = at; rest = where_wanted curved (line_text (curve_fields v)) ++ rest }) else Ok
     (no_curve, record { at = at; rest = where_wanted curved (line_text (curve_fields v)) ++ rest })) v rest
 curve_by_again true at v rest h = curve_line_again at v rest h
-curve_by_again false at v rest h = none_again at v rest h
+curve_by_again false at v rest h = none_again no_curve v at rest h
 
 pub curve_again : (crit : Crit) (at : ℕ) (v : Curve) (rest : List ℕ) → HasCurve text_limits (uses_curve crit) v → Gets (curve_at crit (record { at = at; rest = curve_line crit v ++ rest })) v rest
 unfolding curve_at

@@ -1,9 +1,9 @@
 -- Whether a condition holds can be told, for the conditions of a class that a text can break.
-use Rattle.std.proofs.Common.{◌≡◌, ◌≢◌, ℕ, zero, suc, ◌+◌, ◌-◌, ◌*◌, ◌/◌, ◌%◌, ◌||◌, ◌<◌, ◌≤◌, ◌⊎◌, inl, inr, ◌==◌, true, false, Bool}
+use Rattle.std.proofs.Common.{◌≡◌, ◌≢◌, ℕ, zero, suc, ◌+◌, ◌-◌, ◌*◌, ◌/◌, ◌%◌, ◌<◌, ◌≤◌, ◌⊎◌, inl, inr, ◌==◌, true, false, Bool}
 use Rattle.std.proofs.Common.{List, [], ◌∷◌, length, get_or, All, Any, refl, sym, ap, ◌∙◌, subst, arith}
 use Rattle.std.specs.List.{AllAdjacentBelow, list_all}
 use Rattle.std.proofs.Math.Nat.{div-add-mod, mul-mod_left}
-use Rattle.std.proofs.lemmas.Bool.{cases_Bool, cases_lt, eqb-true, eqb-false, eq-eqb, and_parts, and_from, or_cases}
+use Rattle.std.proofs.lemmas.Bool.{cases_Bool, cases_lt, eqb-true, eqb-false, eq-eqb, and_parts, and_from, or_cases, or_left, or_right}
 use Rattle.std.proofs.lemmas.List.{get_or_default}
 use Rattle.std.proofs.lemmas.List.Elements.{All-nil, All-cons, All-head, All-tail}
 use Rattle.msp_class.specs.Env.{kind_of, most_operations}
@@ -35,9 +35,6 @@ unless (inr n) = inl n
 
 pub le_told : (m n : ℕ) → Told (m ≤ n)
 le_told m n = elim (cases_lt n m) [ inl h ↦ inr (λ k. absurd (omega arith)) | inr h ↦ inl h ]
-
-pub lt_told : (m n : ℕ) → Told (m < n)
-lt_told m n = elim (cases_lt m n) [ inl h ↦ inl h | inr h ↦ inr (λ k. absurd (omega arith)) ]
 
 pub equal_told : (m n : ℕ) → Told (m ≡ n)
 equal_told m n = elim (cases_Bool (m == n)) [ inl e ↦ inl (eqb-true m n e) | inr e ↦ inr (eqb-false m n e) ]
@@ -105,14 +102,6 @@ multiple_found (suc n) speeds e = elim (or_cases (list_all (λ s. suc n % s == 0
   | inr before ↦ let f = multiple_found n speeds before in let less = f.2 in (f.0, f.1, omega arith, f.3)
 ]
 
-pub or_right : (a b : Bool) → b ≡ true → (a || b) ≡ true
-or_right true b h = refl
-or_right false b h = h
-
-pub or_left : (a b : Bool) → a ≡ true → (a || b) ≡ true
-or_left true b h = refl
-or_left false b h = absurd cc
-
 multiple_there : (n m : ℕ) (speeds : List ℕ) → 1 ≤ m → m ≤ n → AreDivisors speeds m → has_multiple n speeds ≡ true
 unfolding has_multiple
 multiple_there zero m speeds some few h = absurd (omega arith)
@@ -144,7 +133,7 @@ moves_told needs = elim (each_told (λ k. (need_at needs k).machine ≢ (need_at
 ]
 
 route_told : (most m : ℕ) (needs : List Need) → Told (IsRoute most m needs)
-route_told most m needs = elim (both (le_told 1 (length needs)) (both (le_told (length needs) most) (both (all_told (λ n. n.machine < m) (λ n. lt_told n.machine m) needs) (moves_told needs)))) [
+route_told most m needs = elim (both (le_told 1 (length needs)) (both (le_told (length needs) most) (both (all_told (λ n. n.machine < m) (λ n. le_told _ m) needs) (moves_told needs)))) [
   | inl h ↦ inl (record { some = h.0; few = h.1.0; machines = h.1.1.0; moves = h.1.1.1 })
   | inr absent ↦ inr (λ h. absent (h.some, (h.few, (h.machines, h.moves))))
 ]

@@ -1,5 +1,5 @@
 -- What was read belongs to its class, or has a first fault.
-use Rattle.std.proofs.Common.{◌≡◌, ◌≢◌, ℕ, ◌<◌, ◌≤◌, ◌⊎◌, inl, inr, List, [], length, get_or, Option, Result, Ok, All, refl, subst, arith}
+use Rattle.std.proofs.Common.{◌≡◌, ◌≢◌, ℕ, ◌<◌, ◌≤◌, ◌⊎◌, inl, inr, List, [], length, get_or, Result, Ok, All, refl, subst, arith}
 use Rattle.std.proofs.lemmas.Option.{slice_get-get_or}
 use Rattle.std.proofs.lemmas.List.{get_or_default}
 use Rattle.msp_instance.specs.declared.membership.ClassFault.{ClassFault}
@@ -30,45 +30,40 @@ none_sooner s t p q r (inl less) = absurd (omega arith)
 none_sooner s t p q r (inr (a, inl less)) = absurd (omega arith)
 none_sooner s t p q r (inr (a, inr (b, less))) = absurd (omega arith)
 
-class_is : (x : ClassFault) (name : Option (List ℕ)) → Class x name ≢ Memory
-class_is x name m = cc
-
-cycle_is : (j : ℕ) (name : List ℕ) → Cycle j name ≢ Memory
-cycle_is j name m = cc
-
 module _ (b : List ℕ) (f : Filed) (t : IsReadText b f) where
-  abbrev NeedsAt : ℕ → Type 0
+  abbrev pub NeedsAt : ℕ → Type 0
   NeedsAt j = HasNeeds text_limits f.instance (job_at f.instance j).needs
 
-  abbrev DegreeAt : ℕ → Type 0
+  abbrev pub DegreeAt : ℕ → Type 0
   DegreeAt j = HasDegree f.instance.class.order f.instance.arcs j
 
   no_jobs : ¬ (1 ≤ length f.instance.jobs) → IsFirstFault f.instance class_fault.Jobs
   no_jobs none = record { within = tt; broken = λ h. none h.0; first = λ g w s. absurd (none_sooner (turn_of g) (turn_of class_fault.Jobs) refl refl refl s) }
 
-  -- the conditions whose turn comes before that of a fault
-  earlier : (fault : ClassFault) → 1 ≤ length f.instance.jobs → ((k : ℕ) → k < length f.instance.jobs → IsSooner (turn_of (class_fault.Need k)) (turn_of fault) → NeedsAt k)
-      → ((k : ℕ) → IsSooner (turn_of (class_fault.Unit k)) (turn_of fault) → NeedsAt 0) → ((k : ℕ) → IsSooner (turn_of (class_fault.Degree k)) (turn_of fault) → DegreeAt k)
-      → (g : ClassFault) → IsOf f.instance g → IsSooner (turn_of g) (turn_of fault) → Condition f.instance g
-  earlier fault some need first degree class_fault.Jobs w s = (some, t.few)
-  earlier fault some need first degree class_fault.Machines w s = t.machines
-  earlier fault some need first degree class_fault.Speeds w s = t.speeds
-  earlier fault some need first degree class_fault.Multiple w s = t.multiple
-  earlier fault some need first degree (class_fault.Need k) w s = need k w s
-  earlier fault some need first degree (class_fault.Unit k) w s = times_read b f t k w (first k s)
-  earlier fault some need first degree (class_fault.Head k) w s = (t.jobs k no_job w).release
-  earlier fault some need first degree (class_fault.Due k) w s = (t.jobs k no_job w).due
-  earlier fault some need first degree (class_fault.Weight k) w s = (t.jobs k no_job w).weight
-  earlier fault some need first degree (class_fault.Curve k) w s = (t.jobs k no_job w).curve
-  earlier fault some need first degree class_fault.Arcs w s = t.arcs
-  earlier fault some need first degree (class_fault.Arc at) w s = HasArc-from_all f.instance at t.ends t.once w
-  earlier fault some need first degree (class_fault.Degree k) w s = degree k s
+  -- the conditions of these faults, by those that reading alone does not give
+  pub earlier : (S : ClassFault → Type 0) → (S class_fault.Jobs → 1 ≤ length f.instance.jobs) → ((k : ℕ) → k < length f.instance.jobs → S (class_fault.Need k) → NeedsAt k)
+      → ((k : ℕ) → S (class_fault.Unit k) → NeedsAt 0) → ((k : ℕ) → S (class_fault.Degree k) → DegreeAt k)
+      → (g : ClassFault) → IsOf f.instance g → S g → Condition f.instance g
+  earlier S some need first degree class_fault.Jobs w s = (some s, t.few)
+  earlier S some need first degree class_fault.Machines w s = t.machines
+  earlier S some need first degree class_fault.Speeds w s = t.speeds
+  earlier S some need first degree class_fault.Multiple w s = t.multiple
+  earlier S some need first degree (class_fault.Need k) w s = need k w s
+  earlier S some need first degree (class_fault.Unit k) w s = times_read b f t k w (first k s)
+  earlier S some need first degree (class_fault.Head k) w s = (t.jobs k no_job w).release
+  earlier S some need first degree (class_fault.Due k) w s = (t.jobs k no_job w).due
+  earlier S some need first degree (class_fault.Weight k) w s = (t.jobs k no_job w).weight
+  earlier S some need first degree (class_fault.Curve k) w s = (t.jobs k no_job w).curve
+  earlier S some need first degree class_fault.Arcs w s = t.arcs
+  earlier S some need first degree (class_fault.Arc at) w s = HasArc-from_all f.instance at t.ends t.once w
+  earlier S some need first degree (class_fault.Degree k) w s = degree k s
 
   need_broken : (j : ℕ) → j < length f.instance.jobs → ¬ NeedsAt j → ((k : ℕ) → k < j → NeedsAt k) → IsFirstFault f.instance (class_fault.Need j)
   need_broken j within broken before = record {
     within = within;
     broken = broken;
-    first = earlier (class_fault.Need j) (omega arith) (λ k w s. before k (numbers_in_order (turn_of (class_fault.Need k)) (turn_of (class_fault.Need j)) s refl refl))
+    first = earlier (λ g. IsSooner (turn_of g) (turn_of (class_fault.Need j))) (λ s. omega arith)
+        (λ k w s. before k (numbers_in_order (turn_of (class_fault.Need k)) (turn_of (class_fault.Need j)) s refl refl))
         (λ k s. let less = numbers_in_order (turn_of (class_fault.Unit k)) (turn_of (class_fault.Need j)) s refl refl in before 0 (omega arith))
         (λ k s. let late = parts_in_order (turn_of (class_fault.Degree k)) (turn_of (class_fault.Need j)) s in absurd (omega (arith, late)));
   }
@@ -86,7 +81,7 @@ module _ (b : List ℕ) (f : Filed) (t : IsReadText b f) where
     degree_broken j within broken before = record {
       within = within;
       broken = broken;
-      first = earlier (class_fault.Degree j) some (λ k w s. needs k w) (λ k s. needs 0 some)
+      first = earlier (λ g. IsSooner (turn_of g) (turn_of (class_fault.Degree j))) (λ s. some) (λ k w s. needs k w) (λ k s. needs 0 some)
           (λ k s. before k (numbers_in_order (turn_of (class_fault.Degree k)) (turn_of (class_fault.Degree j)) s refl refl));
     }
 
@@ -120,14 +115,14 @@ module _ (b : List ℕ) (f : Filed) (t : IsReadText b f) where
   class_or_fault R h = elim fault_or_meets [
     | inl x ↦
         let name = faulty_name f.names x.0 in
-        inr (Class x.0 name, (record { filed = f; reads = h; first = x.1; named = refl }, class_is x.0 name))
+        inr (Class x.0 name, (record { filed = f; reads = h; first = x.1; named = refl }, λ m. absurd cc))
     | inr conditions ↦ elim (order_or_cycle f.instance t.ends) [
       | inl order ↦ inl (record { conditions = conditions; acyclic = order })
       | inr j ↦
           let name = get_or f.names j.0 [] in
           inr (
             Cycle j.0 name,
-            (record { filed = f; reads = h; conditions = conditions; least = j.1; named = slice_get-get_or f.names j.0 [] (omega (arith, t.one_each, j.1.inside)) }, cycle_is j.0 name),
+            (record { filed = f; reads = h; conditions = conditions; least = j.1; named = slice_get-get_or f.names j.0 [] (omega (arith, t.one_each, j.1.inside)) }, λ m. absurd cc),
           )
     ]
   ]

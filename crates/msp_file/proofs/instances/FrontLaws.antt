@@ -1,5 +1,5 @@
 -- What is read at the front of a text is the text of its instance, and is read again.
-use Rattle.std.proofs.Common.{◌≡◌, ◌≢◌, AllPairs, ℕ, ◌-◌, ◌≤◌, List, length, Ok, refl, sym, ◌∙◌, ap, arith, length-append}
+use Rattle.std.proofs.Common.{◌≡◌, ℕ, ◌-◌, ◌≤◌, List, length, Ok, refl, sym, ◌∙◌, ap, arith, length-append}
 use Rattle.msp_instance.specs.declared.Instance.{Instance}
 use Rattle.msp_instance.specs.Conditions.{InClass}
 use Rattle.msp_grammar.specs.declared.lines.fault.FileFault.{FileFault}
@@ -7,7 +7,7 @@ use Rattle.msp_grammar.specs.declared.lines.fault.FileFault.TheVariants.{Memory}
 use Rattle.msp_file.specs.declared.instance.read.Front.{Front}
 use Rattle.msp_grammar.specs.declared.filed.Filed.{Filed}
 use Rattle.msp_grammar.specs.lines.Reading.{Place}
-use Rattle.msp_file.specs.instance.Reading.{lines_at, start_of}
+use Rattle.msp_file.specs.instance.Reading.{lines_at, start_of, ReadsFront}
 use Rattle.msp_file.specs.instance.Steps.{IsFaultOfFiled}
 use Rattle.msp_file.specs.instance.Answers.{IsFrontText, IsFrontFaultOf}
 use Rattle.msp_grammar.specs.lines.Answers.{Fails}
@@ -15,7 +15,7 @@ use Rattle.msp_file.proofs.instances.Readings.{front_fails, front_done}
 use Rattle.msp_grammar.proofs.reading.LineLaws.{reads, ok_is}
 use Rattle.msp_file.proofs.instances.LineCounts.{feeds, feeds-append, line_after}
 use Rattle.msp_file.proofs.instances.TextLaws.{lines_take, front_again}
-use Rattle.msp_file.proofs.instances.AnswerLemmas.{fault_of_front, fault_of_filed_front}
+use Rattle.msp_file.proofs.instances.AnswerLemmas.{fault_of_front, fault_of_read}
 use Rattle.msp_file.proofs.instances.AnswerLaws.{filed, instance_text_of, again_front_fault}
 
 -- what is left is within the text
@@ -77,8 +77,4 @@ pub again_front : (b : List ℕ) (e : FileFault) → IsFrontFaultOf b e
 again_front b e k i names used line h = fails_front e (filed i names) used line (again_front_fault b e k i names used line h)
 
 pub front_fault_of_filed : (b : List ℕ) (f : Filed) (q : Place) (e : FileFault) → lines_at (start_of b) ≡ Ok (f, q) → IsFaultOfFiled f e → IsFrontFaultOf b e
-front_fault_of_filed b f q e h k = fault_of_filed_front b f e (front_done b f q h) k
-
--- no arc stands twice in what is read
-pub once_of_lines : (b : List ℕ) (f : Filed) (q : Place) → lines_at (start_of b) ≡ Ok (f, q) → AllPairs (λ x y. x ≢ y) f.instance.arcs
-once_of_lines b f q h = (lines_take (start_of b) (f, q) h).2.once
+front_fault_of_filed b f q e h k = fault_of_read (ReadsFront b) f e (front_done b f q h) k

@@ -1,14 +1,15 @@
 -- The lines of the head: what is read is the head of an instance, and the head of an instance is read as its parts.
-use Rattle.std.proofs.Common.{◌≡◌, ℕ, suc, ◌≤◌, Bool, true, ◌==◌, nat_lt, List, [], ◌∷◌, ◌++◌, length, map, Option, Some, None, MatchOption, Result, Ok, Err, All, Contains}
+use Rattle.std.proofs.Common.{◌≡◌, ℕ, ◌≤◌, Bool, true, ◌==◌, nat_lt, List, [], ◌∷◌, ◌++◌, length, map, Option, Some, None, MatchOption, Result, Ok, Err, All, Contains}
 use Rattle.std.proofs.Common.{bytes_eq, is_none, refl, sym, ap, subst, ◌∙◌, append_assoc, append-nil, arith, codes, decimal, if◌then◌else◌}
 use Rattle.std.specs.Prelude.{⊤, false}
 use Rattle.std.specs.List.{AllByRecursion, list_all, join_with_byte}
 use Rattle.std.proofs.lemmas.Bool.{eqb-true, eq-eqb, and_from}
+use Rattle.std.proofs.lemmas.List.{length-map}
 use Rattle.std.proofs.lemmas.List.Elements.{All-contains, All-nil, All-cons, All-head, All-tail}
 use Rattle.std.proofs.lemmas.List.Folds.{list_all-append}
 use Rattle.std.proofs.lemmas.List.Sums.{AllPass-from_list_all}
 use Rattle.msp_class.specs.declared.environments.EnvKind.{EnvKind}
-use Rattle.msp_class.specs.declared.environments.EnvKind.TheVariants.{Identical, Uniform, Unrelated, OpenShop, FlowShop, JobShop}
+use Rattle.msp_class.specs.declared.environments.EnvKind.TheVariants.{Uniform}
 use Rattle.msp_class.specs.declared.class.Class.{Class}
 use Rattle.msp_class.specs.declared.class.Env.{Env}
 use Rattle.msp_class.specs.declared.class.Times.{Times}
@@ -34,7 +35,9 @@ use Rattle.msp_file.specs.instance.Reading.{version_at, spelled_class, class_in,
 use Rattle.msp_job_name.proofs.NameLists.{same_bytes}
 use Rattle.msp_grammar.proofs.reading.LineLaws.{bind_ok, provided_ok, ok_is, Takes, Gets, IsField, line_takes, line_again, fields_join, fields_again, fields_line_again, worded_takes, worded_again}
 use Rattle.msp_file.proofs.instances.KeyLaws.{IsKeyed}
-use Rattle.msp_grammar.proofs.reading.FieldLaws.{lacks_others, natural_takes, natural_again, natural_field, number_line_takes, number_line_again}
+use Rattle.msp_file.proofs.instances.NeedLaws.{decimals_fields, none_takes, none_again}
+use Rattle.msp_grammar.proofs.reading.CostLaws.{plain_word}
+use Rattle.msp_grammar.proofs.reading.FieldLaws.{lacks_others, wide_takes, wide_again, number_line_takes, number_line_again}
 
 -- ---- the version
 
@@ -62,34 +65,24 @@ IsDark w = list_all is_dark w ≡ true
 table_dark : {A : Type 0} (table : List (List ℕ × A)) (w : List ℕ) (x : A) → list_all (λ row. list_all is_dark row.0) table ≡ true → Contains table (w, x) → IsDark w
 table_dark table w x h m = All-contains (λ row. IsDark row.0) table (w, x) (AllPass-from_list_all (λ row. list_all is_dark row.0) table h) m
 
-env_dark : list_all (λ row. list_all is_dark row.0) env_texts ≡ true
-unfolding env_texts
-env_dark = refl
-
-item_dark : list_all (λ row. list_all is_dark row.0) item_texts ≡ true
-unfolding item_texts
-item_dark = refl
-
-crit_dark : list_all (λ row. list_all is_dark row.0) crit_texts ≡ true
-unfolding crit_texts
-crit_dark = refl
-
 append_dark : (v w : List ℕ) → IsDark v → IsDark w → IsDark (v ++ w)
 append_dark v w h k = list_all-append is_dark v w ∙ and_from (list_all is_dark v) (list_all is_dark w) h k
 
 items_dark : (items : List (List ℕ × Item)) → All (Contains item_texts) items → IsDark (join_with_byte comma (map (λ w. w.0) items))
+unfolding item_texts
 items_dark [] h = refl
-items_dark (v ∷ []) h = table_dark item_texts v.0 v.1 item_dark (All-head (Contains item_texts) v [] h)
+items_dark (v ∷ []) h = table_dark item_texts v.0 v.1 refl (All-head (Contains item_texts) v [] h)
 items_dark (v ∷ w ∷ ws) h =
     append_dark v.0 (comma ∷ join_with_byte comma (map (λ u. u.0) (w ∷ ws)))
-    (table_dark item_texts v.0 v.1 item_dark (All-head (Contains item_texts) v (w ∷ ws) h)) (items_dark (w ∷ ws) (All-tail (Contains item_texts) v (w ∷ ws) h))
+    (table_dark item_texts v.0 v.1 refl (All-head (Contains item_texts) v (w ∷ ws) h)) (items_dark (w ∷ ws) (All-tail (Contains item_texts) v (w ∷ ws) h))
 
 name_dark : (spelling : List ℕ) (c : Class) → NameOf spelling c → IsDark spelling
+unfolding env_texts crit_texts
 name_dark spelling c h =
     let items : List ℕ = join_with_byte comma (map (λ w. w.0) h.items) in
-    let crit : IsDark (bar ∷ h.crit) = table_dark crit_texts h.crit c.crit crit_dark h.crit_spelled in
+    let crit : IsDark (bar ∷ h.crit) = table_dark crit_texts h.crit c.crit refl h.crit_spelled in
     let back : IsDark (bar ∷ (items ++ (bar ∷ h.crit))) = append_dark items (bar ∷ h.crit) (items_dark h.items h.items_spelled) crit in
-    subst IsDark (sym h.written) (append_dark h.env (bar ∷ (items ++ (bar ∷ h.crit))) (table_dark env_texts h.env (plain_env c.env) env_dark h.env_spelled) back)
+    subst IsDark (sym h.written) (append_dark h.env (bar ∷ (items ++ (bar ∷ h.crit))) (table_dark env_texts h.env (plain_env c.env) refl h.env_spelled) back)
 
 -- a name of a class can stand in a line
 pub class_field : (spelling : List ℕ) (c : Class) → NameOf spelling c → IsField spelling
@@ -142,9 +135,6 @@ fixed_in env.JShort = tt
 fixed_in env.J = tt
 fixed_in _ = (omega arith, omega arith)
 
-machines_line_takes : (p : Place) (x : ℕ × Place) → machines_line_at p ≡ Ok x → Takes p (line_text (codes "machines" ∷ decimal x.0 ∷ [])) x.1 × ((1 ≤ x.0) × (x.0 ≤ MOST_MACHINES))
-machines_line_takes p x h = number_line_takes (codes "machines") what.Machines MOST_MACHINES p x (omega arith) h
-
 -- the machines by what the environment fixes
 abbrev machines_from : Option ℕ → Place → Result (ℕ × Place) FileFault
 machines_from o p = elim o [ Some machines ↦ Ok (machines, p) | None ↦ machines_line_at p ]
@@ -159,12 +149,7 @@ machines_takes e p x h = by (fixed_machines e) (fixed_in e) h
     by : (o : Option ℕ) → MatchOption o ⊤ (λ n. (1 ≤ n) × (n ≤ MOST_MACHINES)) → machines_from o p ≡ Ok x
         → Takes p (machines_line o x.0) x.1 × ((1 ≤ x.0) × (x.0 ≤ MOST_MACHINES) × MatchOption o ⊤ (λ n. x.0 ≡ n))
     by (Some m) within h = subst (λ (y : ℕ × Place). (p.rest ≡ y.1.rest) × ((1 ≤ y.0) × (y.0 ≤ MOST_MACHINES) × (y.0 ≡ m))) (ok_is (m, p) x h) (refl, (within.0, within.1, refl))
-    by None within h = let t = machines_line_takes p x h in (t.0, (t.1.0, t.1.1, tt))
-
-machines_line_again : (at machines : ℕ) (rest : List ℕ) → 1 ≤ machines
-    → machines ≤ MOST_MACHINES → Gets (machines_line_at (record { at = at; rest = line_text (codes "machines" ∷ decimal machines ∷ []) ++ rest })) machines rest
-machines_line_again at machines rest low high =
-    number_line_again (codes "machines") what.Machines MOST_MACHINES at machines rest (record { no_space = refl; no_line_feed = refl }) (omega arith) low high
+    by None within h = let t = number_line_takes (codes "machines") what.Machines MOST_MACHINES p x (omega arith) h in (t.0, (t.1.0, t.1.1, tt))
 
 pub machines_again : (i : Instance) (at : ℕ) (rest : List ℕ) → HasMachines i → Gets (machines_at i.class.env (record { at = at; rest = machines_text i.class.env i.machines ++ rest })) i.machines rest
 unfolding machines_at machines_text
@@ -172,7 +157,7 @@ machines_again i at rest h = by (fixed_machines i.class.env) h.2
   where
     by : (o : Option ℕ) → MatchOption o ⊤ (λ n. i.machines ≡ n) → Gets (machines_from o (record { at = at; rest = machines_line o i.machines ++ rest })) i.machines rest
     by (Some m) is = (at, ap (λ n. Ok (n, record { at = at; rest = rest })) (sym is))
-    by None is = machines_line_again at i.machines rest h.0 h.1
+    by None is = number_line_again _ _ _ at i.machines rest (plain_word (codes "machines") refl refl) (omega arith) h.0 h.1
 
 -- ---- the speeds
 
@@ -186,7 +171,7 @@ unfolding speeds_in
 speeds_fields_take at so_far [] all e = ([], sym (ok_is so_far all e) ∙ sym (append-nil so_far), refl, All-nil IsSpeed)
 speeds_fields_take at so_far (w ∷ ws) all e =
     let s = bind_ok (natural_at at what.Speed 1 GREATEST_SPEED w) (λ speed. speeds_in at (so_far ++ speed ∷ []) ws) all e in
-    let n = natural_takes at what.Speed 1 GREATEST_SPEED w s.0 (omega arith) s.1 in
+    let n = wide_takes at what.Speed 1 GREATEST_SPEED w s.0 (omega arith) s.1 in
     let next = speeds_fields_take at (so_far ++ s.0 ∷ []) ws all s.2 in
     (s.0 ∷ next.0, next.1 ∙ append_assoc so_far (s.0 ∷ []) next.0, ap (λ v. v ∷ ws) n.0 ∙ ap (λ vs. decimal s.0 ∷ vs) next.2, All-cons IsSpeed s.0 next.0 (n.1, n.2) next.3)
 
@@ -195,15 +180,7 @@ unfolding speeds_in
 speeds_fields_again at so_far [] h = ap Ok (sym (append-nil so_far))
 speeds_fields_again at so_far (s ∷ ss) h =
     let range = All-head IsSpeed s ss h in
-    rw (natural_again at what.Speed 1 GREATEST_SPEED s (omega arith) range.0 range.1) (speeds_fields_again at (so_far ++ s ∷ []) ss (All-tail IsSpeed s ss h) ∙ ap Ok (append_assoc so_far (s ∷ []) ss))
-
-length_decimals : (speeds : List ℕ) → length (map decimal speeds) ≡ length speeds
-length_decimals [] = refl
-length_decimals (s ∷ ss) = ap suc (length_decimals ss)
-
-decimal_fields : (speeds : List ℕ) → All IsSpeed speeds → AllByRecursion IsField (map decimal speeds)
-decimal_fields [] h = tt
-decimal_fields (s ∷ ss) h = let range = All-head IsSpeed s ss h in let high : s ≤ GREATEST_SPEED = range.1 in (natural_field s (omega arith), decimal_fields ss (All-tail IsSpeed s ss h))
+    rw (wide_again at what.Speed 1 GREATEST_SPEED s (omega arith) range.0 range.1) (speeds_fields_again at (so_far ++ s ∷ []) ss (All-tail IsSpeed s ss h) ∙ ap Ok (append_assoc so_far (s ∷ []) ss))
 
 speeds_line_takes : (machines : ℕ) (p : Place) (x : List ℕ × Place) → speeds_line_at machines p ≡ Ok x
     → Takes p (line_text (codes "speeds" ∷ map decimal x.0)) x.1 × ((length x.0 ≡ machines) × All IsSpeed x.0)
@@ -217,12 +194,9 @@ speeds_line_takes machines p x h =
     let f = speeds_fields_take p.at [] fields speeds s.1 in
     let is : fields ≡ map decimal speeds = f.2 ∙ ap (map decimal) (sym f.1) in
     let range : All IsSpeed speeds = subst (All IsSpeed) (sym f.1) f.3 in
-    let count : length speeds ≡ machines = sym (length_decimals speeds) ∙ ap length (sym is) ∙ eqb-true (length fields) machines t.0 in
+    let count : length speeds ≡ machines = sym (length-map speeds decimal) ∙ ap length (sym is) ∙ eqb-true (length fields) machines t.0 in
     let text : Takes p (line_text (codes "speeds" ∷ map decimal speeds)) l.0.1 = subst (λ ws. Takes p (line_text (codes "speeds" ∷ ws)) l.0.1) is (worded_takes (codes "speeds") p l.0 l.1) in
     subst (λ y. Takes p (line_text (codes "speeds" ∷ map decimal y.0)) y.1 × ((length y.0 ≡ machines) × All IsSpeed y.0)) (ok_is (speeds, l.0.1) x s.2) (text, (count, range))
-
-no_speeds_take : (p : Place) (x : List ℕ × Place) (r : Result (List ℕ × Place) FileFault) → r ≡ Ok x → r ≡ Ok ([], p) → (p.rest ≡ x.1.rest) × (x.0 ≡ [])
-no_speeds_take p x r e f = subst (λ (y : List ℕ × Place). (p.rest ≡ y.1.rest) × (y.0 ≡ [])) (ok_is ([], p) x (sym f ∙ e)) (refl, refl)
 
 pub speeds_takes : (e : Env) (machines : ℕ) (p : Place) (x : List ℕ × Place) → speeds_at e machines p ≡ Ok x → Takes p (speeds_text e x.0) x.1 × HasSpeeds (kind_of e) machines x.0
 unfolding speeds_at speeds_text
@@ -230,20 +204,17 @@ speeds_takes e machines p x h = by (kind_of e) h
   where
     by : (k : EnvKind) → (if has_speeds k then speeds_line_at machines p else Ok ([], p)) ≡ Ok x
         → Takes p (where_wanted (has_speeds k) (line_text (codes "speeds" ∷ map decimal x.0))) x.1 × HasSpeeds k machines x.0
-    by Identical h = no_speeds_take p x (Ok ([], p)) h refl
     by Uniform h = speeds_line_takes machines p x h
-    by Unrelated h = no_speeds_take p x (Ok ([], p)) h refl
-    by OpenShop h = no_speeds_take p x (Ok ([], p)) h refl
-    by FlowShop h = no_speeds_take p x (Ok ([], p)) h refl
-    by JobShop h = no_speeds_take p x (Ok ([], p)) h refl
+    by _ h = none_takes [] p x h
 
 speeds_line_again : (machines at : ℕ) (speeds rest : List ℕ) → length speeds ≡ machines → All IsSpeed speeds
     → Gets (speeds_line_at machines (record { at = at; rest = line_text (codes "speeds" ∷ map decimal speeds) ++ rest })) speeds rest
 unfolding speeds_line_at
 speeds_line_again machines at speeds rest count range =
-    let fields : AllByRecursion IsField (codes "speeds" ∷ map decimal speeds) = (record { no_space = refl; no_line_feed = refl }, decimal_fields speeds range) in
+    let fields : AllByRecursion IsField (codes "speeds" ∷ map decimal speeds) =
+    (record { no_space = refl; no_line_feed = refl }, decimals_fields (λ s. s) speeds (λ k d l. omega (arith, (range k d l).1))) in
     let line = worded_again (codes "speeds") (map decimal speeds) at rest fields in
-    let many : (length (map decimal speeds) == machines) ≡ true = eq-eqb (length (map decimal speeds)) machines (length_decimals speeds ∙ count) in
+    let many : (length (map decimal speeds) == machines) ≡ true = eq-eqb (length (map decimal speeds)) machines (length-map speeds decimal ∙ count) in
     (line.0, rw (line.1, many, speeds_fields_again at [] speeds range) refl)
 
 pub speeds_again : (e : Env) (machines at : ℕ) (speeds rest : List ℕ)
@@ -251,27 +222,17 @@ pub speeds_again : (e : Env) (machines at : ℕ) (speeds rest : List ℕ)
 unfolding speeds_at speeds_text
 speeds_again e machines at speeds rest h = by (kind_of e) h
   where
-    none : speeds ≡ [] → Gets {A = List ℕ} (Ok ([], record { at = at; rest = rest })) speeds rest
-    none is = (at, ap (λ s. Ok (s, record { at = at; rest = rest })) (sym is))
-
     by : (kind : EnvKind) → HasSpeeds kind machines speeds
         → Gets {A = List ℕ} (if has_speeds kind then speeds_line_at machines (record { at = at; rest = where_wanted (has_speeds kind) (line_text (codes "speeds" ∷ map decimal speeds)) ++ rest }) else
         Ok ([], record { at = at; rest = where_wanted (has_speeds kind) (line_text (codes "speeds" ∷ map decimal speeds)) ++ rest })) speeds rest
-    by Identical h = none h
     by Uniform h = speeds_line_again machines at speeds rest h.0 h.1
-    by Unrelated h = none h
-    by OpenShop h = none h
-    by FlowShop h = none h
-    by JobShop h = none h
+    by _ h = none_again [] speeds at rest h
 
 -- ---- the time that all operations share
 
 -- The time that is read: the one of the line, and 1 in classes without it.
 abbrev pub IsShared : Times → ℕ → Type 0
 IsShared t shared = IsKeyed (has_time_line t) 1 GREATEST_EQUAL_TIME shared
-
-time_line_takes : (p : Place) (x : ℕ × Place) → time_line_at p ≡ Ok x → Takes p (line_text (codes "time" ∷ decimal x.0 ∷ [])) x.1 × ((1 ≤ x.0) × (x.0 ≤ GREATEST_EQUAL_TIME))
-time_line_takes p x h = number_line_takes (codes "time") what.Time GREATEST_EQUAL_TIME p x (omega arith) h
 
 abbrev time_by : Bool → Place → Result (ℕ × Place) FileFault
 time_by there p = if there then time_line_at p else Ok (1, p)
@@ -280,21 +241,18 @@ abbrev time_line : Bool → ℕ → List ℕ
 time_line there time = where_wanted there (line_text (codes "time" ∷ decimal time ∷ []))
 
 time_by_takes : (there : Bool) (p : Place) (x : ℕ × Place) → time_by there p ≡ Ok x → Takes p (time_line there x.0) x.1 × IsKeyed there 1 GREATEST_EQUAL_TIME x.0
-time_by_takes true p x h = time_line_takes p x h
-time_by_takes false p x h = subst (λ (y : ℕ × Place). (p.rest ≡ y.1.rest) × (y.0 ≡ 1)) (ok_is (1, p) x h) (refl, refl)
+time_by_takes true p x h = number_line_takes (codes "time") what.Time GREATEST_EQUAL_TIME p x (omega arith) h
+time_by_takes false p x h = none_takes 1 p x h
 
 pub time_takes : (t : Times) (p : Place) (x : ℕ × Place) → time_at t p ≡ Ok x → Takes p (time_text t x.0) x.1 × IsShared t x.0
 unfolding time_at time_text
 time_takes t p x h = time_by_takes (has_time_line t) p x h
 
-time_line_again : (at time : ℕ) (rest : List ℕ)
-    → 1 ≤ time → time ≤ GREATEST_EQUAL_TIME → Gets (time_line_at (record { at = at; rest = line_text (codes "time" ∷ decimal time ∷ []) ++ rest })) time rest
-time_line_again at time rest low high = number_line_again (codes "time") what.Time GREATEST_EQUAL_TIME at time rest (record { no_space = refl; no_line_feed = refl }) (omega arith) low high
-
 time_by_again : (there : Bool) (at time shared : ℕ) (rest : List ℕ) → IsKeyed there 1 GREATEST_EQUAL_TIME shared
     → (there ≡ true → time ≡ shared) → Gets (time_by there (record { at = at; rest = time_line there time ++ rest })) shared rest
-time_by_again true at time shared rest h e = rw (e refl) (time_line_again at shared rest h.0 h.1)
-time_by_again false at time shared rest h e = (at, ap (λ n. Ok (n, record { at = at; rest = rest })) (sym h))
+time_by_again true at time shared rest h e =
+    rw (e refl) (number_line_again _ _ _ at shared rest (plain_word (codes "time") refl refl) (omega arith) h.0 h.1)
+time_by_again false at time shared rest h e = none_again 1 shared at rest h
 
 pub time_again : (t : Times) (at time shared : ℕ) (rest : List ℕ)
     → IsShared t shared → (has_time_line t ≡ true → time ≡ shared) → Gets (time_at t (record { at = at; rest = time_text t time ++ rest })) shared rest

@@ -1,17 +1,17 @@
 -- The lines of a job: what is read is the text of a job, and the text of a job is read as that job.
-use Rattle.std.proofs.Common.{◌≡◌, ℕ, ◌<◌, ◌≤◌, Bool, true, false, ◌&&◌, List, [], ◌∷◌, ◌++◌, length, Ok, Contains, refl, sym, ap, subst, ◌∙◌, codes, arith}
+use Rattle.std.proofs.Common.{◌≡◌, ◌↔◌, ℕ, ◌<◌, ◌≤◌, Bool, true, false, ◌&&◌, List, [], ◌∷◌, ◌++◌, length, Ok, Contains, refl, sym, ap, subst, ◌∙◌, codes, arith}
 use Rattle.std.specs.Prelude.{ℤ, slice_index_or, nat_lt, if◌then◌else◌}
 use Rattle.std.specs.List.{AllByRecursion}
 use Rattle.std.proofs.lemmas.Bool.{lt-ltb, ltb-true}
 use Rattle.std.proofs.lemmas.List.{append_assoc}
 use Rattle.msp_class.specs.declared.environments.EnvKind.{EnvKind}
-use Rattle.msp_class.specs.declared.environments.EnvKind.TheVariants.{Identical, Uniform, Unrelated, OpenShop, FlowShop, JobShop}
+use Rattle.msp_class.specs.declared.environments.EnvKind.TheVariants.{Identical, Uniform}
 use Rattle.msp_class.specs.Env.{kind_of}
 use Rattle.msp_class.specs.Crit.{uses_due, uses_weight, uses_curve}
 use Rattle.msp_class.specs.declared.class.Class.{Class}
 use Rattle.msp_class.specs.declared.class.Env.{Env}
 use Rattle.msp_class.specs.declared.class.Times.{Times}
-use Rattle.msp_class.specs.declared.class.Times.TheVariants.{General, Unit as UnitTimes, Equal}
+use Rattle.msp_class.specs.declared.class.Times.TheVariants.{General}
 use Rattle.msp_instance.specs.declared.Need.{Need}
 use Rattle.msp_instance.specs.declared.Job.{Job}
 use Rattle.msp_instance.specs.declared.Instance.{Instance}
@@ -28,8 +28,9 @@ use Rattle.msp_grammar.specs.lines.Reading.{Place}
 use Rattle.msp_file.specs.instance.Reading.{job_line_at, needs_at, curve_at, job_of, time_in, job_at_line}
 use Rattle.msp_grammar.proofs.reading.LineLaws.{bind_ok, provided_ok, ok_is, Takes, Takes-then, Gets, IsField, bind_again, provided_again}
 use Rattle.msp_file.proofs.instances.KeyLaws.{IsKeyed, IsKeyedInteger, AreKeys, key_words, time_of, keys_of, key_fields_are, key_words_fields, job_line_takes, job_line_again}
+use Rattle.msp_grammar.proofs.reading.CostLaws.{plain_word}
 use Rattle.msp_grammar.proofs.reading.FieldLaws.{name_field}
-use Rattle.msp_file.proofs.instances.NeedLaws.{HaveTime, word_field, needs_text, needs_takes, needs_again}
+use Rattle.msp_file.proofs.instances.NeedLaws.{HaveTime, needs_text, needs_takes, needs_again}
 use Rattle.msp_file.proofs.instances.CurveLaws.{curve_line, curve_takes, curve_again}
 
 -- What reading alone says of a job: the conditions of its class but for that of its needs, with the time that all operations share.
@@ -61,29 +62,17 @@ pub record AddsJob (c : Class) (shared : ℕ) (d : Draft) (fields : List (List �
   pub few : length d.jobs < MOST_JOBS
 
 -- the bounds of keys are those of the class
-release_within : (there : Bool) (r : ℕ) → IsKeyed there 0 GREATEST r → HasRelease text_limits there r
-release_within true r h = h.1
-release_within false r h = h
+release_is : (there : Bool) (r : ℕ) → IsKeyed there 0 GREATEST r ↔ HasRelease text_limits there r
+release_is true r = (λ h. h.1, λ h. (omega arith, h))
+release_is false r = (λ h. h, λ h. h)
 
-keyed_release : (there : Bool) (r : ℕ) → HasRelease text_limits there r → IsKeyed there 0 GREATEST r
-keyed_release true r h = (omega arith, h)
-keyed_release false r h = h
+due_is : (there : Bool) (d : ℤ) → IsKeyedInteger there GREATEST d ↔ HasDue text_limits there d
+due_is true d = (λ h. h, λ h. h)
+due_is false d = (λ h. h, λ h. h)
 
-due_within : (there : Bool) (d : ℤ) → IsKeyedInteger there GREATEST d → HasDue text_limits there d
-due_within true d h = h
-due_within false d h = h
-
-keyed_due : (there : Bool) (d : ℤ) → HasDue text_limits there d → IsKeyedInteger there GREATEST d
-keyed_due true d h = h
-keyed_due false d h = h
-
-weight_within : (there : Bool) (w : ℕ) → IsKeyed there 1 GREATEST w → HasWeight there w
-weight_within true w h = h
-weight_within false w h = h
-
-keyed_weight : (there : Bool) (w : ℕ) → HasWeight there w → IsKeyed there 1 GREATEST w
-keyed_weight true w h = h
-keyed_weight false w h = h
+weight_is : (there : Bool) (w : ℕ) → IsKeyed there 1 GREATEST w ↔ HasWeight there w
+weight_is true w = (λ h. h, λ h. h)
+weight_is false w = (λ h. h, λ h. h)
 
 -- the one time of a job is in range
 keyed_time : (t : Times) (k : EnvKind) (e : Env) (m : ℕ) (needs : List Need) → HasShape k e m needs → HasTimes (least_time k t) (greatest_time text_limits t) needs
@@ -101,9 +90,9 @@ keys_are : (i : Instance) (j : Job) → IsJobOf text_limits i j → AreKeys i.cl
 keys_are i j h =
     record {
       time = keyed_time i.class.times (kind_of i.class.env) i.class.env i.machines j.needs h.needs.shape h.needs.times;
-      release = keyed_release i.class.heads j.release h.release;
-      due = keyed_due (uses_due i.class.crit) j.due h.due;
-      weight = keyed_weight (uses_weight i.class.crit) j.weight h.weight;
+      release = (release_is i.class.heads j.release).1 h.release;
+      due = (due_is (uses_due i.class.crit) j.due).1 h.due;
+      weight = (weight_is (uses_weight i.class.crit) j.weight).1 h.weight;
     }
 
 -- the keys that are read are those of the job
@@ -113,13 +102,9 @@ time_same true needs time shared h k = sym (h refl)
 time_same false needs time shared h k = k
 
 -- where times are not written, the operations share one
-shared_time : (timed one : Bool) (keyed shared : ℕ) (needs : List Need) → HaveTime timed (if timed && one then keyed else shared) needs → HaveTime timed shared needs
-shared_time true one keyed shared needs h = tt
-shared_time false one keyed shared needs h = h
-
-time_given : (timed one : Bool) (keyed shared : ℕ) (needs : List Need) → HaveTime timed shared needs → HaveTime timed (if timed && one then keyed else shared) needs
-time_given true one keyed shared needs h = tt
-time_given false one keyed shared needs h = h
+time_shared : (timed one : Bool) (keyed shared : ℕ) (needs : List Need) → HaveTime timed (if timed && one then keyed else shared) needs ↔ HaveTime timed shared needs
+time_shared true one keyed shared needs = (λ h. tt, λ h. tt)
+time_shared false one keyed shared needs = (λ h. h, λ h. h)
 
 first_given : (keyed : Bool) (shared : ℕ) (needs : List Need) → keyed ≡ true → (if keyed then time_of keyed needs else shared) ≡ (slice_index_or needs 0 no_need).time
 first_given true shared needs e = refl
@@ -149,10 +134,10 @@ job_takes c machines shared d at fields p x bound e =
       spelled = line.1;
       fresh = line.2;
       read = record {
-        times = shared_time (has_times c.times) (has_one_time (kind_of c.env)) a.0.1.time shared b.0.0 needs.times;
-        release = release_within c.heads a.0.1.release line.3.release;
-        due = due_within (uses_due c.crit) a.0.1.due line.3.due;
-        weight = weight_within (uses_weight c.crit) a.0.1.weight line.3.weight;
+        times = (time_shared (has_times c.times) (has_one_time (kind_of c.env)) a.0.1.time shared b.0.0).0 needs.times;
+        release = (release_is c.heads a.0.1.release).0 line.3.release;
+        due = (due_is (uses_due c.crit) a.0.1.due).0 line.3.due;
+        weight = (weight_is (uses_weight c.crit) a.0.1.weight).0 line.3.weight;
         curve = curve.1;
       };
       few = ltb-true _ _ g.0;
@@ -169,7 +154,7 @@ job_again i d at next shared name j rest machines h same spelled fresh few =
     let line = ap (λ ws. job_line_at i.class at d.names (name ∷ ws)) (key_fields_are i.class j) ∙ job_line_again i.class at d.names name (keys_of i.class j) spelled fresh (keys_are i j h) in
     let text = needs_text (has_times i.class.times) (kind_of i.class.env) j.needs in
     let lines : (text ++ curve_line i.class.crit j.curve) ++ rest ≡ text ++ (curve_line i.class.crit j.curve ++ rest) = append_assoc _ (curve_line i.class.crit j.curve) rest in
-    let last = time_given (has_times i.class.times) (has_one_time (kind_of i.class.env)) (time_of (has_time_key i.class) j.needs) shared j.needs same in
+    let last = (time_shared (has_times c.times) (has_one_time (kind_of c.env)) (time_of (has_time_key c) j.needs) shared j.needs).1 same in
     let needs = needs_again i.class i.machines time next j.needs (curve_line i.class.crit j.curve ++ rest)
     machines h.needs.shape (written_times i.class.times _ j.needs h.needs.times) last (first_given (has_time_key i.class) shared j.needs) in
     let curve = curve_again i.class.crit needs.0 j.curve rest h.curve in (
@@ -183,4 +168,4 @@ job_again i d at next shared name j rest machines h same spelled fresh few =
 -- the fields of a job's line can stand in a line
 pub job_line_fields : (i : Instance) (name : List ℕ) (j : Job) → IsJobName name → IsJobOf text_limits i j → AllByRecursion IsField (job_fields i.class name j)
 job_line_fields i name j spelled h =
-    (word_field (codes "job") refl refl, (name_field name spelled, subst (AllByRecursion IsField) (sym (key_fields_are i.class j)) (key_words_fields i.class (keys_of i.class j) (keys_are i j h))))
+    (plain_word (codes "job") refl refl, (name_field name spelled, subst (AllByRecursion IsField) (sym (key_fields_are i.class j)) (key_words_fields i.class (keys_of i.class j) (keys_are i j h))))

@@ -1,6 +1,7 @@
 -- The lines after the head: what is read is the text of the jobs and arcs, and the text of jobs and arcs is read as those.
-use Rattle.std.proofs.Common.{◌≡◌, ℕ, ◌<◌, ◌≤◌, Bool, true, false, ◌&&◌, if◌then◌else◌, List, [], ◌∷◌, ◌++◌, length, All, Contains, Some, Result, Ok, bytes_eq, codes, refl, sym, ap}
+use Rattle.std.proofs.Common.{◌≡◌, ℕ, ◌<◌, ◌≤◌, Bool, true, false, ◌&&◌, if◌then◌else◌, List, [], ◌∷◌, ◌++◌, length, All, Contains, Some, None, Result, Ok, bytes_eq, codes, refl, sym, ap}
 use Rattle.std.proofs.Common.{subst, ◌∙◌, append_assoc, append-nil, arith, length-append}
+use Rattle.std.proofs.lemmas.Bool.{both_ways}
 use Rattle.std.proofs.lemmas.List.{get_or_at}
 use Rattle.std.proofs.lemmas.List.Elements.{All-push, All-nil}
 use Rattle.msp_class.specs.declared.class.Class.{Class}
@@ -16,14 +17,14 @@ use Rattle.msp_grammar.specs.ScheduleText.{name_at}
 use Rattle.msp_grammar.specs.Layout.{has_order, has_times}
 use Rattle.msp_grammar.specs.InstanceText.{line_text, key_fields, job_fields, times_text, route_text, curve_text, job_text, jobs_text, arc_fields, arcs_text}
 use Rattle.msp_grammar.specs.lines.Reading.{◌>>=◌, Place, line_at, fields_of, first_of, others_of, LineRead, job_read, more_read, end_read, end_at}
-use Rattle.msp_file.specs.instance.Reading.{with_arc, arc_line_at, job_at_line, arc_or_end, job_step, arcs_from, jobs_from}
+use Rattle.msp_file.specs.instance.Reading.{with_arc, arc_step, arc_line_at, job_at_line, arc_or_end, job_step, arcs_from, jobs_from}
 use Rattle.msp_job_name.proofs.NameLists.{same_bytes}
 use Rattle.msp_file.proofs.instances.Apart.{apart_push, apart_before}
 use Rattle.msp_grammar.proofs.reading.LineLaws.{bind_ok, ok_is, Takes, Gets, Takes-then, fields_takes, line_then, end_text, end_field}
 use Rattle.msp_grammar.proofs.reading.Lines.{line_less, Follows, lines_take, GetsLines, line_gets}
 use Rattle.msp_file.proofs.instances.NeedLaws.{HaveTime}
 use Rattle.msp_file.proofs.instances.JobLaws.{IsReadJob, job_rest, AddsJob, job_takes, job_again, job_line_fields}
-use Rattle.msp_file.proofs.instances.ArcLaws.{TakesArc, arc_or_end_takes, arc_again, arc_line_fields, AreArcs, AddsArcs, then_arcs, arcs_take, arc_in, arcs_again}
+use Rattle.msp_file.proofs.instances.ArcLaws.{TakesArc, arc_or_end_takes, arc_again, arc_line_fields, AreArcs, AddsArcs, then_arcs, Arcs, arcs_on, arc_in, arcs_again}
 
 -- ---- what was read
 
@@ -131,8 +132,7 @@ TakesLine c shared d p (end_read e q) = TakesArc (has_order c.order) d p (end_re
 
 no_job_line : (c : Class) (shared : ℕ) (d : Draft) (p : Place) (next : LineRead Draft) → TakesArc (has_order c.order) d p next → TakesLine c shared d p next
 no_job_line c shared d p (job_read e q) h = absurd h
-no_job_line c shared d p (more_read e q) h = h
-no_job_line c shared d p (end_read e q) h = h
+no_job_line c shared d p next h = h
 
 pub job_step_takes : (c : Class) (machines shared : ℕ) (d : Draft) (p : Place) (next : LineRead Draft)
     → machines ≤ MOST_MACHINES → job_step c machines shared d p ≡ Ok next → TakesLine c shared d p next
@@ -155,9 +155,6 @@ job_line_of : (c : Class) (machines shared : ℕ) (names : List (List ℕ)) (job
     → machines ≤ MOST_MACHINES → d ≡ draft_of names jobs → job_step c machines shared d p ≡ Ok next → TakesLine c shared (draft_of names jobs) p next
 job_line_of c machines shared names jobs d p next bound same e = subst (λ (y : Draft). TakesLine c shared y p next) same (job_step_takes c machines shared d p next bound e)
 
-not_both : (b : Bool) → b ≡ true → b ≡ false → ⊥
-not_both b e f = cc
-
 abbrev Lines : Class → ℕ → Draft → Place → Draft × Place → Type 0
 Lines c shared d p x = (names : List (List ℕ)) (jobs : List Job) → AreJobs c shared names jobs → d ≡ draft_of names jobs → AddsLines c shared names jobs p x.0 x.1
 
@@ -168,8 +165,8 @@ jobs_on c machines shared bound d p line x e k names jobs fit same = by line (jo
     by : (line : LineRead Draft) → TakesLine c shared (draft_of names jobs) p line → Follows (Some arcs_from) (Lines c shared) line x → AddsLines c shared names jobs p x.0 x.1
     by (job_read e q) t k = then_job c shared names jobs t.0 e p t.1 q x t.2 t.3 fit (λ ns js also good. k ns js good also)
     by (more_read e q) t k =
-        let a = then_arcs (draft_of names jobs) t.0 e p q x t.1 t.2 (no_arc names) (λ good. arcs_take e q x good k) in
-        only_arcs c shared names jobs p x.1 x.0 a fit (λ f. absurd (not_both (has_order c.order) t.3 f))
+        let a = then_arcs (draft_of names jobs) t.0 e p q x t.1 t.2 (no_arc names) (λ good. lines_take arc_step None Arcs arcs_on _ e q x k good) in
+        only_arcs c shared names jobs p x.1 x.0 a fit (λ f. absurd (both_ways (has_order c.order) f t.3))
     by (end_read e q) t k = subst (λ (y : Draft × Place). AddsLines c shared names jobs p y.0 y.1) (sym (k ∙ ap (λ (y : Draft). (y, q)) t.0))
         (only_arcs c shared names jobs p q (draft_of names jobs) (record { more = []; added = refl; text = t.1; fit = no_arc names }) fit (λ f. refl))
 
@@ -337,8 +334,6 @@ pub jobs_again : (i : Instance) (shared : ℕ) (more_names : List (List ℕ)) (m
     → GetsLines (job_step i.class i.machines shared) (Some arcs_from) (draft_of names jobs)
     (record { at = at; rest = (jobs_text i.class more_names more ++ arcs_text (names ++ more_names) arcs ++ end_text) ++ rest })
     (record { names = names ++ more_names; jobs = jobs ++ more; arcs = arcs }) rest
-jobs_again i shared [] (j ∷ more) arcs names jobs at rest machines even fit arcs_fit ordered = absurd (omega (arith, even))
-jobs_again i shared (name ∷ more_names) [] arcs names jobs at rest machines even fit arcs_fit ordered = absurd (omega (arith, even))
 jobs_again i shared [] [] arcs names jobs at rest machines even fit arcs_fit ordered =
     let Reads : List ℕ → Draft → Type 0 = λ text d. GetsLines (job_step i.class i.machines shared) (Some arcs_from) (draft_of names jobs) (record { at = at; rest = text }) d rest in
     let here : Reads ((arcs_text names arcs ++ end_text) ++ rest) (record { names = names; jobs = jobs; arcs = arcs }) =
@@ -349,3 +344,4 @@ jobs_again i shared [] [] arcs names jobs at rest machines even fit arcs_fit ord
 jobs_again i shared (name ∷ more_names) (j ∷ more) arcs names jobs at rest machines even fit arcs_fit ordered =
     job_then_again i shared name more_names j more arcs names jobs at rest machines fit arcs_fit
     (λ next fit_on arcs_on. jobs_again i shared more_names more arcs (names ++ name ∷ []) (jobs ++ j ∷ []) next rest machines (omega (arith, even)) fit_on arcs_on ordered)
+jobs_again i shared _ _ arcs names jobs at rest machines even fit arcs_fit ordered = absurd (omega (arith, even))

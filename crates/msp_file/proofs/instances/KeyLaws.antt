@@ -1,7 +1,7 @@
 -- The first line of a job: the name and the keys that are read are those that were written, and what was written is read again.
-use Rattle.std.proofs.Common.{◌≡◌, ℕ, ◌≤◌, Bool, true, false, ◌&&◌, ◌==◌, List, [], ◌∷◌, ◌++◌, Ok, ℤ, pos, refl, sym, ap, subst, ◌∙◌, decimal, suc, ◌+◌, not, length, Contains, bytes_eq, arith}
+use Rattle.std.proofs.Common.{◌≡◌, ℕ, ◌<◌, ◌^◌, ◌≤◌, Bool, true, false, ◌&&◌, ◌==◌, List, [], ◌∷◌, ◌++◌, Ok, ℤ, pos, refl, sym, ap, subst, ◌∙◌, decimal, suc, ◌+◌, not, length, Contains, bytes_eq, arith}
 use Rattle.std.specs.Fmt.{signed_decimal}
-use Rattle.std.proofs.lemmas.Bool.{and_parts, eqb-true, eq-eqb}
+use Rattle.std.proofs.lemmas.Bool.{and_parts, eqb-true, eq-eqb, not-true, not_from_false, false_from_ne_true}
 use Rattle.msp_instance.specs.Conditions.{LiesWithin}
 use Rattle.msp_class.specs.declared.sizes.TheConstants.{GREATEST}
 use Rattle.msp_grammar.specs.declared.lines.fault.FileFault.TheVariants.{Key, Count, Again}
@@ -24,7 +24,7 @@ use Rattle.msp_file.specs.declared.instance.job.Keys.{Keys}
 use Rattle.msp_job_name.specs.JobName.{IsJobName}
 use Rattle.msp_grammar.specs.Layout.{has_time_key}
 use Rattle.msp_job_name.proofs.NameLists.{is_among, not_among}
-use Rattle.msp_grammar.proofs.reading.FieldLaws.{natural_field, integer_field, name_takes, name_again, natural_takes, natural_again, integer_takes, integer_again}
+use Rattle.msp_grammar.proofs.reading.FieldLaws.{natural_field, integer_field, name_takes, name_again, wide_takes, wide_again, signed_takes, signed_again}
 
 -- ---- numbers behind keys
 
@@ -51,38 +51,38 @@ keyed_takes at letter _ w e = absurd cc
 keyed_again : (at letter : ℕ) (w : List ℕ) → keyed_at at letter (letter ∷ 61 ∷ w) ≡ Ok w
 keyed_again at letter w = rw (eq-eqb letter letter refl) refl
 
-pub natural_key_takes : (at : ℕ) (there : Bool) (letter : ℕ) (quantity : What) (least greatest : ℕ) (fields : List (List ℕ)) (x : ℕ × List (List ℕ)) → greatest ≤ GREATEST
+pub natural_key_takes : (at : ℕ) (there : Bool) (letter : ℕ) (quantity : What) (least greatest : ℕ) (fields : List (List ℕ)) (x : ℕ × List (List ℕ)) → greatest < 10 ^ 64
     → natural_key_at at there letter quantity least greatest fields ≡ Ok x → (fields ≡ where_wanted there ((letter ∷ 61 ∷ decimal x.0) ∷ []) ++ x.1) × IsKeyed there least greatest x.0
 unfolding natural_key_at
 natural_key_takes at true letter quantity least greatest fields x h e =
     let a = bind_ok (keyed_at at letter (first_of fields)) (λ w. natural_at at quantity least greatest w >>= λ n. Ok (n, others_of fields)) x e in
     let b = bind_ok (natural_at at quantity least greatest a.0) (λ n. Ok (n, others_of fields)) x a.2 in
-    let t = natural_takes at quantity least greatest a.0 b.0 h b.1 in
+    let t = wide_takes at quantity least greatest a.0 b.0 h b.1 in
     let line : fields ≡ (letter ∷ 61 ∷ decimal b.0) ∷ others_of fields = keyed_takes at letter fields a.0 a.1 ∙ ap (λ w. (letter ∷ 61 ∷ w) ∷ others_of fields) t.0 in
     subst (λ y. (fields ≡ (letter ∷ 61 ∷ decimal y.0) ∷ y.1) × ((least ≤ y.0) × (y.0 ≤ greatest))) (ok_is (b.0, others_of fields) x b.2) (line, (t.1, t.2))
 natural_key_takes at false letter quantity least greatest fields x h e = subst (λ y. (fields ≡ y.1) × (y.0 ≡ least)) (ok_is (least, fields) x e) (refl, refl)
 
-pub natural_key_again : (at : ℕ) (there : Bool) (letter : ℕ) (quantity : What) (least greatest n : ℕ) (more : List (List ℕ)) → greatest ≤ GREATEST
+pub natural_key_again : (at : ℕ) (there : Bool) (letter : ℕ) (quantity : What) (least greatest n : ℕ) (more : List (List ℕ)) → greatest < 10 ^ 64
     → IsKeyed there least greatest n → natural_key_at at there letter quantity least greatest (where_wanted there ((letter ∷ 61 ∷ decimal n) ∷ []) ++ more) ≡ Ok (n, more)
 unfolding natural_key_at
-natural_key_again at true letter quantity least greatest n more h k = rw (keyed_again at letter (decimal n), natural_again at quantity least greatest n h k.0 k.1) refl
+natural_key_again at true letter quantity least greatest n more h k = rw (keyed_again at letter (decimal n), wide_again at quantity least greatest n h k.0 k.1) refl
 natural_key_again at false letter quantity least greatest n more h k = ap (λ m. Ok (m, more)) (sym k)
 
-pub integer_key_takes : (at : ℕ) (there : Bool) (letter : ℕ) (quantity : What) (greatest : ℕ) (fields : List (List ℕ)) (x : ℤ × List (List ℕ)) → greatest ≤ GREATEST
+pub integer_key_takes : (at : ℕ) (there : Bool) (letter : ℕ) (quantity : What) (greatest : ℕ) (fields : List (List ℕ)) (x : ℤ × List (List ℕ)) → greatest < 10 ^ 64
     → integer_key_at at there letter quantity greatest fields ≡ Ok x → (fields ≡ where_wanted there ((letter ∷ 61 ∷ signed_decimal x.0) ∷ []) ++ x.1) × IsKeyedInteger there greatest x.0
 unfolding integer_key_at
 integer_key_takes at true letter quantity greatest fields x h e =
     let a = bind_ok (keyed_at at letter (first_of fields)) (λ w. integer_at at quantity greatest w >>= λ y. Ok (y, others_of fields)) x e in
     let b = bind_ok (integer_at at quantity greatest a.0) (λ y. Ok (y, others_of fields)) x a.2 in
-    let t = integer_takes at quantity greatest a.0 b.0 h b.1 in
+    let t = signed_takes at quantity greatest a.0 b.0 h b.1 in
     let line : fields ≡ (letter ∷ 61 ∷ signed_decimal b.0) ∷ others_of fields = keyed_takes at letter fields a.0 a.1 ∙ ap (λ w. (letter ∷ 61 ∷ w) ∷ others_of fields) t.0 in
     subst (λ y. (fields ≡ (letter ∷ 61 ∷ signed_decimal y.0) ∷ y.1) × LiesWithin greatest y.0) (ok_is (b.0, others_of fields) x b.2) (line, t.1)
 integer_key_takes at false letter quantity greatest fields x h e = subst (λ y. (fields ≡ y.1) × (y.0 ≡ pos 0)) (ok_is (pos 0, fields) x e) (refl, refl)
 
-pub integer_key_again : (at : ℕ) (there : Bool) (letter : ℕ) (quantity : What) (greatest : ℕ) (x : ℤ) (more : List (List ℕ)) → greatest ≤ GREATEST
+pub integer_key_again : (at : ℕ) (there : Bool) (letter : ℕ) (quantity : What) (greatest : ℕ) (x : ℤ) (more : List (List ℕ)) → greatest < 10 ^ 64
     → IsKeyedInteger there greatest x → integer_key_at at there letter quantity greatest (where_wanted there ((letter ∷ 61 ∷ signed_decimal x) ∷ []) ++ more) ≡ Ok (x, more)
 unfolding integer_key_at
-integer_key_again at true letter quantity greatest x more h k = rw (keyed_again at letter (signed_decimal x), integer_again at quantity greatest x h k) refl
+integer_key_again at true letter quantity greatest x more h k = rw (keyed_again at letter (signed_decimal x), signed_again at quantity greatest x h k) refl
 integer_key_again at false letter quantity greatest x more h k = ap (λ y. Ok (y, more)) (sym k)
 
 -- ---- keys
@@ -104,7 +104,7 @@ key_words c k more =
     ++ more)))
 
 -- the bound that most readers of numbers are given
-pub limit : GREATEST ≤ GREATEST
+pub limit : GREATEST < 10 ^ 64
 limit = omega arith
 
 pub keys_takes : (c : Class) (at : ℕ) (fields : List (List ℕ)) (k : Keys) → keys_at c at fields ≡ Ok k → (more : List (List ℕ)) × (fields ≡ key_words c k more) × AreKeys c k
@@ -172,14 +172,10 @@ job_line_takes c at names (w ∷ ws) x e =
     let nothing : keyed.0 ≡ [] = nil_from_length keyed.0 (counted (length ws) (count_of_keys c) (length keyed.0) g.0 (ap length keyed.1 ∙ length_keys c b.0 keyed.0)) in
     let text : w ∷ ws ≡ a.0 ∷ key_words c b.0 [] = cc (named.0, keyed.1 ∙ ap (key_words c b.0) nothing) in
     subst (λ (y : List ℕ × Keys). (w ∷ ws ≡ y.0 ∷ key_words c y.1 []) × IsJobName y.0 × (¬ Contains names y.0) × AreKeys c y.1)
-    (ok_is (a.0, b.0) x last.1) (text, named.1, not_among names a.0 (flip (list_any (bytes_eq a.0) names) last.0), keyed.2)
+    (ok_is (a.0, b.0) x last.1) (text, named.1, not_among names a.0 (not-true (list_any (bytes_eq a.0) names) last.0), keyed.2)
   where
     counted : (n k m : ℕ) → (suc n == 1 + k) ≡ true → n ≡ k + m → m ≡ 0
     counted n k m h e = let same = eqb-true (suc n) (1 + k) h in omega arith
-
-    flip : (t : Bool) → not t ≡ true → t ≡ false
-    flip true h = absurd cc
-    flip false h = refl
 
 pub job_line_again : (c : Class) (at : ℕ) (names : List (List ℕ)) (name : List ℕ) (k : Keys)
     → IsJobName name → ¬ Contains names name → AreKeys c k → job_line_at c at names (name ∷ key_words c k []) ≡ Ok (name, k)
@@ -188,14 +184,10 @@ job_line_again c at names name k spelled fresh h =
     provided_again _ _ _ _ (eq-eqb _ _ (counted _ _ (length_keys c k []))) (
     bind_again _ _ _ _ (name_again at name spelled) (
     bind_again _ _ _ _ (keys_again c at k [] h) (
-    provided_again _ _ _ _ (by (list_any (bytes_eq name) names) refl) refl)))
+    provided_again _ _ _ _ (not_from_false _ (false_from_ne_true _ (λ e. fresh (is_among names name e)))) refl)))
   where
     counted : (n k : ℕ) → n ≡ k + 0 → suc n ≡ 1 + k
     counted n k e = omega arith
-
-    by : (t : Bool) → list_any (bytes_eq name) names ≡ t → not t ≡ true
-    by true e = absurd (fresh (is_among names name e))
-    by false e = refl
 
 -- the fields of the keys can stand in a line
 key_field : (there : Bool) (letter : ℕ) (text : List ℕ) (more : List (List ℕ)) → (letter == 32) ≡ false → (letter == 10) ≡ false → (there ≡ true → IsField text) → AllByRecursion IsField more

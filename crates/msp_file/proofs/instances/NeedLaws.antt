@@ -1,18 +1,18 @@
 -- The operations of a job: what is read is what was written, and what was written is read again.
 use Rattle.std.proofs.Common.{◌≡◌, ℕ, suc, ◌+◌, ◌<◌, ◌≤◌, true, false, ◌&&◌, ◌==◌, List, [], ◌∷◌, ◌++◌, length, map, get_or, Result, Ok, All, refl, sym, ap, ap₂, subst, ◌∙◌, codes, decimal, arith}
 use Rattle.std.specs.Prelude.{⊤, Bool, if◌then◌else◌, slice_index_or, nat_le, EachIndex}
-use Rattle.std.specs.List.{AllByRecursion, list_any, flat_map, range_with_len}
+use Rattle.std.specs.List.{AllByRecursion, flat_map, range_with_len}
 use Rattle.std.proofs.lemmas.Bool.{eq-eqb, le-leb}
 use Rattle.std.proofs.lemmas.List.{append_assoc, append-nil, length_push, length-map, ext_get_or}
 use Rattle.std.proofs.lemmas.List.Elements.{All-nil, All-cons, All-head, All-tail, All-map}
 use Rattle.std.proofs.lemmas.List.FromFn.{length-map-range_with_len, get_or-map-range_with_len}
 use Rattle.msp_class.specs.declared.environments.EnvKind.{EnvKind}
-use Rattle.msp_class.specs.declared.environments.EnvKind.TheVariants.{Identical, Uniform, Unrelated, OpenShop, FlowShop, JobShop}
+use Rattle.msp_class.specs.declared.environments.EnvKind.TheVariants.{Identical, Uniform, JobShop}
 use Rattle.msp_class.specs.Env.{kind_of, most_operations}
 use Rattle.msp_class.specs.declared.sizes.TheConstants.{MOST_MACHINES, MOST_OPERATIONS, GREATEST}
 use Rattle.msp_class.specs.declared.class.Class.{Class}
 use Rattle.msp_class.specs.declared.class.Env.{Env}
-use Rattle.msp_class.specs.declared.class.Env.TheVariants.{J2Short, JShort}
+use Rattle.msp_class.specs.declared.class.Env.TheVariants.{J2Short}
 use Rattle.msp_class.specs.declared.class.Times.{Times}
 use Rattle.msp_instance.specs.declared.Need.{Need}
 use Rattle.msp_instance.specs.Instance.{no_need}
@@ -26,7 +26,8 @@ use Rattle.msp_grammar.specs.lines.Reading.{Place, worded_at, natural_at, machin
 use Rattle.msp_file.specs.instance.Reading.{with_need, times_at, times_line_at, timed_route_at, machine_route_at, operations_in, fields_in, operations_at, is_route_count}
 use Rattle.msp_file.specs.instance.Reading.{route_line_at, unwritten_needs, needs_at}
 use Rattle.msp_grammar.proofs.reading.LineLaws.{bind_ok, provided_ok, ok_is, Takes, Gets, IsField, worded_takes, worded_again, reads, bind_again, provided_again}
-use Rattle.msp_grammar.proofs.reading.FieldLaws.{natural_takes, natural_again, natural_field, ordinal_takes, ordinal_again}
+use Rattle.msp_grammar.proofs.reading.CostLaws.{plain_word}
+use Rattle.msp_grammar.proofs.reading.FieldLaws.{wide_takes, wide_again, natural_field, ordinal_takes, ordinal_again}
 use Rattle.msp_file.proofs.instances.KeyLaws.{limit}
 
 -- What is said of one operation: its machine is one of so many, its time is in range, its time is this one.
@@ -63,7 +64,7 @@ times_takes at least needs (w ∷ ws) after e =
     let a = bind_ok (natural_at at what.Time least GREATEST w) _ after e in
     let next : Need = record { machine = length needs; time = a.0 } in
     let r = times_takes at least (needs ++ next ∷ []) ws after a.2 in
-    (next ∷ r.0, r.1 ∙ append_assoc needs (next ∷ []) r.0, two_parts (natural_takes at what.Time least GREATEST w a.0 limit a.1).0 r.2)
+    (next ∷ r.0, r.1 ∙ append_assoc needs (next ∷ []) r.0, two_parts (wide_takes at what.Time least GREATEST w a.0 limit a.1).0 r.2)
 
 -- The machines are numbered on from n.
 abbrev AreNumberedFrom : ℕ → List Need → Type 0
@@ -78,7 +79,7 @@ times_again at least needs (n ∷ more) numbered h =
     let here : n.machine ≡ length needs = omega (arith, numbered 0 (omega arith)) in
     let is : with_need needs (length needs) n.time ≡ needs ++ n ∷ [] = ap (λ q. with_need needs q n.time) (sym here) in
     let next : AreNumberedFrom (length (needs ++ n ∷ [])) more = λ k l. omega (arith, numbered (suc k) (omega arith), length_push needs n) in
-    bind_again _ _ _ _ (natural_again at what.Time least GREATEST n.time limit first.0 first.1) (
+    bind_again _ _ _ _ (wide_again at what.Time least GREATEST n.time limit first.0 first.1) (
     ap (λ xs. times_at at least xs (map (λ n. decimal n.time) more)) is
     ∙ times_again at least (needs ++ n ∷ []) more next (All-tail (IsWithin least) n more h)
     ∙ ap Ok (append_assoc needs (n ∷ []) more))
@@ -94,18 +95,15 @@ times_line_takes least machines p x e =
     subst (λ (y : List Need × Place). Takes p (line_text (times_fields y.0)) y.1)
     (ok_is (b.0, a.0.1) x b.2) (subst (λ fs. Takes p (line_text fs) a.0.1) fields (worded_takes (codes "times") p a.0 a.1))
 
-decimals_fields : {A : Type 0} (f : A → ℕ) (xs : List A) → All (λ x. f x ≤ GREATEST) xs → AllByRecursion IsField (map (λ x. decimal (f x)) xs)
+pub decimals_fields : {A : Type 0} (f : A → ℕ) (xs : List A) → All (λ x. f x ≤ GREATEST) xs → AllByRecursion IsField (map (λ x. decimal (f x)) xs)
 decimals_fields f [] h = tt
 decimals_fields f (x ∷ xs) h = (natural_field (f x) (All-head (λ y. f y ≤ GREATEST) x xs h), decimals_fields f xs (All-tail (λ y. f y ≤ GREATEST) x xs h))
-
-pub word_field : (letters : List ℕ) → list_any (λ x. x == 32) letters ≡ false → list_any (λ x. x == 10) letters ≡ false → IsField letters
-word_field letters s l = record { no_space = s; no_line_feed = l }
 
 pub times_line_again : (least machines at : ℕ) (needs : List Need) (rest : List ℕ) → IsNeedPerMachine machines needs
     → HasTimes least GREATEST needs → Gets (times_line_at least machines (record { at = at; rest = line_text (times_fields needs) ++ rest })) needs rest
 unfolding times_line_at
 times_line_again least machines at needs rest each h =
-    let fields : AllByRecursion IsField (times_fields needs) = (word_field (codes "times") refl refl, decimals_fields (λ n. n.time) needs (λ q d l. (h q d l).1)) in
+    let fields : AllByRecursion IsField (times_fields needs) = (plain_word (codes "times") refl refl, decimals_fields (λ n. n.time) needs (λ q d l. (h q d l).1)) in
     let line = worded_again (codes "times") (map (λ n. decimal n.time) needs) at rest fields in
     let numbered : AreNumberedFrom 0 needs = λ q l. omega (arith, each.1 q l) in (
       line.0,
@@ -130,7 +128,7 @@ timed_takes at machines needs (w ∷ v ∷ ws) after few e =
     let b = bind_ok (natural_at at what.Time 1 GREATEST v) _ after a.2 in
     let next : Need = record { machine = a.0; time = b.0 } in
     let r = timed_takes at machines (needs ++ next ∷ []) ws after few b.2 in
-    (next ∷ r.0, r.1 ∙ append_assoc needs (next ∷ []) r.0, two_parts (machine_takes at machines w a.0 few a.1) (two_parts (natural_takes at what.Time 1 GREATEST v b.0 limit b.1).0 r.2))
+    (next ∷ r.0, r.1 ∙ append_assoc needs (next ∷ []) r.0, two_parts (machine_takes at machines w a.0 few a.1) (two_parts (wide_takes at what.Time 1 GREATEST v b.0 limit b.1).0 r.2))
 
 timed_again : (at machines : ℕ) (needs more : List Need) → machines ≤ MOST_MACHINES
     → All (IsOn machines) more → HasTimes 1 GREATEST more → timed_route_at at machines needs (flat_map (operation_fields true) more) ≡ Ok (needs ++ more)
@@ -139,7 +137,7 @@ timed_again at machines needs [] few below h = ap Ok (sym (append-nil needs))
 timed_again at machines needs (n ∷ more) few below h =
     let first = All-head (IsWithin 1) n more h in
     bind_again _ _ _ _ (machine_again at machines n.machine few (All-head (IsOn machines) n more below)) (
-    bind_again _ _ _ _ (natural_again at what.Time 1 GREATEST n.time limit first.0 first.1) (
+    bind_again _ _ _ _ (wide_again at what.Time 1 GREATEST n.time limit first.0 first.1) (
     timed_again at machines (needs ++ n ∷ []) more few (All-tail (IsOn machines) n more below) (All-tail (IsWithin 1) n more h)
     ∙ ap Ok (append_assoc needs (n ∷ []) more)))
 
@@ -193,7 +191,6 @@ operations_counted false n = refl
 
 few_operations : (e : Env) → most_operations e ≤ MOST_OPERATIONS
 few_operations J2Short = omega arith
-few_operations JShort = omega arith
 few_operations _ = omega arith
 
 timed_fields : (machines : ℕ) (needs : List Need) → machines ≤ MOST_MACHINES → All (IsOn machines) needs → HasTimes 1 GREATEST needs → AllByRecursion IsField (flat_map (operation_fields true) needs)
@@ -243,7 +240,7 @@ route_line_again : (timed : Bool) (most machines time at : ℕ) (needs : List Ne
     → Gets (route_line_at timed most machines time (record { at = at; rest = line_text (route_fields timed needs) ++ rest })) needs rest
 unfolding route_line_at
 route_line_again timed most machines time at needs rest few short_most route h same =
-    let fields : AllByRecursion IsField (route_fields timed needs) = (word_field (codes "route") refl refl, operations_fields timed machines needs few route.machines h) in
+    let fields : AllByRecursion IsField (route_fields timed needs) = (plain_word (codes "route") refl refl, operations_fields timed machines needs few route.machines h) in
     let line = worded_again (codes "route") (flat_map (operation_fields timed) needs) at rest fields in
     let counted = length-operations timed needs in
     let short : operations_in timed (length (flat_map (operation_fields timed) needs)) ≤ MOST_OPERATIONS =
@@ -274,6 +271,13 @@ pub record AreReadNeeds (timed : Bool) (k : EnvKind) (time : ℕ) (p : Place) (n
   pub times : HaveTime timed time needs
   pub keyed : (timed && has_one_time k) ≡ true → (slice_index_or needs 0 no_need).time ≡ time
 
+-- what no line writes
+pub none_takes : {A : Type 0} (none : A) (p : Place) (x : A × Place) → reads (none, p) ≡ Ok x → Takes p [] x.1 × (x.0 ≡ none)
+none_takes {A} none p x e = subst (λ (y : A × Place). Takes p [] y.1 × (y.0 ≡ none)) (ok_is (none, p) x e) (refl, refl)
+
+pub none_again : {A : Type 0} (none x : A) (at : ℕ) (rest : List ℕ) → x ≡ none → Gets (reads (none, record { at = at; rest = rest })) x rest
+none_again none x at rest e = (at, ap (λ c. reads (c, record { at = at; rest = rest })) (sym e))
+
 -- what a line with a text reads, and what no line writes
 by_text : (timed : Bool) (k : EnvKind) (time : ℕ) (p : Place) (x : List Need × Place) (text : List ℕ) → needs_text timed k x.0 ≡ text → Takes p text x.1 → HaveTime timed time x.0
     → ((timed && has_one_time k) ≡ true → (slice_index_or x.0 0 no_need).time ≡ time) → AreReadNeeds timed k time p x.0 x.1
@@ -282,10 +286,6 @@ by_text timed k time p x text e h same keyed = record { text = subst (λ w. Take
 by_none : (timed : Bool) (k : EnvKind) (time : ℕ) (p : Place) (needs : List Need) (x : List Need × Place) → needs_text timed k needs ≡ [] → HaveTime timed time needs
     → ((timed && has_one_time k) ≡ true → (slice_index_or needs 0 no_need).time ≡ time) → reads (needs, p) ≡ Ok x → AreReadNeeds timed k time p x.0 x.1
 by_none timed k time p needs x e same keyed h = subst (λ (y : List Need × Place). AreReadNeeds timed k time p y.0 y.1) (ok_is (needs, p) x h) (by_text timed k time p (needs, p) [] e refl same keyed)
-
-by_times : (k : EnvKind) (least machines time : ℕ) (p : Place) (x : List Need × Place) → needs_text true k x.0 ≡ line_text (times_fields x.0)
-    → (has_one_time k ≡ true → ⊥) → times_line_at least machines p ≡ Ok x → AreReadNeeds true k time p x.0 x.1
-by_times k least machines time p x e many h = by_text true k time p x (line_text (times_fields x.0)) e (times_line_takes least machines p x h) tt (λ one. absurd (many one))
 
 by_route : (timed : Bool) (most machines time : ℕ) (p : Place) (x : List Need × Place) → machines ≤ MOST_MACHINES → needs_text timed JobShop x.0 ≡ line_text (route_fields timed x.0)
     → ((timed && false) ≡ true → ⊥) → route_line_at timed most machines time p ≡ Ok x → AreReadNeeds timed JobShop time p x.0 x.1
@@ -320,16 +320,12 @@ needs_by_takes : (timed : Bool) (k : EnvKind) (least most machines time : ℕ) (
     → machines ≤ MOST_MACHINES → needs_by timed k least most machines time p ≡ Ok x → AreReadNeeds timed k time p x.0 x.1
 needs_by_takes true Identical least most machines time p x few e = by_none true Identical time p (with_need [] 0 time) x refl tt (λ k. refl) e
 needs_by_takes true Uniform least most machines time p x few e = by_none true Uniform time p (with_need [] 0 time) x refl tt (λ k. refl) e
-needs_by_takes true Unrelated least most machines time p x few e = by_times Unrelated least machines time p x (append-nil _) (λ k. absurd cc) e
-needs_by_takes true OpenShop least most machines time p x few e = by_times OpenShop least machines time p x (append-nil _) (λ k. absurd cc) e
-needs_by_takes true FlowShop least most machines time p x few e = by_times FlowShop least machines time p x (append-nil _) (λ k. absurd cc) e
-needs_by_takes true JobShop least most machines time p x few e = by_route true most machines time p x few refl (λ k. absurd cc) e
 needs_by_takes false Identical least most machines time p x few e = by_none false Identical time p (with_need [] 0 time) x refl (single_takes time) (λ k. refl) e
 needs_by_takes false Uniform least most machines time p x few e = by_none false Uniform time p (with_need [] 0 time) x refl (single_takes time) (λ k. refl) e
-needs_by_takes false Unrelated least most machines time p x few e = by_none false Unrelated time p (sames time machines) x refl (sames_take time machines) (λ k. absurd cc) e
-needs_by_takes false OpenShop least most machines time p x few e = by_none false OpenShop time p (sames time machines) x refl (sames_take time machines) (λ k. absurd cc) e
-needs_by_takes false FlowShop least most machines time p x few e = by_none false FlowShop time p (sames time machines) x refl (sames_take time machines) (λ k. absurd cc) e
-needs_by_takes false JobShop least most machines time p x few e = by_route false most machines time p x few refl (λ k. absurd cc) e
+needs_by_takes timed JobShop least most machines time p x few e = by_route timed most machines time p x few refl (λ k. absurd cc) e
+needs_by_takes true k least most machines time p x few e =
+    by_text true k time p x (line_text (times_fields x.0)) (append-nil _) (times_line_takes least machines p x e) tt (λ k. absurd cc)
+needs_by_takes false k least most machines time p x few e = by_none false k time p (sames time machines) x refl (sames_take time machines) (λ k. absurd cc) e
 
 pub needs_takes : (c : Class) (machines time : ℕ) (p : Place) (x : List Need × Place)
     → machines ≤ MOST_MACHINES → needs_at c machines time p ≡ Ok x → AreReadNeeds (has_times c.times) (kind_of c.env) time p x.0 x.1
@@ -355,30 +351,19 @@ moved : {A : Type 0} (read : Place → Result (A × Place) FileFault) (at : ℕ)
     → a ≡ b → Gets (read (record { at = at; rest = b ++ rest })) x rest → Gets (read (record { at = at; rest = a ++ rest })) x rest
 moved read at x a b rest e h = rw e h
 
-times_by_again : (k : EnvKind) (least machines at : ℕ) (needs : List Need) (rest : List ℕ) → needs_text true k needs ≡ line_text (times_fields needs)
-    → IsNeedPerMachine machines needs → HasTimes least GREATEST needs → Gets (times_line_at least machines (record { at = at; rest = needs_text true k needs ++ rest })) needs rest
-times_by_again k least machines at needs rest e each h = moved (times_line_at least machines) at needs _ _ rest e (times_line_again least machines at needs rest each h)
-
-each_again : (time machines at : ℕ) (needs : List Need) (rest : List ℕ)
-    → IsNeedPerMachine machines needs → All (LastsFor time) needs → Gets (reads (sames time machines, record { at = at; rest = rest })) needs rest
-each_again time machines at needs rest each last = (at, ap (λ xs. reads (xs, record { at = at; rest = rest })) (sames_are time machines needs each last))
-
 needs_by_again : (timed : Bool) (k : EnvKind) (e : Env) (t : Times) (machines time at : ℕ) (needs : List Need) (rest : List ℕ)
     → machines ≤ MOST_MACHINES → HasShape k e machines needs → FitTimes timed (least_time k t) needs → HaveTime timed time needs
     → ((timed && has_one_time k) ≡ true → time ≡ (slice_index_or needs 0 no_need).time)
     → Gets (needs_by timed k (least_time k t) (most_operations e) machines time (record { at = at; rest = needs_text timed k needs ++ rest })) needs rest
 needs_by_again true Identical e t machines time at needs rest few shape fit same first = one_again time at needs rest shape (first refl)
 needs_by_again true Uniform e t machines time at needs rest few shape fit same first = one_again time at needs rest shape (first refl)
-needs_by_again true Unrelated e t machines time at needs rest few shape fit same first = times_by_again Unrelated _ machines at needs rest (append-nil _) shape (fit refl)
-needs_by_again true OpenShop e t machines time at needs rest few shape fit same first = times_by_again OpenShop _ machines at needs rest (append-nil _) shape (fit refl)
-needs_by_again true FlowShop e t machines time at needs rest few shape fit same first = times_by_again FlowShop _ machines at needs rest (append-nil _) shape (fit refl)
-needs_by_again true JobShop e t machines time at needs rest few shape fit same first = route_line_again true (most_operations e) machines time at needs rest few (few_operations e) shape fit same
 needs_by_again false Identical e t machines time at needs rest few shape fit same first = one_again time at needs rest shape (first_of_same time needs shape same)
 needs_by_again false Uniform e t machines time at needs rest few shape fit same first = one_again time at needs rest shape (first_of_same time needs shape same)
-needs_by_again false Unrelated e t machines time at needs rest few shape fit same first = each_again time machines at needs rest shape same
-needs_by_again false OpenShop e t machines time at needs rest few shape fit same first = each_again time machines at needs rest shape same
-needs_by_again false FlowShop e t machines time at needs rest few shape fit same first = each_again time machines at needs rest shape same
-needs_by_again false JobShop e t machines time at needs rest few shape fit same first = route_line_again false (most_operations e) machines time at needs rest few (few_operations e) shape fit same
+needs_by_again timed JobShop e t machines time at needs rest few shape fit same first = route_line_again timed (most_operations e) machines time at needs rest few (few_operations e) shape fit same
+needs_by_again true k e t machines time at needs rest few shape fit same first =
+    moved (times_line_at _ machines) at needs _ _ rest (append-nil _) (times_line_again _ machines at needs rest shape (fit refl))
+needs_by_again false k e t machines time at needs rest few shape fit same first =
+    none_again (sames time machines) needs at rest (sym (sames_are time machines needs shape same))
 
 pub needs_again : (c : Class) (machines time at : ℕ) (needs : List Need) (rest : List ℕ) → machines ≤ MOST_MACHINES → HasShape (kind_of c.env) c.env machines needs
     → (has_times c.times ≡ true → HasTimes (least_time (kind_of c.env) c.times) GREATEST needs) → HaveTime (has_times c.times) time needs

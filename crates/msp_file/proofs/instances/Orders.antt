@@ -2,7 +2,7 @@
 use Rattle.std.proofs.Common.{◌≡◌, ◌≢◌, ℕ, zero, suc, ◌+◌, ◌<◌, ◌⊎◌, inl, inr, ◌==◌, ◌&&◌, ◌||◌, true, false, Bool, List, [], ◌∷◌, ◌++◌, length, get_or, take, All, AllPairs}
 use Rattle.std.proofs.Common.{Contains, refl, sym, ap, ◌∙◌, subst, arith, length-append}
 use Rattle.std.specs.List.{list_any}
-use Rattle.std.proofs.lemmas.Bool.{cases_Bool, cases_lt, eqb-true, eq-eqb, and_parts, or_cases, false≢true}
+use Rattle.std.proofs.lemmas.Bool.{cases_Bool, cases_lt, eqb-true, eq-eqb, and_parts, or_cases, or_left, or_right, false≢true}
 use Rattle.std.proofs.lemmas.List.{take_all, take-append-le, get_or_append_left, get_or-append-add}
 use Rattle.std.proofs.lemmas.List.Elements.{All-nil, All-push, All-contains}
 use Rattle.std.proofs.lemmas.List.Sorted.{IsPermutation-refl}
@@ -18,7 +18,7 @@ use Rattle.msp_instance.proofs.OrderLemmas.{Contains-from_waiting, waiting-some}
 use Rattle.msp_instance.proofs.SearchLemmas.{HasPath-push, HasPath-closed}
 use Rattle.msp_instance.proofs.CycleLemmas.{IsSequence-from_longest, GoesForward-from_longest, cycle_from_short}
 use Rattle.msp_file.proofs.instances.Apart.{apart_push}
-use Rattle.msp_file.proofs.instances.Deciding.{Told, both, unless, equal_told, true_told, false_told, first_broken, some_below, or_right, or_left}
+use Rattle.msp_file.proofs.instances.Deciding.{Told, both, unless, equal_told, true_told, false_told, first_broken, some_below}
 
 not_in : (xs : List ℕ) (k : ℕ) → list_any (λ x. x == k) xs ≡ false → ¬ Contains xs k
 not_in xs k e c = false≢true (sym e ∙ list_any-from_Contains xs k c)
@@ -51,19 +51,16 @@ module _ (arcs : List Arc) (n : ℕ) where
             subst (λ (l : List ℕ). Contains l j) (sym cut) (Contains-from_waiting arcs order j k quiet (subst (HasStep arcs j) last step))
       ]
 
-  IsNext : List ℕ → ℕ → Type 0
+  abbrev IsNext : List ℕ → ℕ → Type 0
   IsNext order k = (list_any (λ x. x == k) order ≡ false) × (waiting arcs order k ≡ 0)
 
   next_told : (order : List ℕ) (k : ℕ) → Told (IsNext order k)
-  unfolding IsNext
   next_told order k = both (false_told _) (equal_told _ 0)
 
   some_waits : (order : List ℕ) (k : ℕ) → ¬ IsNext order k → ¬ Contains order k → 0 < waiting arcs order k
-  unfolding IsNext
   some_waits order k absent out = elim (cases_lt 0 (waiting arcs order k)) [ inl h ↦ h | inr h ↦ absurd (absent (out_of order k out, omega arith)) ]
 
   longest_from : (fuel : ℕ) (order : List ℕ) → IsEarly order → n < fuel + length order → (longest : List ℕ) × IsLongestOrder arcs n longest
-  unfolding IsNext
   longest_from zero order h enough = absurd (omega (arith, length-once n order h.inside (λ k. count_by-distinct order k h.apart)))
   longest_from (suc fuel) order h enough = elim (some_below (IsNext order) (next_told order) n) [
     | inl f ↦ longest_from fuel (order ++ f.0 ∷ []) (early_push order f.0 h f.1 (not_in order f.0 f.2.0) f.2.1) (omega (arith, length-append order (f.0 ∷ [])))
@@ -86,11 +83,10 @@ module _ (arcs : List Arc) (n : ℕ) (ends : All (λ a. (a.before < n) × (a.aft
   abbrev leads : List ℕ → ℕ → Arc → Bool
   leads xs k a = (a.after == k) && ((a.before == start) || list_any (λ x. x == a.before) xs)
 
-  IsMore : List ℕ → ℕ → Type 0
+  abbrev IsMore : List ℕ → ℕ → Type 0
   IsMore xs k = (list_any (λ x. x == k) xs ≡ false) × (list_any (leads xs k) arcs ≡ true)
 
   more_told : (xs : List ℕ) (k : ℕ) → Told (IsMore xs k)
-  unfolding IsMore
   more_told xs k = both (false_told _) (true_told _)
 
   arc_of : (a : Arc) (j k : ℕ) → a.before ≡ j → a.after ≡ k → Contains arcs a → HasStep arcs j k
@@ -115,14 +111,12 @@ module _ (arcs : List Arc) (n : ℕ) (ends : All (λ a. (a.before < n) × (a.aft
       list_any_at (leads xs k) arcs step.0 a step.1 (subst (λ (b : Arc). leads xs k b ≡ true) (sym step.2) test)
 
   closed_under : (xs : List ℕ) → ((k : ℕ) → k < n → ¬ IsMore xs k) → (j k : ℕ) → ((j == start) || list_any (λ x. x == j) xs) ≡ true → HasStep arcs j k → Contains xs k
-  unfolding IsMore
   closed_under xs none j k from step = elim (cases_Bool (list_any (λ x. x == k) xs)) [
     | inl e ↦ Contains-from_list_any xs k e
     | inr e ↦ absurd (none k (All-contains (λ a. (a.before < n) × (a.after < n)) arcs (record { before = j; after = k }) ends step).1 (e, leads_here xs j k from step))
   ]
 
   path_told_from : (fuel : ℕ) (xs : List ℕ) → IsReached xs → n < fuel + length xs → (k : ℕ) → Told (HasPath arcs start k)
-  unfolding IsMore
   path_told_from zero xs h enough k = absurd (omega (arith, length-once n xs h.inside (λ j. count_by-distinct xs j h.apart)))
   path_told_from (suc fuel) xs h enough k = elim (some_below (IsMore xs) (more_told xs) n) [
     | inl f ↦

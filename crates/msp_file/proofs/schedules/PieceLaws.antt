@@ -48,16 +48,12 @@ five_fields : (fields : List (List ℕ)) → (length fields == 5) ≡ true
     → fields ≡ first_of fields ∷ first_of (others_of fields) ∷ first_of (others_of (others_of fields))
     ∷ first_of (others_of (others_of (others_of fields))) ∷ first_of (others_of (others_of (others_of (others_of fields)))) ∷ []
 five_fields (a ∷ b ∷ c ∷ d ∷ e ∷ []) h = refl
-five_fields (a ∷ b ∷ c ∷ d ∷ e ∷ f ∷ fs) h = absurd (omega (arith, eqb-true _ _ h))
-five_fields _ h = absurd cc
+five_fields fields h = absurd (omega (arith, eqb-true (length fields) 5 h))
 
 -- What the fields of a piece say.
 pub record SaysPiece (names : List (List ℕ)) (fields : List (List ℕ)) (x : Piece) : Type 0 where
   pub text : fields ≡ piece_fields names x
   pub stated : IsStatedPiece names x
-
-five_are : (a b c d e f g h i j : List ℕ) → a ≡ f → b ≡ g → c ≡ h → d ≡ i → e ≡ j → a ∷ b ∷ c ∷ d ∷ e ∷ [] ≡ f ∷ g ∷ h ∷ i ∷ j ∷ []
-five_are a b c d e f g h i j p q r s t = cc
 
 -- The place of a piece, as it is read.
 abbrev read_place : ℕ → ℕ → List (List ℕ) → ℕ × ℕ × List (List ℕ)
@@ -86,9 +82,6 @@ span_takes at fields x e =
     subst (λ (y : ℤ × ℤ). (first_of fields ≡ signed_decimal y.0) × (first_of (others_of fields) ≡ signed_decimal y.1) × IsMoment y.0 × IsMoment y.1)
     (ok_is (pair from.0 to.0) x to.2) (a.0, b.0, a.1, b.1)
 
-abbrev read_piece : ℕ → ℕ → ℕ → ℤ → ℤ → Piece
-read_piece job op machine from to = record { job = job; op = op; machine = machine; from = from; to = to }
-
 pub piece_takes : (names : List (List ℕ)) (at : ℕ) (fields : List (List ℕ)) (x : Piece) → (length fields == 5) ≡ true → piece_at names at fields ≡ Ok x → SaysPiece names fields x
 unfolding piece_at
 piece_takes names at fields x five e =
@@ -100,9 +93,9 @@ piece_takes names at fields x five e =
     let spanned = span_takes at place.0.2 span.0 span.1 in
     let from : first_of (others_of (others_of (others_of fields))) ≡ signed_decimal span.0.0 = ap first_of (sym placed.2) ∙ spanned.0 in
     let to : first_of (others_of (others_of (others_of (others_of fields)))) ≡ signed_decimal span.0.1 = ap (λ (ws : List (List ℕ)). first_of (others_of ws)) (sym placed.2) ∙ spanned.1 in
-    let made = read_piece job.0 place.0.0 place.0.1 span.0.0 span.0.1 in
+    let made : Piece = record { job = job.0; op = place.0.0; machine = place.0.1; from = span.0.0; to = span.0.1 } in
     let says : SaysPiece names fields made = record {
-      text = five_fields fields five ∙ five_are _ _ _ _ _ _ _ _ _ _ named.0 placed.0 placed.1 from to;
+      text = five_fields fields five ∙ cc (named.0, placed.0, placed.1, from, to);
       stated = record { job = named.1; op = placed.3; machine = placed.4; from = spanned.2; to = spanned.3 };
     } in
     subst (SaysPiece names fields) (ok_is made x span.2) says

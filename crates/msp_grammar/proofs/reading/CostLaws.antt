@@ -25,7 +25,7 @@ use Rattle.msp_grammar.specs.lines.Steps.{parts_of}
 use Rattle.msp_grammar.proofs.reading.LineLaws.{bind_ok, provided_ok, reads, ok_is, bind_again, provided_again, Takes, Gets, IsField, begun, field_line_takes, field_line_again}
 use Rattle.msp_grammar.proofs.reading.FieldLaws.{ok_some, natural_in_takes, digits_lack, within_size, size_within}
 
-abbrev slashed : List ℕ → List (List ℕ)
+abbrev pub slashed : List ℕ → List (List ℕ)
 slashed w = slice_split (λ byte. byte == 47) w
 
 pub plain_word : (w : List ℕ) → Lacks 32 w → Lacks 10 w → IsField w
@@ -51,15 +51,6 @@ fraction_taken x w first (part ∷ other ∷ parts) at cut is e small = absurd c
 -- A numerator and a denominator.
 abbrev pub pair : ℤ → ℤ → ℤ × ℤ
 pair a b = (a, b)
-
-first_is : (a b c d : ℤ) → pair a b ≡ pair c d → a ≡ c
-first_is a b c d e = ap (λ (x : ℤ × ℤ). x.0) e
-
-second_is : (a b c d : ℤ) → pair a b ≡ pair c d → b ≡ d
-second_is a b c d e = ap (λ (x : ℤ × ℤ). x.1) e
-
-small_den : (n : ℕ) (d : ℤ) → pos n ≡ d → n ≤ GREATEST_DENOMINATOR → unsigned_abs d < 10 ^ 64
-small_den n d e h = let is : n ≡ unsigned_abs d = ap unsigned_abs e in omega arith
 
 range_den : (n : ℕ) (d : ℤ) → pos n ≡ d → 1 ≤ n → n ≤ GREATEST_DENOMINATOR → (pos 1 ≤ℤ d) × (d ≤ℤ pos GREATEST_DENOMINATOR)
 range_den n d e low high = subst (λ (y : ℤ). (pos 1 ≤ℤ y) × (y ≤ℤ pos GREATEST_DENOMINATOR)) e (omega (arith, ints), omega (arith, ints))
@@ -108,13 +99,13 @@ module _ (greatest : ℕ) (limit : greatest ≤ GREATEST_COST) where
       let s = bind_ok (natural_in at what.Cost 1 GREATEST_DENOMINATOR d.0) _ (parts_of x) c.1 in
       let range = natural_in_takes at what.Cost 1 GREATEST_DENOMINATOR d.0 s.0 s.1 in
       let both : pair n.0 (pos s.0) ≡ parts_of x = ok_is (pair n.0 (pos s.0)) (parts_of x) s.2 in
-      let num : n.0 ≡ x.num = first_is n.0 (pos s.0) x.num x.den both in
-      let den : pos s.0 ≡ x.den = second_is n.0 (pos s.0) x.num x.den both in
+      let num : n.0 ≡ x.num = ap (λ (y : ℤ × ℤ). y.0) both in
+      let den : pos s.0 ≡ x.den = ap (λ (y : ℤ × ℤ). y.1) both in
       let size : unsigned_abs x.num ≤ greatest = subst (λ (y : ℤ). unsigned_abs y ≤ greatest) num (leb-true (unsigned_abs n.0) greatest c.0) in
       let top : number_at at (first_of (slashed w)) ≡ Ok x.num = n.1 ∙ ap reads num in
       let bottom : denominator_at at (others_of (slashed w)) ≡ Ok x.den = d.1 ∙ ap reads (range.0 ∙ den) in (
-        fraction_taken x w (first_of (slashed w)) (others_of (slashed w)) at
-            (first_part w) (numbered at (first_of (slashed w)) x.num (omega (arith, size)) top) bottom (small_den s.0 x.den den range.2),
+        fraction_taken x w (first_of (slashed w)) (others_of (slashed w)) at (first_part w)
+            (numbered at (first_of (slashed w)) x.num (omega (arith, size)) top) bottom (omega (arith, ap unsigned_abs den, range.2)),
         record { num = within_size greatest x.num size; den = range_den s.0 x.den den range.1 range.2 },
       )
 

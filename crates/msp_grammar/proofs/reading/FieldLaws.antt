@@ -1,10 +1,10 @@
 -- A field that is read is the field that was written, and what was written is read again.
-use Rattle.std.proofs.Common.{◌≡◌, ◌≢◌, ℕ, suc, ◌<◌, ◌≤◌, ◌^◌, Bool, true, false, ◌&&◌, ◌||◌, ◌==◌, nat_le, List, [], ◌∷◌, length, get_or, position, bytes_eq, Option, Some, None}
+use Rattle.std.proofs.Common.{◌≡◌, ◌↔◌, ℕ, suc, ◌<◌, ◌≤◌, ◌^◌, Bool, true, false, ◌&&◌, ◌||◌, ◌==◌, nat_le, List, [], ◌∷◌, length, get_or, position, bytes_eq, Option, Some, None}
 use Rattle.std.proofs.Common.{ok_or, Ok, ℤ, pos, negsuc, unsigned_abs, All, refl, sym, ap, subst, ◌∙◌, arith, decimal, ◌++◌, ◌+◌, ◌-◌}
 use Rattle.std.specs.Char.{is_ascii_digit}
 use Rattle.std.specs.Fmt.{signed_decimal}
 use Rattle.std.specs.List.{list_all, list_any, position_or_len}
-use Rattle.std.proofs.lemmas.Bool.{and_parts, eqb-true, leb-true, le-leb, lt-ltb}
+use Rattle.std.proofs.lemmas.Bool.{and_parts, eqb-true, leb-true, le-leb, lt-ltb, false_from_ne_true}
 use Rattle.std.proofs.lemmas.Int.{ints}
 use Rattle.std.proofs.lemmas.Fmt.{decimal_is_IsNumeral_wide}
 use Rattle.std.proofs.lemmas.Slice.Eq.{bytes_eq-Decides}
@@ -61,18 +61,11 @@ wide_takes at quantity least greatest w n h e =
     let high : n ≤ greatest = t.2 in
     (number_spells w (pos n) is (omega arith), t.1, t.2)
 
-pub natural_takes : (at : ℕ) (quantity : What) (least greatest : ℕ) (w : List ℕ) (n : ℕ)
-    → greatest ≤ GREATEST → natural_at at quantity least greatest w ≡ Ok n → (w ≡ decimal n) × (least ≤ n) × (n ≤ greatest)
-natural_takes at quantity least greatest w n h e = wide_takes at quantity least greatest w n (omega arith) e
-
 pub wide_again : (at : ℕ) (quantity : What) (least greatest n : ℕ) → greatest < 10 ^ 64 → least ≤ n → n ≤ greatest → natural_at at quantity least greatest (decimal n) ≡ Ok n
 unfolding natural_at
 wide_again at quantity least greatest n h low high =
     let is : number_of (decimal n) ≡ Some (pos n) = number_again (pos n) (omega arith) in
     rw (is, le-leb least n low, le-leb n greatest high) refl
-
-pub natural_again : (at : ℕ) (quantity : What) (least greatest n : ℕ) → greatest ≤ GREATEST → least ≤ n → n ≤ greatest → natural_at at quantity least greatest (decimal n) ≡ Ok n
-natural_again at quantity least greatest n h low high = wide_again at quantity least greatest n (omega arith) low high
 
 -- the digits of a number are no other byte
 pub digits_lack : (m n : ℕ) → is_ascii_digit m ≡ false → n < 10 ^ 64 → Lacks m (decimal n)
@@ -118,24 +111,14 @@ signed_field {greatest} (negsuc n) few h =
     let small : suc n < 10 ^ 64 = let size = size_within greatest (negsuc n) h in omega arith in
     let f = wide_field (suc n) small in record { no_space = f.no_space; no_line_feed = f.no_line_feed }
 
-pub integer_takes : (at : ℕ) (quantity : What) (greatest : ℕ) (w : List ℕ) (x : ℤ) → greatest ≤ GREATEST → integer_at at quantity greatest w ≡ Ok x → (w ≡ signed_decimal x) × LiesWithin greatest x
-integer_takes at quantity greatest w x h e = signed_takes at quantity greatest w x (omega arith) e
-
-pub integer_again : (at : ℕ) (quantity : What) (greatest : ℕ) (x : ℤ) → greatest ≤ GREATEST → LiesWithin greatest x → integer_at at quantity greatest (signed_decimal x) ≡ Ok x
-integer_again at quantity greatest x h within = signed_again at quantity greatest x (omega arith) within
-
 pub integer_field : (x : ℤ) → LiesWithin GREATEST x → IsField (signed_decimal x)
 integer_field x h = signed_field x (omega arith) h
 
 -- ---- names
 
-name_bytes : (w : List ℕ) → is_name_text w ≡ true → (1 ≤ length w) × (list_all is_name_byte w ≡ true)
-name_bytes [] h = absurd cc
-name_bytes (b ∷ bs) h = (omega arith, h)
-
-name_text : (w : List ℕ) → 1 ≤ length w → list_all is_name_byte w ≡ true → is_name_text w ≡ true
-name_text [] h k = absurd (omega arith)
-name_text (b ∷ bs) h k = k
+name_is : (w : List ℕ) → (is_name_text w ≡ true) ↔ ((1 ≤ length w) × (list_all is_name_byte w ≡ true))
+name_is [] = (λ h. absurd cc, λ h. absurd (omega (arith, h.0)))
+name_is (b ∷ bs) = (λ h. (omega arith, h), λ h. h.1)
 
 pub name_takes : (at : ℕ) (w name : List ℕ) → job_name_at at w ≡ Ok name → (w ≡ name) × IsJobName name
 unfolding job_name_at
@@ -143,13 +126,13 @@ name_takes at w name e =
     let s = provided_ok (is_name_text w) (Name at) (provided (nat_le (length w) LONGEST_NAME) (Limit at what.Name) (Ok w)) name e in
     let t = provided_ok (nat_le (length w) LONGEST_NAME) (Limit at what.Name) (Ok w) name s.1 in
     let same : w ≡ name = ok_is w name t.1 in
-    let bytes = name_bytes w s.0 in
+    let bytes = (name_is w).0 s.0 in
     let is : IsJobName w = record { some = bytes.0; short = leb-true (length w) LONGEST_NAME t.0; bytes = AllPass-from_list_all is_name_byte w bytes.1 } in
     (same, subst IsJobName same is)
 
 pub name_again : (at : ℕ) (name : List ℕ) → IsJobName name → job_name_at at name ≡ Ok name
 unfolding job_name_at
-name_again at name h = rw (name_text name h.some (list_all-from_AllPass is_name_byte name h.bytes), le-leb (length name) LONGEST_NAME h.short) refl
+name_again at name h = rw ((name_is name).1 (h.some, list_all-from_AllPass is_name_byte name h.bytes), le-leb (length name) LONGEST_NAME h.short) refl
 
 pub name_field : (name : List ℕ) → IsJobName name → IsField name
 name_field name h =
@@ -164,18 +147,11 @@ known_takes at names w k e =
     let there = position-Some (bytes_eq b.0) names k [] found in
     ((name_takes at w b.0 b.1).0 ∙ same_bytes b.0 (get_or names k []) there.1, there.0)
 
-differs : (a b : List ℕ) → a ≢ b → bytes_eq b a ≡ false
-differs a b h = by (bytes_eq b a) refl
-  where
-    by : (t : Bool) → bytes_eq b a ≡ t → t ≡ false
-    by true e = absurd (h (sym (same_bytes b a e)))
-    by false e = refl
-
 -- a name of distinct ones is found at its place
 found_again : (names : List (List ℕ)) (k : ℕ) → AreDistinct names → k < length names → position (bytes_eq (get_or names k [])) names ≡ Some k
 found_again names k apart h =
     let place : position_or_len (bytes_eq (get_or names k [])) names ≡ k = position_or_len_is (bytes_eq (get_or names k [])) names k [] (omega arith)
-    (λ j before. differs (get_or names j []) (get_or names k []) (apart j k [] before h)) (λ within. (bytes_eq-Decides (get_or names k []) (get_or names k [])).1 refl) in
+    (λ j l. false_from_ne_true _ (λ e. apart j k [] l h (sym (same_bytes _ _ e)))) (λ within. (bytes_eq-Decides (get_or names k []) (get_or names k [])).1 refl) in
     rw (place, lt-ltb k (length names) h) refl
 
 pub known_again : (at : ℕ) (names : List (List ℕ)) (k : ℕ) → AreDistinct names → All IsJobName names → k < length names → known_at at names (name_at names k) ≡ Ok k

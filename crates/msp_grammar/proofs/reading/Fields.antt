@@ -41,18 +41,16 @@ no_fields [] h = refl
 no_fields (space ∷ bytes) h = absurd (omega arith)
 
 few_fields : (ws vs : List (List ℕ)) → vs ≡ others_of ws → vs ≡ [] → (length ws == 2) ≡ false
-few_fields [] vs e h = refl
-few_fields (w ∷ []) vs e h = refl
 few_fields (w ∷ v ∷ ws) vs e h = absurd cc
+few_fields _ vs e h = refl
 
 many_fields : (ws vs us : List (List ℕ)) → vs ≡ others_of ws → us ≡ others_of vs → 0 < length us → (length ws == 2) ≡ false
 many_fields ws vs us e f h = by ws (ap others_of e)
   where
     by : (ws : List (List ℕ)) → others_of vs ≡ others_of (others_of ws) → (length ws == 2) ≡ false
-    by [] g = refl
-    by (w ∷ []) g = refl
     by (w ∷ v ∷ []) g = absurd (omega (arith, ap length (f ∙ g)))
     by (w ∷ v ∷ u ∷ ws) g = ne_eqb (length (w ∷ v ∷ u ∷ ws)) 2 (λ e. omega (arith, e))
+    by _ g = refl
 
 just_two : (ws vs us : List (List ℕ)) → vs ≡ others_of ws → us ≡ others_of vs → 0 < length vs → us ≡ [] → ws ≡ first_of ws ∷ first_of vs ∷ []
 just_two [] vs us e f some none = absurd (omega (arith, ap length e))

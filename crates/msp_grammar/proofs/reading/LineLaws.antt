@@ -1,12 +1,13 @@
 -- A line that is read is the line that was written, and what was written is read again.
-use Rattle.std.proofs.Common.{◌≡◌, ℕ, suc, ◌+◌, ◌≤◌, Bool, true, false, ltb, ◌||◌, ◌==◌, List, [], ◌∷◌, ◌++◌, length, take, drop, get_or, position, bytes_eq, Option, Some, None}
-use Rattle.std.proofs.Common.{Result, Ok, Err, refl, sym, ap, subst, ◌∙◌, append_assoc, length-append, take-append-drop, drop-cons, take_at, drop_at, add-one, one-add, arith}
+use Rattle.std.proofs.Common.{◌≡◌, ℕ, suc, ◌+◌, ◌≤◌, Bool, true, false, ltb, ◌==◌, List, [], ◌∷◌, ◌++◌, length, take, drop, get_or, position, bytes_eq, Option, Some, None}
+use Rattle.std.proofs.Common.{Result, Ok, Err, refl, sym, ap, subst, ◌∙◌, append_assoc, length-append, take-append-drop, drop-cons, take_at, drop_at, add-one, arith}
 use Rattle.std.proofs.Common.{codes}
-use Rattle.std.specs.List.{AllByRecursion, join_with_byte, list_any, position_or_len}
-use Rattle.std.proofs.lemmas.Bool.{eqb-true, lt-ltb}
+use Rattle.std.specs.List.{AllByRecursion, join_with_byte, position_or_len}
+use Rattle.std.proofs.lemmas.Bool.{eqb-true, lt-ltb, false_from_ne_true, both_ways}
 use Rattle.std.proofs.lemmas.Slice.Eq.{bytes_eq-Decides}
-use Rattle.std.proofs.lemmas.List.{nil_from_length}
-use Rattle.std.proofs.lemmas.List.Folds.{list_any-append}
+use Rattle.std.proofs.lemmas.List.{nil_from_length, get_or_append_left, get_or_at}
+use Rattle.std.proofs.lemmas.List.Folds.{list_any-append, list_any_at}
+use Rattle.std.proofs.lemmas.List.Sums.{position_or_len_is}
 use Rattle.std.proofs.lemmas.List.Quantifiers.{position-Some}
 use Rattle.std.proofs.lemmas.List.Splits.{join_with_byte-slice_split, length-slice_split}
 use Rattle.msp_name.proofs.Separators.{Lacks, parts-whole, parts-first}
@@ -83,20 +84,14 @@ line_takes p x e = by (position (λ y. y == 10) p.rest) refl e
     by (Some k) is e = subst (λ y. Takes p (y.0 ++ line_feed) y.1) (ok_is (take k p.rest, record { at = p.at + 1; rest = drop (k + 1) p.rest }) x e) (cut p.rest k is)
     by None is e = absurd cc
 
--- the first line feed of a text stands behind its first line
-first_feed : (line rest : List ℕ) → Lacks 10 line → position_or_len (λ x. x == 10) (line ++ (10 ∷ rest)) ≡ length line
-first_feed [] rest h = refl
-first_feed (x ∷ xs) rest h = by (x == 10) refl h (first_feed xs rest)
-  where
-    by : (t : Bool) → (x == 10) ≡ t → (t || list_any (λ y. y == 10) xs) ≡ false
-        → (Lacks 10 xs → position_or_len (λ y. y == 10) (xs ++ (10 ∷ rest)) ≡ length xs) → position_or_len (λ y. y == 10) (x ∷ (xs ++ (10 ∷ rest))) ≡ suc (length xs)
-    by true e h next = absurd cc
-    by false e h next = rw e (ap (λ n. 1 + n) (next h) ∙ one-add (length xs))
-
 feed_at : (line rest : List ℕ) → Lacks 10 line → position (λ x. x == 10) (line ++ (10 ∷ rest)) ≡ Some (length line)
 feed_at line rest h =
     let within : ltb (length line) (length (line ++ (10 ∷ rest))) ≡ true = lt-ltb _ _ (omega (arith, length-append line (10 ∷ rest))) in
-    rw (first_feed line rest h, within) refl
+    let first : position_or_len (λ x. x == 10) (line ++ (10 ∷ rest)) ≡ length line =
+    position_or_len_is (λ x. x == 10) (line ++ (10 ∷ rest)) (length line) 0 (omega (arith, length-append line (10 ∷ rest)))
+    (λ k l. ap (λ b. b == 10) (get_or_append_left line (10 ∷ rest) 0 k l) ∙ false_from_ne_true _ (λ e. both_ways _ h (list_any_at (λ x. x == 10) line k 0 l e)))
+    (λ _. ap (λ b. b == 10) (get_or_at line 10 rest 0 (length line) refl)) in
+    rw (first, within) refl
 
 pub line_again : (at : ℕ) (line rest : List ℕ) → Lacks 10 line → Gets (line_at (record { at = at; rest = (line ++ line_feed) ++ rest })) line rest
 unfolding line_at ends_at
@@ -155,9 +150,8 @@ worded_again word ws at rest h =
 
 -- a line of one field
 pub one_field : (fields : List (List ℕ)) → (length fields == 1) ≡ true → fields ≡ first_of fields ∷ []
-one_field [] h = absurd cc
 one_field (w ∷ []) h = refl
-one_field (w ∷ v ∷ ws) h = absurd (omega (arith, eqb-true _ _ h))
+one_field fields h = absurd (omega (arith, eqb-true (length fields) 1 h))
 
 -- a line of one word, and one with one field behind its word
 pub word_line_takes : (word : List ℕ) (p q : Place) → word_line_at word p ≡ Ok q → Takes p (line_text (word ∷ [])) q
@@ -196,8 +190,7 @@ line_then f at w ws rest h =
 
 pub two_fields : (fields : List (List ℕ)) → (length fields == 2) ≡ true → fields ≡ first_of fields ∷ first_of (others_of fields) ∷ []
 two_fields (w ∷ v ∷ []) h = refl
-two_fields (w ∷ v ∷ u ∷ ws) h = absurd (omega (arith, eqb-true _ _ h))
-two_fields _ h = absurd cc
+two_fields fields h = absurd (omega (arith, eqb-true (length fields) 2 h))
 
 -- ---- the last line
 

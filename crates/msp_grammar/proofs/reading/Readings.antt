@@ -15,6 +15,5 @@ not_fails e x m h = absurd cc
 -- what was seen is one thing, where the view tells values apart
 pub seen_is : {X Y : Type 0} (view : X → Y) → ((x y : X) → view x ≡ view y → x ≡ y) → (r s : Result X FileFault) → seen view r ≡ seen view s → r ≡ s
 seen_is view one (Ok r) (Ok s) h = ap Ok (one r s (ok_is (view r) (view s) h))
-seen_is view one (Ok r) (Err f) h = absurd cc
-seen_is view one (Err e) (Ok s) h = absurd cc
 seen_is view one (Err e) (Err f) h = cc
+seen_is view one _ _ h = absurd cc

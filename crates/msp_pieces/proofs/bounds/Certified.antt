@@ -120,13 +120,7 @@ module _ (i : Instance) (m : IsOneMachine i) (takes : (j : ℕ) → j < length i
 
   path_rises : {j k : ℕ} → HasPath i.arcs j k → last j < last k
   path_rises {j} {k} (one c) = arc_rises (record { before = j; after = k }) c
-  path_rises (more c p) = first_rise (step_rises _ _ c) (path_rises p)
-    where
-      step_rises : (j k : ℕ) → Contains i.arcs (record { before = j; after = k }) → last j < last k
-      step_rises j k c = arc_rises (record { before = j; after = k }) c
-
-      first_rise : {a b c : ℕ} → a < b → b < c → a < c
-      first_rise {a} {b} {c} h k = omega (arith, h, k)
+  path_rises {j} (more {k = l} c p) = omega (arith, arc_rises (record { before = j; after = l }) c, path_rises p)
 
   -- no piece of a job that begins at a moment at the earliest ends before the job's time has passed
   whole_job : (k head : ℕ) → k < length i.jobs → ((q : Piece) → Contains t.pieces q → q.job ≡ k → unit * head ≤ start q) → unit * (head + time_at i k) ≤ last k
@@ -166,9 +160,6 @@ module _ (i : Instance) (m : IsOneMachine i) (takes : (j : ℕ) → j < length i
     abbrev among : ℕ → Bool
     among k = list_any (λ x. eqb x k) jobs
 
-    is_among : (k : ℕ) → among k ≡ true → Contains jobs k
-    is_among k e = Contains-from_list_any jobs k e
-
     abbrev work : ℕ
     work = total_below (length i.jobs) (λ k. cond (among k) (work_of job_of start finish t.pieces k) 0)
 
@@ -180,15 +171,15 @@ module _ (i : Instance) (m : IsOneMachine i) (takes : (j : ℕ) → j < length i
         ∙ ap (λ w. unit * w) (list_total (time_at i) n jobs inside apart)
 
     some_work : 0 < work
-    some_work = subst (λ w. 0 < w) (sym work_is) (mul-pos plan.some (omega (arith, takes first (inside 0 0 some), sum_by-contains (time_at i) jobs first (Contains-get_or jobs 0 0 some))))
-      where
-        first : ℕ
-        first = get_or jobs 0 0
+    some_work =
+        let first = get_or jobs 0 0 in
+        let term = sum_by-contains (time_at i) jobs first (Contains-get_or jobs 0 0 some) in
+        subst (λ w. 0 < w) (sym work_is) (mul-pos plan.some (omega (arith, takes first (inside 0 0 some), term)))
 
     begins : All (λ q. among (job_of q) ≡ true → unit * from ≤ start q) t.pieces
     begins n d l e =
         let q = get_or t.pieces n d in
-        let c = is_among q.job e in
+        let c = Contains-from_list_any jobs q.job e in
         let after = All-contains (λ k. from ≤ heads k) jobs q.job begin c in
         omega (arith, mul-le-mul_left unit after, after_heads heads sound q (Contains-get_or t.pieces n d l))
 
@@ -211,7 +202,8 @@ module _ (i : Instance) (m : IsOneMachine i) (takes : (j : ℕ) → j < length i
     block_is_bound =
         let k = latest.0 in
         let crit = i.class.crit in
-        let owed = All-contains (λ k. LeadsToNone i jobs k → value ≤ℤ cost_at i k moment) jobs k least (is_among k latest.2) leads_to_none in
+        let there = Contains-from_list_any jobs k latest.2 in
+        let owed = All-contains (λ k. LeadsToNone i jobs k → value ≤ℤ cost_at i k moment) jobs k least there leads_to_none in
         let scaled : pos unit *ℤ cost_at i k moment ≡ job_cost crit (pos unit) (job_at i k) (pos (unit * moment)) =
         sym (ap (λ u. job_cost crit u (job_at i k) (pos (unit * moment))) (sym (*ℤ-one (pos unit))) ∙ job_cost-scale unit plan.some (pos 1) crit (job_at i k) (pos moment)) in
         let later : job_cost crit (pos unit) (job_at i k) (pos (unit * moment)) ≤ℤ job_cost crit (pos unit) (job_at i k) (pos (last k)) =
@@ -226,10 +218,7 @@ module _ (i : Instance) (m : IsOneMachine i) (takes : (j : ℕ) → j < length i
     where
       no_arc : (k : ℕ) → LeadsToNone i c.jobs k → HasNoSuccessor i c.jobs k
       no_arc k none n d l e there = All-contains (λ x. ¬ HasPath i.arcs k x)
-          c.jobs (get_or i.arcs n d).after none there (one (subst (Contains i.arcs) (same (get_or i.arcs n d) k e) (Contains-get_or i.arcs n d l)))
-        where
-          same : (a : Arc) (k : ℕ) → a.before ≡ k → a ≡ record { before = k; after = a.after }
-          same a k e = ap (λ b. record { before = b; after = a.after }) e
+          c.jobs (get_or i.arcs n d).after none there (one (subst (Contains i.arcs) (ap (λ b. record { before = b; after = (get_or i.arcs n d).after }) e) (Contains-get_or i.arcs n d l)))
 
 -- ---- a feasible schedule is best whose jobs end by moments at which they are certified
 pub best_by_certificates : (i : Instance) → IsOneMachine i → ((j : ℕ) → j < length i.jobs → 0 < time_at i j)

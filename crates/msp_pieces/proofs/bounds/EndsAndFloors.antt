@@ -1,5 +1,5 @@
 -- The law of ends and the law of floors.
-use Rattle.std.proofs.Common.{◌≡◌, ℕ, zero, suc, ◌+◌, ◌*◌, ◌/◌, ◌-◌, ◌<◌, ◌≤◌, Bool, true, false, cond, List, [], ◌∷◌, length, get_or, map, ℤ, pos, negsuc, nat_abs, ◌+ℤ◌, ◌-ℤ◌}
+use Rattle.std.proofs.Common.{◌≡◌, ℕ, zero, suc, ◌*◌, ◌/◌, ◌-◌, ◌<◌, ◌≤◌, Bool, true, false, cond, List, [], ◌∷◌, length, get_or, map, ℤ, pos, nat_abs, ◌+ℤ◌}
 use Rattle.std.proofs.Common.{◌*ℤ◌, ◌≤ℤ◌, All, Contains, inl, refl, sym, ap, ap₂, subst, subst₂, ◌∙◌, arith, le_trans}
 use Rattle.std.specs.Prelude.{◌==◌, ◌&&◌}
 use Rattle.std.proofs.lemmas.Bool.{eq-eqb}
@@ -90,27 +90,22 @@ law_of_ends = record {
 
 -- ---- floors
 floor-mono : (unit x y : ℤ) → pos 1 ≤ℤ unit → pos 0 ≤ℤ x → x ≤ℤ y → floor unit x ≤ℤ floor unit y
-floor-mono (negsuc u) x y p q h = absurd (omega (arith, ints))
-floor-mono (pos u) (negsuc a) y p q h = absurd (omega (arith, ints))
-floor-mono (pos u) (pos a) (negsuc b) p q h = absurd (omega (arith, ints))
 floor-mono (pos u) (pos a) (pos b) p q h = pos-le (mul-le-mul_left u (le-div (a / u) b u (le-pos p) (le_trans (div-mul-le_self a u) (le-pos h))))
+floor-mono _ _ _ p q h = absurd (omega (arith, ints))
 
 floor-below : (unit x : ℤ) → pos 1 ≤ℤ unit → pos 0 ≤ℤ x → floor unit x ≤ℤ x
-floor-below (negsuc u) x p q = absurd (omega (arith, ints))
-floor-below (pos u) (negsuc a) p q = absurd (omega (arith, ints))
 floor-below (pos u) (pos a) p q = pos-le (mul-div-le a u)
+floor-below _ _ p q = absurd (omega (arith, ints))
 
 -- a multiple that is not after the moment is not after its floor
 floor-after : (unit x : ℤ) (h : ℕ) → pos 1 ≤ℤ unit → pos 0 ≤ℤ x → (unit *ℤ pos h) ≤ℤ x → (unit *ℤ pos h) ≤ℤ floor unit x
-floor-after (negsuc u) x h p q b = absurd (omega (arith, ints))
-floor-after (pos u) (negsuc a) h p q b = absurd (omega (arith, ints))
 floor-after (pos u) (pos a) h p q b = pos-le (mul-le-mul_left u (le-div h a u (le-pos p) (omega (arith, le-pos b))))
+floor-after _ _ h p q b = absurd (omega (arith, ints))
 
 -- a unit later, the floor is one unit later
 floor-next : (unit x : ℤ) → pos 1 ≤ℤ unit → pos 0 ≤ℤ x → floor unit (x +ℤ unit) ≡ floor unit x +ℤ unit
-floor-next (negsuc u) x p q = absurd (omega (arith, ints))
-floor-next (pos u) (negsuc a) p q = absurd (omega (arith, ints))
 floor-next (pos u) (pos a) p q = ap pos (ap (λ n. u * (n / u)) (add_comm a u) ∙ ap (λ n. u * n) (add-div_left a (le-pos p)) ∙ omega arith)
+floor-next _ _ p q = absurd (omega (arith, ints))
 
 -- where operations may not be cut, each piece is all its operation wants
 whole_parts : (f : Frame) (unit : ℤ) (ps : List Piece) → Fits f unit ps → f.cut ≡ false → All (λ p. part f p ≡ unit *ℤ pos (f.want p.job p.op)) ps
@@ -138,11 +133,10 @@ module _ (i : Instance) (s : Schedule) (kind : kind_of i.class.env ≡ Identical
   long : All (λ p. p.to ≡ p.from +ℤ s.unit) s.pieces
   long k d l = by (get_or s.pieces k d) (fits.place k d l) (whole_parts (frame_by Identical i) s.unit s.pieces fits whole k d l)
     where
-      ends : (a b u : ℤ) → b -ℤ a ≡ u → b ≡ a +ℤ u
-      ends a b u e = omega (arith, ints)
-
       by : (p : Piece) → Stands (frame_by Identical i) p → part (frame_by Identical i) p ≡ s.unit *ℤ pos (need_at i p.job p.op).time → p.to ≡ p.from +ℤ s.unit
-      by p stands e = ends p.from p.to s.unit (sym (*ℤ-one (length_of p)) ∙ e ∙ ap (λ n. s.unit *ℤ pos n) (ap (λ o. (need_at i p.job o).time) stands.operation ∙ ones p.job stands.job) ∙ *ℤ-one s.unit)
+      by p stands e =
+          let full = ap (λ n. s.unit *ℤ pos n) (ap (λ o. (need_at i p.job o).time) stands.operation ∙ ones p.job stands.job) in
+          omega (arith, ints, sym (*ℤ-one (length_of p)) ∙ e ∙ full ∙ *ℤ-one s.unit)
 
   to_floor : All (λ p. floor s.unit p.to ≡ floor s.unit p.from +ℤ s.unit) s.pieces
   to_floor k d l = ap (floor s.unit) (long k d l) ∙ floor-next s.unit (get_or s.pieces k d).from f.unit (f.span k d l).0
@@ -154,7 +148,7 @@ module _ (i : Instance) (s : Schedule) (kind : kind_of i.class.env ≡ Identical
       factor = ≤ℤ_refl (pos 1);
       zero_is = ap (λ n. s.unit *ℤ pos n) (zero-div (nat_abs s.unit)) ∙ *ℤ-zero s.unit;
       monotone = λ x y p h. floor-mono s.unit x y f.unit p h;
-      long = λ k d l. same (get_or s.pieces k d).from (get_or s.pieces k d).to s.unit _ _ (long k d l) (to_floor k d l);
+      long = λ k d l. omega (arith, ints, long k d l, to_floor k d l);
     };
     operations = Suits-same (frame_by Identical i) (frame_by Identical i) s.unit (record {
       jobs = refl;
@@ -168,9 +162,6 @@ module _ (i : Instance) (s : Schedule) (kind : kind_of i.class.env ≡ Identical
     arcs = All-contains_itself i.arcs;
     routed = λ e. inl e;
   }
-    where
-      same : (a b u x y : ℤ) → b ≡ a +ℤ u → y ≡ x +ℤ u → y -ℤ x ≡ pos 1 *ℤ (b -ℤ a)
-      same a b u x y e h = omega (arith, ints)
 
   same_schedule : carried_schedule s.unit (floor s.unit) (λ j o. o) s ≡ floored s
   same_schedule = ap (λ l. record { unit = s.unit; pieces = l }) (map-same (carried (floor s.unit) (λ j o. o)) (floored_piece s.unit) s.pieces

@@ -12,10 +12,8 @@ abbrev pub FillsUnit : ℕ → Piece → Type 0
 FillsUnit unit p = (q : ℕ) × (p.from ≡ pos (unit * q)) × (p.to ≡ pos (unit * q + unit))
 
 pub floored-fills : (s : Schedule) → pos 1 ≤ℤ s.unit → All (FillsUnit (nat_abs s.unit)) (floored s).pieces
-floored-fills s h = All-map (FillsUnit (nat_abs s.unit)) (floored_piece s.unit) s.pieces (λ k d l. let p = get_or s.pieces k d in by (nat_abs p.from / nat_abs s.unit))
+floored-fills s h = All-map (FillsUnit (nat_abs s.unit)) (floored_piece s.unit) s.pieces (λ k d l.
+    let q = nat_abs (get_or s.pieces k d).from / nat_abs s.unit in (q, ap (λ u. u *ℤ pos q) is, ap (λ u. (u *ℤ pos q) +ℤ u) is))
   where
     is : s.unit ≡ pos (nat_abs s.unit)
     is = natural s.unit (omega (arith, ints))
-
-    by : (q : ℕ) → (r : ℕ) × (s.unit *ℤ pos q ≡ pos (nat_abs s.unit * r)) × ((s.unit *ℤ pos q) +ℤ s.unit ≡ pos (nat_abs s.unit * r + nat_abs s.unit))
-    by q = (q, ap (λ u. u *ℤ pos q) is, ap (λ u. (u *ℤ pos q) +ℤ u) is)

@@ -1,7 +1,7 @@
 -- The law of groups, and what it says of one job and of all jobs: a job runs on one machine at a time, so few jobs do not use more machines than they are.
 use Rattle.std.proofs.Common.{◌≡◌, ℕ, ◌+◌, ◌*◌, ◌<◌, ◌≤◌, inl, inr, min, Bool, true, false, cond, eqb, length, filter, pos, nat_abs, ◌*ℤ◌, ◌-ℤ◌, ◌≤ℤ◌, All}
 use Rattle.std.proofs.Common.{refl, sym, ap, subst, subst₂, ◌∙◌, arith}
-use Rattle.std.proofs.Math.Nat.{mul-le-mul_left}
+use Rattle.std.proofs.Math.Nat.{mul-le-mul_left, min-eq_left, min-eq_right}
 use Rattle.std.proofs.lemmas.Bool.{cases_lt}
 use Rattle.msp_class.specs.declared.environments.EnvKind.TheVariants.{Identical}
 use Rattle.msp_class.specs.Env.{kind_of}
@@ -99,13 +99,10 @@ module _ (i : Instance) (kind : kind_of i.class.env ≡ Identical) (s : Schedule
         has = law_of_ends.room i s test (pos 0) (pos c) kind f (≤ℤ_refl (pos 0)) (zero-le-pos c) (λ k d l e. (f.span k d l).0) ends
 
     pub group_is_over : unit * time_together i test ≤ min (jobs_together i test) i.machines * c
-    group_is_over = by (jobs_together i test) i.machines by_jobs by_machines
-      where
-        by : (x y : ℕ) → unit * time_together i test ≤ x * c → unit * time_together i test ≤ y * c → unit * time_together i test ≤ min x y * c
-        by x y p q = elim (cases_lt x y) [
-          | inl less ↦ subst (λ k. unit * time_together i test ≤ k * c) (let e : x ≡ min x y = omega arith in e) p
-          | inr past ↦ subst (λ k. unit * time_together i test ≤ k * c) (let e : y ≡ min x y = omega arith in e) q
-        ]
+    group_is_over = elim (cases_lt (jobs_together i test) i.machines) [
+      | inl less ↦ subst (λ k. unit * time_together i test ≤ k * c) (sym (min-eq_left (omega (arith, less)))) by_jobs
+      | inr past ↦ subst (λ k. unit * time_together i test ≤ k * c) (sym (min-eq_right past)) by_machines
+    ]
 
   has_time : (test : ℕ → Bool) (c : ℕ) → ((j : ℕ) → j < length i.jobs → test j ≡ true → end_of s j ≤ℤ pos c) → HasTimeFor i s test (pos c)
   has_time test c ends = subst (λ x. (x *ℤ pos (time_together i test)) ≤ℤ (pos (min (jobs_together i test) i.machines) *ℤ pos c)) (sym unit_is) (pos-le (group_is_over test c ends))

@@ -82,10 +82,7 @@ module _ (i : Instance) (level : ℕ → ℕ) (kind : kind_of i.class.env ≡ Id
         let one = All-contains (λ a. All (λ p. All (λ q. p.job ≡ a.before → q.job ≡ a.after → IsBefore p q) s.pieces) s.pieces) i.arcs (record { before = j; after = k }) f.arc step in
         let two = All-contains (λ p. All (λ q. p.job ≡ j → q.job ≡ k → IsBefore p q) s.pieces) s.pieces a.piece one a.here in
         let before = All-contains (λ q. a.piece.job ≡ j → q.job ≡ k → IsBefore a.piece q) s.pieces z.piece two z.here a.of z.of in
-        by (le-pos (subst₂ (λ x y. x ≤ℤ y) a.to z.from before))
-      where
-        by : unit * q + unit ≤ unit * r → q + 1 ≤ r
-        by h = le_of_mul-le-mul_left {k = unit} (omega (arith, h)) some_unit
+        le_of_mul-le-mul_left {k = unit} (omega (arith, le-pos (subst₂ (λ x y. x ≤ℤ y) a.to z.from before))) some_unit
 
     -- the last job ends at a whole number of units, and a job of at least level t ends at least t units earlier
     module _ (k r : ℕ) (last : EndsLast i s (λ _. true) k) (z : IsRun k r) where

@@ -1,8 +1,8 @@
 -- The law of machines and the law of lines: in shops an operation has its time on its own machine, and none of its job's other operations runs then.
-use Rattle.std.proofs.Common.{◌≡◌, ◌≢◌, ℕ, ◌*◌, ◌-◌, ◌<◌, ◌≤◌, Bool, true, false, cond, eqb, List, length, get_or, filter, ℤ, pos, nat_abs, ◌*ℤ◌, ◌≤ℤ◌, All, sum_by, refl}
-use Rattle.std.proofs.Common.{sym, ap, ap₂, subst, subst₂, ◌∙◌, arith}
+use Rattle.std.proofs.Common.{◌≡◌, ◌≢◌, ℕ, ◌*◌, ◌-◌, ◌<◌, ◌≤◌, Bool, true, cond, eqb, List, length, get_or, filter, ℤ, pos, nat_abs, ◌*ℤ◌, ◌≤ℤ◌, All, sum_by, refl}
+use Rattle.std.proofs.Common.{sym, ap, ap₂, subst, subst₂, ◌∙◌, arith, inl, inr}
 use Rattle.std.specs.Prelude.{◌==◌, ◌&&◌}
-use Rattle.std.proofs.lemmas.Bool.{eqb-true, eqb-false}
+use Rattle.std.proofs.lemmas.Bool.{eqb-true, cases_eq}
 use Rattle.std.proofs.lemmas.Int.{ints}
 use Rattle.std.proofs.lemmas.List.Elements.{All-filter, filter_passes}
 use Rattle.msp_class.specs.declared.environments.EnvKind.{EnvKind}
@@ -25,7 +25,7 @@ use Rattle.msp_pieces.specs.Intervals.{size_of}
 use Rattle.msp_pieces.proofs.lists.Intervals.{apart_on_each, packed, last_of, greatest_by-bound}
 use Rattle.msp_pieces.proofs.feasible.OneMachine.{unit_in_parts, pieces_timed, machines_apart, jobs_apart, total_lengths, last_end-is}
 use Rattle.msp_pieces.proofs.feasible.LastEnds.{last_end-bound}
-use Rattle.msp_pieces.proofs.feasible.Frames.{Fits, Fits-from_feasible, frame_of, rate_on, part, of_operation, map-same}
+use Rattle.msp_pieces.proofs.feasible.Frames.{Fits-from_feasible, frame_of, rate_on, part, of_operation, map-same}
 
 -- what feasibility reads of a shop
 record IsShopKind (k : EnvKind) (i : Instance) : Type 0 where
@@ -45,9 +45,6 @@ kind_reads _ e i = absurd (cc)
 module _ (i : Instance) (s : Schedule) (shop : is_shop i.class.env ≡ true) (f : Feasible i s) where
   reads : IsShopKind (kind_of i.class.env) i
   reads = kind_reads (kind_of i.class.env) shop i
-
-  fits : Fits (frame_of i) s.unit s.pieces
-  fits = Fits-from_feasible i s (record { unrelated = λ e. absurd (reads.other e) }) f
 
   abbrev unit : ℕ
   unit = nat_abs s.unit
@@ -70,15 +67,14 @@ module _ (i : Instance) (s : Schedule) (shop : is_shop i.class.env ≡ true) (f 
     full n = pos-same (
         sym (total_lengths own (All-filter (λ p. (p.job == j) && (p.op == o)) IsTimed s.pieces (pieces_timed i s f)))
         ∙ ap total (map-same length_of (part (frame_of i)) own (λ k d b. let p = get_or own k d in sym (ap (λ r. length_of p *ℤ pos r) (reads.rate p.job p.machine) ∙ *ℤ-one (length_of p))))
-        ∙ (fits.work j o l (reads.all j o m n)).sum
+        ∙ ((Fits-from_feasible i s (record { unrelated = λ e. absurd (reads.other e) }) f).work j o l (reads.all j o m n)).sum
         ∙ ap₂ (λ u t. u *ℤ pos t) (unit_in_parts i s f) (reads.want j o))
 
     operation_is_done : unit * (need_at i j o).time ≤ sum_by size (filter (λ p. eqb p.op o) (share j))
-    operation_is_done = by (eqb (need_at i j o).time 0) refl
-      where
-        by : (b : Bool) → eqb (need_at i j o).time 0 ≡ b → unit * (need_at i j o).time ≤ sum_by size (filter (λ p. eqb p.op o) (share j))
-        by true e = omega (arith, ap (λ t. unit * t) (eqb-true _ _ e))
-        by false e = omega (arith, full (eqb-false _ _ e), ap (sum_by size) (filter-both (λ p. eqb p.job j) (λ p. eqb p.op o) s.pieces))
+    operation_is_done = elim (cases_eq (need_at i j o).time 0) [
+      | inl e ↦ omega (arith, ap (λ t. unit * t) e)
+      | inr n ↦ omega (arith, full n, ap (sum_by size) (filter-both (λ p. eqb p.job j) (λ p. eqb p.op o) s.pieces))
+    ]
 
   of_share : (j : ℕ) → All (λ p. p.job ≡ j) (share j)
   of_share j k d l = eqb-true _ _ (filter_passes (λ p. eqb p.job j) s.pieces k d l)

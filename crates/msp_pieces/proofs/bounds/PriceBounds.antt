@@ -7,7 +7,7 @@ use Rattle.std.proofs.lemmas.List.FromFn.{length-range_with_len, get_or-range_wi
 use Rattle.msp_class.specs.declared.environments.EnvKind.TheVariants.{Unrelated}
 use Rattle.msp_class.specs.declared.class.Crit.TheVariants.{SumC}
 use Rattle.msp_class.specs.Env.{kind_of}
-use Rattle.msp_class.proofs.IntegerRing.{pos-le, +ℤ_mono, ≤ℤ_refl, ≤ℤ_trans, *ℤ-mono_nonneg}
+use Rattle.msp_class.proofs.IntegerRing.{pos-le, ≤ℤ_trans, *ℤ-mono_nonneg}
 use Rattle.msp_class.specs.Sums.{total_below, int_total_below}
 use Rattle.msp_class.proofs.Sums.{total_below-same, total_below-scale, int_total_below-same, int_total_below-mono, int_total_below-add, int_total_below-pos}
 use Rattle.msp_instance.specs.declared.Instance.{Instance}
@@ -32,27 +32,21 @@ total_over_range n g =
 -- what naturals make up for
 fills_up : (n : ℕ) (g : ℕ → ℤ) (c : ℕ → ℕ) → ((k : ℕ) → k < n → g k +ℤ pos (c k) ≡ pos 0) → int_total_below n g +ℤ pos (total_below n c) ≡ pos 0
 fills_up zero g c h = refl
-fills_up (suc n) g c h = by (int_total_below n g) (g n) (total_below n c) (c n) (fills_up n g c (λ k l. h k (omega arith))) (h n (omega arith))
-  where
-    by : (x y : ℤ) (a b : ℕ) → x +ℤ pos a ≡ pos 0 → y +ℤ pos b ≡ pos 0 → (x +ℤ y) +ℤ pos (a + b) ≡ pos 0
-    by x y a b e f = omega (arith, ints)
+fills_up (suc n) g c h = omega (arith, ints, fills_up n g c (λ k l. h k (omega arith)), h n (omega arith))
 
 -- of numbers that are not above 0, pairs without repeats take no less than all pairs
 pub distinct_low_pairs : (n rows columns : ℕ) (x y : ℕ → ℕ) (g : ℕ → ℕ → ℤ) → ((m k : ℕ) → m < rows → k < columns → g m k ≤ℤ pos 0)
     → ((a : ℕ) → a < n → (x a < rows) × (y a < columns)) → ((a b : ℕ) → a < n → b < n → x a ≡ x b → y a ≡ y b → a ≡ b)
     → int_total_below rows (λ m. int_total_below columns (λ k. g m k)) ≤ℤ int_total_below n (λ a. g (x a) (y a))
 distinct_low_pairs n rows columns x y g low inside once =
-    by _ _ _ _
-    (fills_up rows (λ m. int_total_below columns (λ k. g m k))
-    (λ m. total_below columns (λ k. nat_abs (g m k))) (λ m l. fills_up columns (λ k. g m k) (λ k. nat_abs (g m k)) (λ k h. gone (g m k) (low m k l h))))
-    (fills_up n (λ a. g (x a) (y a)) (λ a. nat_abs (g (x a) (y a))) (λ a l. gone (g (x a) (y a)) (low (x a) (y a) (inside a l).0 (inside a l).1)))
-    (distinct_pairs n rows columns x y (λ m k. nat_abs (g m k)) inside once)
+    let all = fills_up rows (λ m. int_total_below columns (λ k. g m k)) (λ m. total_below columns (λ k. nat_abs (g m k)))
+    (λ m l. fills_up columns (λ k. g m k) (λ k. nat_abs (g m k)) (λ k h. gone (g m k) (low m k l h))) in
+    let own = fills_up n (λ a. g (x a) (y a)) (λ a. nat_abs (g (x a) (y a)))
+    (λ a l. gone (g (x a) (y a)) (low (x a) (y a) (inside a l).0 (inside a l).1)) in
+    omega (arith, ints, all, own, distinct_pairs n rows columns x y (λ m k. nat_abs (g m k)) inside once)
   where
     gone : (z : ℤ) → z ≤ℤ pos 0 → z +ℤ pos (nat_abs z) ≡ pos 0
     gone z h = omega (arith, ints)
-
-    by : (u v : ℤ) (a b : ℕ) → u +ℤ pos a ≡ pos 0 → v +ℤ pos b ≡ pos 0 → b ≤ a → u ≤ℤ v
-    by u v a b e f h = omega (arith, ints)
 
 -- ---- the law
 module _ (i : Instance) (s : Schedule) (job : ℕ → ℤ) (position : ℕ → ℕ → ℤ)
@@ -98,11 +92,9 @@ module _ (i : Instance) (s : Schedule) (job : ℕ → ℤ) (position : ℕ → �
 
   -- the ends together are no less than the unit times what the jobs lengthen them by
   ends_take : unit * total_below n (λ j. count j * time j) ≤ total_below n end
-  ends_take = subst (λ t. t ≤ total_below n end) (total_below-same n _ (λ j. unit * (count j * time j)) (λ j l. turned _ _ _ _ (size j l)) ∙ total_below-scale n unit (λ j. count j * time j))
+  ends_take = subst (λ t. t ≤ total_below n end)
+      (total_below-same n _ (λ j. unit * (count j * time j)) (λ j l. ap (λ y. y * count j) (size j l) ∙ omega arith) ∙ total_below-scale n unit (λ j. count j * time j))
       (sum_of_ends n machine end begin lasts apart)
-    where
-      turned : (x u t c : ℕ) → x ≡ u * t → x * c ≡ u * (c * t)
-      turned x u t c e = ap (λ y. y * c) e ∙ omega arith
 
   -- and the prices of the jobs and of their positions are no more than that
   priced : (j : ℕ) → j < n → (job j +ℤ position (machine j) (count j - 1)) ≤ℤ pos (count j * time j)
@@ -123,11 +115,9 @@ module _ (i : Instance) (s : Schedule) (job : ℕ → ℤ) (position : ℕ → �
 
   all_low : all_prices i job position ≤ℤ pos (total_below n (λ j. count j * time j))
   all_low =
-      subst (λ x. x ≤ℤ pos (total_below n (λ j. count j * time j))) (sym all_is)
-      (≤ℤ_trans (+ℤ_mono (≤ℤ_refl (int_total_below n job)) positions_low)
-      (≤ℤ_trans (subst (λ x. x ≤ℤ int_total_below n (λ j. pos (count j * time j))) (int_total_below-add n job (λ j. position (machine j) (count j - 1)))
-      (int_total_below-mono n (λ j. job j +ℤ position (machine j) (count j - 1)) (λ j. pos (count j * time j)) priced))
-      (subst (λ x. x ≤ℤ pos (total_below n (λ j. count j * time j))) (sym (int_total_below-pos n (λ j. count j * time j))) (≤ℤ_refl _))))
+      let pairs = int_total_below-mono n (λ j. job j +ℤ position (machine j) (count j - 1)) (λ j. pos (count j * time j)) priced in
+      let split = int_total_below-add n job (λ j. position (machine j) (count j - 1)) in
+      omega (arith, ints, all_is, positions_low, pairs, split, int_total_below-pos n (λ j. count j * time j))
 
   bound : (s.unit *ℤ all_prices i job position) ≤ℤ cost_of i s
   bound =

@@ -26,7 +26,7 @@ use Rattle.msp_pieces.specs.Speeds.{HaveSpeeds, speed_by, speed_of, speed_above,
 use Rattle.msp_pieces.proofs.lists.Intervals.{apart_on_each, packed, work_by_job, last_of}
 use Rattle.msp_pieces.proofs.feasible.OneMachine.{length-timed, unit_in_parts, pieces_timed, machines_apart, jobs_apart, pieces_of-job, total_in_nat, last_end-is}
 use Rattle.msp_pieces.proofs.feasible.LastEnds.{last_end-bound}
-use Rattle.msp_pieces.proofs.feasible.Frames.{Fits, Fits-from_feasible, frame_of, rate_on, part, map-same}
+use Rattle.msp_pieces.proofs.feasible.Frames.{Fits-from_feasible, frame_of, rate_on, part, map-same}
 use Rattle.msp_pieces.proofs.bounds.Groups.{ends_last}
 
 -- ---- pieces of time on machines with speeds
@@ -42,10 +42,9 @@ module _ {X : Type 0} (job machine from to : X → ℕ) (speed : ℕ → ℕ) (t
   above m = speed m - threshold
 
   done-split : (q : X) → done q ≤ threshold * size q + above (machine q) * size q
-  done-split q = by (size q) (speed (machine q)) threshold (above (machine q)) (omega arith)
-    where
-      by : (s v t w : ℕ) → v ≤ t + w → s * v ≤ t * s + w * s
-      by s v t w h = omega (arith, mul-le-mul_left s h)
+  done-split q =
+      let most : speed (machine q) ≤ threshold + above (machine q) = omega arith in
+      omega (arith, mul-le-mul_left (size q) most)
 
   module _ (test : ℕ → Bool) (m n c : ℕ) (xs : List X) (jobs : All (λ q. job q < n) xs) (machines : All (λ q. machine q < m) xs)
       (on_machines : AllPairs (IsApartOn machine from to) xs) (on_jobs : AllPairs (IsApartOn job from to) xs) (ends : All (λ q. test (job q) ≡ true → to q ≤ c) xs) where
@@ -101,18 +100,15 @@ module _ {X : Type 0} (job machine from to : X → ℕ) (speed : ℕ → ℕ) (t
 
     -- the work on the jobs that pass the test
     pub speeds_hold : total_below n (λ j. cond (test j) (sum_by done (filter (λ q. eqb (job q) j) xs)) 0) ≤ c * (total_below n (λ j. cond (test j) 1 0) * threshold + total_below m above)
-    speeds_hold = along _ _ threshold _ _ _ _ c
-        (sum_by-filter done (λ q. test (job q)) xs ∙ sum_by-by_key_test job done test n xs jobs)
-        (omega (
-          arith,
-          sum_by-mono done (λ q. threshold * size q + extra q) picked (λ k d l. done-split (get_or picked k d)),
-          sum_by-add (λ q. threshold * size q) extra picked,
-          sum_by-scale threshold size picked,
-        ))
-        by_job by_machine
-      where
-        along : (d l t s b k a c : ℕ) → d ≡ l → d ≤ t * s + b → s ≤ k * c → b ≤ a * c → l ≤ c * (k * t + a)
-        along d l t s b k a c e h p q = omega (arith, e, h, q, mul-le-mul_left t p)
+    speeds_hold = omega (
+      arith,
+      sum_by-filter done (λ q. test (job q)) xs ∙ sum_by-by_key_test job done test n xs jobs,
+      sum_by-mono done (λ q. threshold * size q + extra q) picked (λ k d l. done-split (get_or picked k d)),
+      sum_by-add (λ q. threshold * size q) extra picked,
+      sum_by-scale threshold size picked,
+      mul-le-mul_left threshold by_job,
+      by_machine,
+    )
 
 -- ---- identical and uniform machines
 -- what feasibility reads of them
@@ -144,9 +140,6 @@ module _ (i : Instance) (s : Schedule) (speeds : HaveSpeeds (kind_of i.class.env
   reads : IsSpeedKind (kind_of i.class.env) i
   reads = kind_reads (kind_of i.class.env) speeds i
 
-  fits : Fits (frame_of i) s.unit s.pieces
-  fits = Fits-from_feasible i s (record { unrelated = λ e. absurd (reads.other e) }) f
-
   abbrev unit : ℕ
   unit = nat_abs s.unit
 
@@ -172,7 +165,7 @@ module _ (i : Instance) (s : Schedule) (speeds : HaveSpeeds (kind_of i.class.env
       ∙ ap total (map-same (λ p. length_of p *ℤ pos (speed_of i p.machine))
       (part (frame_of i)) (own j) (λ k d b. let p = get_or (own j) k d in ap (λ r. length_of p *ℤ pos r) (sym (reads.rate p.job p.machine))))
       ∙ ap (λ ps. total (map (part (frame_of i)) ps)) (sym (pieces_of-job s j operations))
-      ∙ (fits.work j 0 l (reads.one j)).sum
+      ∙ ((Fits-from_feasible i s (record { unrelated = λ e. absurd (reads.other e) }) f).work j 0 l (reads.one j)).sum
       ∙ ap₂ (λ u t. u *ℤ pos t) (unit_in_parts i s f) (reads.want j))
 
   module _ (test : ℕ → Bool) (threshold c : ℕ) (ends : (j : ℕ) → j < n → test j ≡ true → end_of s j ≤ℤ pos c) where

@@ -1,8 +1,8 @@
 -- Moments at which some piece runs, and schedules from which all idle stretches are taken out.
-use Rattle.std.proofs.Common.{◌≡◌, ℕ, zero, suc, ◌+◌, ◌*◌, ◌-◌, ◌≤◌, ◌<◌, ◌⊎◌, inl, inr, min, max, Bool, true, false, cond, leb, ltb, ◌&&◌, ◌||◌, List, [], ◌∷◌, length, get_or}
+use Rattle.std.proofs.Common.{◌≡◌, ℕ, zero, suc, ◌+◌, ◌*◌, ◌-◌, ◌≤◌, ◌<◌, ◌⊎◌, inl, inr, min, max, true, false, cond, List, [], ◌∷◌, length, get_or}
 use Rattle.std.proofs.Common.{All, AllPairs, Contains, sum_by, ℤ, pos, nat_abs, ◌-ℤ◌, ◌*ℤ◌, ◌≤ℤ◌, refl, sym, ap, ap₂, subst, ◌∙◌, arith}
 use Rattle.std.proofs.lemmas.List.{get_or_default}
-use Rattle.std.proofs.lemmas.Bool.{cases_lt, leb-true, leb-false, ltb-true, ltb-false}
+use Rattle.std.proofs.lemmas.Bool.{cases_lt, and_from, and_left, and_right, or_left, or_right, lt-ltb, le-ltb, le-leb, lt-leb}
 use Rattle.std.proofs.lemmas.Int.{ints}
 use Rattle.std.proofs.lemmas.List.Sums.{sum_by-cons}
 use Rattle.std.proofs.lemmas.List.Folds.{list_any_none}
@@ -19,33 +19,18 @@ use Rattle.msp_pieces.proofs.feasible.Frames.{Frame, Lasts, Fits}
 use Rattle.msp_pieces.proofs.changes.Moves.{Suits}
 use Rattle.msp_pieces.proofs.changes.Transport.{Stretches, Carries}
 use Rattle.msp_pieces.specs.Busy.{runs, some_runs, busy, busy_moment}
+use Rattle.std.proofs.lemmas.Bool.Decides.{nat_tests}
 
 -- ---- in ℕ, for elements of any type with the moments at which they begin and end
 module _ {X : Type 0} (from to : X → ℕ) where
-  runs-yes : (u : ℕ) (q : X) → from q ≤ u → u < to q → runs from to u q ≡ true
-  runs-yes u q h k = by (leb (from q) u) refl (ltb u (to q)) refl
-    where
-      by : (b : Bool) → leb (from q) u ≡ b → (c : Bool) → ltb u (to q) ≡ c → (b && c) ≡ true
-      by true e true f = refl
-      by true e false f = absurd (omega (arith, ltb-false _ _ f))
-      by false e c f = absurd (omega (arith, leb-false _ _ e))
-
   runs-no : (u : ℕ) (q : X) → (u < from q) ⊎ (to q ≤ u) → runs from to u q ≡ false
-  runs-no u q h = by (leb (from q) u) refl (ltb u (to q)) refl
-    where
-      by : (b : Bool) → leb (from q) u ≡ b → (c : Bool) → ltb u (to q) ≡ c → (b && c) ≡ false
-      by true e true f = absurd (omega (arith, h, leb-true _ _ e, ltb-true _ _ f))
-      by true e false f = refl
-      by false e c f = refl
+  runs-no u q h = elim h [ inl l ↦ and_left _ _ (lt-leb (from q) u l) | inr l ↦ and_right _ _ (le-ltb u (to q) l) ]
 
   some_runs-yes : (xs : List X) (u : ℕ) (q : X) → Contains xs q → from q ≤ u → u < to q → some_runs from to xs u ≡ true
   some_runs-yes [] u q c h k = absurd (omega (arith, c.1))
-  some_runs-yes (x ∷ xs) u q (zero, l, e) h k = ap (λ b. b || some_runs from to xs u) (ap (runs from to u) e ∙ runs-yes u q h k)
-  some_runs-yes (x ∷ xs) u q (suc n, l, e) h k = ap (λ b. runs from to u x || b) (some_runs-yes xs u q (n, omega arith, e) h k) ∙ or_true (runs from to u x)
-    where
-      or_true : (b : Bool) → (b || true) ≡ true
-      or_true true = refl
-      or_true false = refl
+  some_runs-yes (x ∷ xs) u q (zero, l, e) h k =
+      or_left _ (some_runs from to xs u) (ap (runs from to u) e ∙ and_from _ _ (le-leb (from q) u h) (lt-ltb u (to q) k))
+  some_runs-yes (x ∷ xs) u q (suc n, l, e) h k = or_right (runs from to u x) _ (some_runs-yes xs u q (n, omega arith, e) h k)
 
   some_runs-no : (xs : List X) (u : ℕ) → All (λ q. (u < from q) ⊎ (to q ≤ u)) xs → some_runs from to xs u ≡ false
   some_runs-no xs u h = list_any_none (runs from to u) xs (λ k d l. runs-no u (get_or xs k d) (h k d l))
@@ -69,31 +54,17 @@ module _ {X : Type 0} (from to : X → ℕ) where
   pub busy-idle : (xs : List X) (a b : ℕ) → a ≤ b → All (λ q. (to q ≤ a) ⊎ (b ≤ from q)) xs → busy from to xs b ≡ busy from to xs a
   busy-idle xs a b k h =
       busy-add xs a b k ∙ ap (λ n. busy from to xs a + n)
-      (total_below-none (b - a) _ (λ i m. ap (λ t. cond t 1 0) (some_runs-no xs (a + i) (λ j d l. outside a b i (from (get_or xs j d)) (to (get_or xs j d)) m (h j d l)))))
+      (total_below-none (b - a) _ (λ i m. ap (λ t. cond t 1 0) (some_runs-no xs (a + i) (λ j d l. let out = h j d l in grind (arith, out)))))
       ∙ omega arith
-    where
-      outside : (a b i u v : ℕ) → i < b - a → (v ≤ a) ⊎ (b ≤ u) → (a + i < u) ⊎ (v ≤ a + i)
-      outside a b i u v m (inl h) = inr (omega arith)
-      outside a b i u v m (inr h) = inl (omega arith)
 
   -- one element runs as long as it lasts
   runs-length : (q : X) (t : ℕ) → total_below t (λ u. cond (runs from to u q) 1 0) ≤ min t (to q) - from q
   runs-length q zero = omega arith
-  runs-length q (suc t) = by (leb (from q) t) refl (ltb t (to q)) refl (runs-length q t)
-    where
-      by : (b : Bool) → leb (from q) t ≡ b → (c : Bool) → ltb t (to q) ≡ c → total_below t (λ u. cond (runs from to u q) 1 0) ≤ min t (to q) - from q
-          → total_below t (λ u. cond (runs from to u q) 1 0) + cond (b && c) 1 0 ≤ min (suc t) (to q) - from q
-      by true e true f h = omega (arith, leb-true _ _ e, ltb-true _ _ f)
-      by true e false f h = omega (arith, ltb-false _ _ f)
-      by false e c f h = omega (arith, leb-false _ _ e)
+  runs-length q (suc t) = grind (arith, nat_tests, runs-length q t)
 
   some_runs-sum : (xs : List X) (u : ℕ) → cond (some_runs from to xs u) 1 0 ≤ sum_by (λ q. cond (runs from to u q) 1 0) xs
   some_runs-sum [] u = omega arith
-  some_runs-sum (x ∷ xs) u = by (runs from to u x) (some_runs from to xs u) (some_runs-sum xs u) (sum_by-cons (λ q. cond (runs from to u q) 1 0) x xs)
-    where
-      by : (b c : Bool) {m n : ℕ} → cond c 1 0 ≤ m → n ≡ cond b 1 0 + m → cond (b || c) 1 0 ≤ n
-      by true c h e = omega arith
-      by false c h e = omega arith
+  some_runs-sum (x ∷ xs) u = grind (arith, some_runs-sum xs u, sum_by-cons (λ q. cond (runs from to u q) 1 0) x xs)
 
   -- the elements last at least as long together as some of them runs
   pub busy-lengths : (xs : List X) (t : ℕ) → busy from to xs t ≤ sum_by (size_of from to) xs
@@ -199,11 +170,9 @@ module _ (e : ℕ) (ps : List Piece) where
       long p c h =
           let t = IsTimed-from_span p h in
           let more = busy-runs start finish ps p c (start p) (finish p) (omega arith) (omega (arith, t.lasts)) (omega arith) in
+          let grown : pos (busy start finish ps (finish p)) -ℤ pos (busy start finish ps (start p)) ≡ pos (finish p) -ℤ pos (start p) = omega (arith, ints, more, t.lasts) in
           sym (*ℤ-sub (pos e) (pos (busy start finish ps (finish p))) (pos (busy start finish ps (start p))))
-          ∙ ap (λ z. pos e *ℤ z) (grown (busy start finish ps (start p)) (busy start finish ps (finish p)) (start p) (finish p) more (omega (arith, t.lasts)) ∙ sym (ap₂ ◌-ℤ◌ t.to t.from))
-        where
-          grown : (m n a b : ℕ) → n ≡ m + (b - a) → a ≤ b → pos n -ℤ pos m ≡ pos b -ℤ pos a
-          grown m n a b h k = omega (arith, ints)
+          ∙ ap (λ z. pos e *ℤ z) (grown ∙ sym (ap₂ ◌-ℤ◌ t.to t.from))
 
   -- no moment is later than e times what it was, or than e times all pieces together
   pub busy_moment-le : (x : ℤ) → pos 0 ≤ℤ x → busy_moment e ps x ≤ℤ (pos e *ℤ x)

@@ -1,10 +1,10 @@
 -- One machine without release dates: the jobs in the order of their ends, lined up without gaps, end no later.
-use Rattle.std.proofs.Common.{◌≡◌, ◌≢◌, ◌⊎◌, inl, inr, ℕ, zero, suc, ◌+◌, ◌*◌, ◌≤◌, ◌<◌, Bool, true, false, cond, eqb, leb, if◌then◌else◌, List, [], ◌∷◌, get_or, length, All}
-use Rattle.std.proofs.Common.{AllPairs, Contains, count_by, ℤ, pos, nat_abs, ◌≤ℤ◌, ◌<ℤ◌, refl, sym, ap, ap₂, subst, subst₂, ◌∙◌, arith}
+use Rattle.std.proofs.Common.{◌≡◌, ◌≢◌, ◌⊎◌, inl, inr, ℕ, zero, suc, ◌+◌, ◌*◌, ◌≤◌, ◌<◌, Bool, true, false, cond, eqb, leb, List, [], ◌∷◌, get_or, length, All}
+use Rattle.std.proofs.Common.{AllPairs, Contains, count_by, ℤ, pos, nat_abs, ◌≤ℤ◌, ◌<ℤ◌, refl, sym, ap, ap₂, subst, subst₂, ◌∙◌, arith, sum_by}
 use Rattle.std.specs.Prelude.{int_lt}
 use Rattle.std.specs.List.{range_with_len}
 use Rattle.std.proofs.lemmas.List.Kept.{AllPairs-cons}
-use Rattle.std.proofs.lemmas.Bool.{eqb-true, eqb-false, le-leb}
+use Rattle.std.proofs.lemmas.Bool.{eqb-true, eqb-false, le-leb, cond_both}
 use Rattle.std.proofs.Math.Nat.{mul-pos, mul-one, one-mul}
 use Rattle.std.proofs.lemmas.Int.{ints}
 use Rattle.std.proofs.lemmas.List.Sums.{sum_by-cons}
@@ -135,16 +135,13 @@ module _ (i : Instance) (line : IsLine i) (s : Schedule) (f : Feasible i s) (ord
       subst₂ (λ x y. x <ℤ last_end s.pieces y) tp eq (omega (arith, ints, (All-contains Lasts s.pieces q f.span cq).1, last_end-contains s.pieces q cq))
 
   pub forward_by_ends : AllPairs (MayPrecede i.arcs) order
-  forward_by_ends a b d h k arc c e g = never (end_of s (get_or order a d)) (end_of s (get_or order b d)) (rises a b d h k) (subst₂ (λ x y. end_of s x <ℤ end_of s y) e g (arc_grows arc c))
-    where
-      never : (x y : ℤ) → x ≤ℤ y → y <ℤ x → ⊥
-      never x y h k = omega (arith, ints)
+  forward_by_ends a b d h k arc c e g =
+      omega (arith, ints, rises a b d h k, subst₂ (λ x y. end_of s x <ℤ end_of s y) e g (arc_grows arc c))
 
   pub loose_by_ends : All (λ a. a.before ≢ a.after) i.arcs
-  loose_by_ends k d l e = never (end_of s (get_or i.arcs k d).after) (subst (λ x. end_of s x <ℤ end_of s (get_or i.arcs k d).after) e (arc_grows (get_or i.arcs k d) (Contains-get_or i.arcs k d l)))
-    where
-      never : (x : ℤ) → x <ℤ x → ⊥
-      never x h = omega (arith, ints)
+  loose_by_ends k d l e =
+      let a = get_or i.arcs k d in
+      omega (arith, ints, subst (λ x. end_of s x <ℤ end_of s a.after) e (arc_grows a (Contains-get_or i.arcs k d l)))
 
   -- no two jobs end together
   ends_differ : (a b : ℕ) → a < length i.jobs → b < length i.jobs → end_of s a ≡ end_of s b → a ≡ b
@@ -156,10 +153,8 @@ module _ (i : Instance) (line : IsLine i) (s : Schedule) (f : Feasible i s) (ord
       let together : finish p ≡ finish q = ap nat_abs (tp ∙ e ∙ sym tq) in
       elim (AllPairs-contains (IsApart start finish) s.pieces p q plan.apart cp cq) [
         | inl apart ↦ absurd (never (start p) (finish p) (start q) (finish q) h.lasts k.lasts together apart)
-        | inr rest ↦ elim rest [
-          | inl same ↦ sym jp ∙ ap (λ x. x.job) same ∙ jq
-          | inr apart ↦ absurd (never (start q) (finish q) (start p) (finish p) k.lasts h.lasts (sym together) apart)
-        ]
+        | inr (inl same) ↦ sym jp ∙ ap (λ x. x.job) same ∙ jq
+        | inr (inr apart) ↦ absurd (never (start q) (finish q) (start p) (finish p) k.lasts h.lasts (sym together) apart)
       ]
     where
       never : (a b c d : ℕ) → a < b → c < d → b ≡ d → (b ≤ c) ⊎ (d ≤ a) → ⊥
@@ -173,7 +168,7 @@ module _ (i : Instance) (line : IsLine i) (s : Schedule) (f : Feasible i s) (ord
       strictly x y h n = elim (≤ℤ_total y x) [ inl below ↦ absurd (n (≤ℤ_antisym h below)) | inr less ↦ less ]
 
 -- ---- for another instance with the same times and arcs
-back_to_back_agree : (p q : ℕ → ℕ) (t : ℕ) (js : List ℕ) → All (λ k. p k ≡ q k) js → back_to_back piece p t js ≡ back_to_back piece q t js
+pub back_to_back_agree : (p q : ℕ → ℕ) (t : ℕ) (js : List ℕ) → All (λ k. p k ≡ q k) js → back_to_back piece p t js ≡ back_to_back piece q t js
 back_to_back_agree p q t [] h = refl
 back_to_back_agree p q t (j ∷ js) h =
     ap (λ n. piece j t (t + n) ∷ back_to_back piece p (t + n) js) (All-head (λ k. p k ≡ q k) j js h)
@@ -216,31 +211,24 @@ module _ (f : ℕ → ℤ) where
 
   insert_by-All : (P : ℕ → Type 0) (x : ℕ) (ys : List ℕ) → P x → All P ys → All P (insert_by f x ys)
   insert_by-All P x [] p h = All-cons P x [] p h
-  insert_by-All P x (y ∷ ys) p h = by (int_lt (f y) (f x)) (insert_by-All P x ys p (All-tail P y ys h))
-    where
-      by : (b : Bool) → All P (insert_by f x ys) → All P (if b then y ∷ insert_by f x ys else x ∷ y ∷ ys)
-      by true later = All-cons P y (insert_by f x ys) (All-head P y ys h) later
-      by false later = All-cons P x (y ∷ ys) p h
+  insert_by-All P x (y ∷ ys) p h = cond_both (int_lt (f y) (f x)) (y ∷ insert_by f x ys) (x ∷ y ∷ ys) (All P)
+      (λ _. All-cons P y (insert_by f x ys) (All-head P y ys h) (insert_by-All P x ys p (All-tail P y ys h))) (λ _. All-cons P x (y ∷ ys) p h)
 
   insert_by-rises : (x : ℕ) (ys : List ℕ) → AllPairs (λ a b. f a ≤ℤ f b) ys → AllPairs (λ a b. f a ≤ℤ f b) (insert_by f x ys)
   insert_by-rises x [] h = λ i j d a b. absurd (omega arith)
-  insert_by-rises x (y ∷ ys) h = by (int_lt (f y) (f x)) refl (insert_by-rises x ys (AllPairs-tail Rises y ys h))
-    where
-      turned : (a b : ℤ) → int_lt b a ≡ false → a ≤ℤ b
-      turned a b e = omega (arith, ints)
-
-      by : (b : Bool) → int_lt (f y) (f x) ≡ b → AllPairs Rises (insert_by f x ys) → AllPairs Rises (if b then y ∷ insert_by f x ys else x ∷ y ∷ ys)
-      by true e later = AllPairs-cons Rises y (insert_by f x ys) (insert_by-All (Rises y) x ys (omega (arith, ints)) (AllPairs-head Rises y ys h)) later
-      by false e later = let first = turned (f x) (f y) e in AllPairs-cons Rises x (y ∷ ys) (All-cons (Rises x) y ys first (λ k d l. ≤ℤ_trans first (AllPairs-head Rises y ys h k d l))) h
+  insert_by-rises x (y ∷ ys) h = cond_both (int_lt (f y) (f x)) (y ∷ insert_by f x ys) (x ∷ y ∷ ys) (AllPairs Rises)
+      (λ e. AllPairs-cons Rises y (insert_by f x ys)
+      (insert_by-All (Rises y) x ys (omega (arith, ints)) (AllPairs-head Rises y ys h)) (insert_by-rises x ys (AllPairs-tail Rises y ys h)))
+      (λ e. let first : f x ≤ℤ f y = omega (arith, ints) in
+      AllPairs-cons Rises x (y ∷ ys) (All-cons (Rises x) y ys first (λ k d l. ≤ℤ_trans first (AllPairs-head Rises y ys h k d l))) h)
 
   insert_by-count : (i x : ℕ) (ys : List ℕ) → count_by (λ z. eqb z i) (insert_by f x ys) ≡ count_by (λ z. eqb z i) (x ∷ ys)
   insert_by-count i x [] = refl
-  insert_by-count i x (y ∷ ys) = by (int_lt (f y) (f x)) (insert_by-count i x ys)
-    where
-      by : (b : Bool) → count_by (λ z. eqb z i) (insert_by f x ys) ≡ count_by (λ z. eqb z i) (x ∷ ys)
-          → count_by (λ z. eqb z i) (if b then y ∷ insert_by f x ys else x ∷ y ∷ ys) ≡ count_by (λ z. eqb z i) (x ∷ y ∷ ys)
-      by true e = let one : ℕ → ℕ = λ z. cond (eqb z i) 1 0 in omega (arith, e, sum_by-cons one y (insert_by f x ys), sum_by-cons one x ys, sum_by-cons one x (y ∷ ys), sum_by-cons one y ys)
-      by false e = refl
+  insert_by-count i x (y ∷ ys) =
+      let one : ℕ → ℕ = λ z. cond (eqb z i) 1 0 in
+      let moved = sum_by-cons one y (insert_by f x ys) in
+      cond_both (int_lt (f y) (f x)) (y ∷ insert_by f x ys) (x ∷ y ∷ ys) (λ l. sum_by one l ≡ sum_by one (x ∷ y ∷ ys))
+      (λ _. omega (arith, insert_by-count i x ys, moved, sum_by-cons one x ys, sum_by-cons one x (y ∷ ys), sum_by-cons one y ys)) (λ _. refl)
 
   sorted_by-All : (P : ℕ → Type 0) (xs : List ℕ) → All P xs → All P (sorted_by f xs)
   sorted_by-All P [] h = h
@@ -293,9 +281,6 @@ pub order_of_ends-only : (i : Instance) → IsLine i → (s : Schedule)
 order_of_ends-only i line s f order o rises =
     let model = order_of_ends i s in
     let once = order_of_ends-once i s in
-    rising_once (λ a b. end_of s a <ℤ end_of s b) (λ x y. never (end_of s x) (end_of s y))
+    rising_once (λ a b. end_of s a <ℤ end_of s b) (λ x y h k. omega (arith, ints))
     order model (rises_strictly i line s f order o rises) (rises_strictly i line s f model once (order_of_ends-rises i s))
     (λ k d l. OnceBelow-contains once (get_or order k d) (o.within k d l)) (λ k d l. OnceBelow-contains o (get_or model k d) (once.within k d l))
-  where
-    never : (x y : ℤ) → x <ℤ y → y <ℤ x → ⊥
-    never x y h k = omega (arith, ints)

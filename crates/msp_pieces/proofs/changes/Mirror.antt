@@ -1,5 +1,5 @@
 -- Schedules that are read from their end: for frames whose operations follow no route, with the arcs turned.
-use Rattle.std.proofs.Common.{◌≡◌, ℕ, ◌<◌, true, false, not, List, length, get_or, map, All, Contains, inl, inr, ℤ, pos, ◌+ℤ◌, ◌-ℤ◌, ◌*ℤ◌, ◌≤ℤ◌, ◌<ℤ◌, refl, sym, ap, subst, ◌∙◌, arith}
+use Rattle.std.proofs.Common.{◌≡◌, ℕ, ◌<◌, true, false, not, List, length, get_or, map, All, Contains, inl, inr, ℤ, pos, ◌+ℤ◌, ◌-ℤ◌, ◌*ℤ◌, ◌≤ℤ◌, refl, sym, ap, subst, ◌∙◌, arith}
 use Rattle.std.proofs.lemmas.Bool.{false≢true}
 use Rattle.std.proofs.lemmas.Int.{ints}
 use Rattle.std.proofs.lemmas.List.Elements.{All-map, All-contains, All-contains_itself, Contains-get_or}
@@ -63,10 +63,7 @@ module _ (f g : Frame) (D : ℤ) (ps : List Piece) (last : ℤ) (fits : Fits f D
   natural_head h j = *ℤ-nonneg (≤ℤ_trans (pos-le (omega arith)) fits.unit_from) (zero-le-pos (h.head j))
 
   lasts : (p : Piece) → Lasts p → (p.to +ℤ (D *ℤ pos (g.head p.job))) ≤ℤ last → Lasts (move p)
-  lasts p h r = both p.from p.to (D *ℤ pos (g.head p.job)) (natural_head g p.job) h.1 r
-    where
-      both : (a b d : ℤ) → pos 0 ≤ℤ d → a <ℤ b → (b +ℤ d) ≤ℤ last → (pos 0 ≤ℤ (last -ℤ b)) × ((last -ℤ b) <ℤ (last -ℤ a))
-      both a b d h k r = (omega (arith, ints), omega (arith, ints))
+  lasts p h r = let n = natural_head g p.job in (omega (arith, ints, n, h.1, r), omega (arith, ints, h.1))
 
   pub Fits-mirrored : Fits g D (mirrored_all last ps)
   Fits-mirrored = record {
@@ -92,16 +89,13 @@ module _ (f g : Frame) (D : ℤ) (ps : List Piece) (last : ℤ) (fits : Fits f D
       each : (p : Piece) → p.job ≡ j → (D *ℤ pos (f.head p.job)) ≤ℤ p.from → (last -ℤ p.from) ≤ℤ (last -ℤ (D *ℤ pos (f.head j)))
       each p e h = omega (arith, ints, subst (λ x. (D *ℤ pos (f.head x)) ≤ℤ p.from) e h)
 
-      left : (a b d e : ℤ) → pos 0 ≤ℤ e → d ≤ℤ a → a <ℤ b → (b +ℤ e) ≤ℤ last → pos 0 ≤ℤ (last -ℤ d)
-      left a b d e h i k r = omega (arith, ints)
-
       some : pos 0 ≤ℤ (last -ℤ (D *ℤ pos (f.head j)))
       some =
           let (p, c, e) = piece_of f D ps fits works j l in
+          let from = All-contains (λ q. (D *ℤ pos (f.head q.job)) ≤ℤ q.from) ps p fits.release c in
+          let until = All-contains (λ q. (q.to +ℤ (D *ℤ pos (g.head q.job))) ≤ℤ last) ps p room c in
           subst (λ x. pos 0 ≤ℤ (last -ℤ (D *ℤ pos (f.head x)))) e
-          (left p.from p.to (D *ℤ pos (f.head p.job)) (D *ℤ pos (g.head p.job)) (natural_head g p.job)
-          (All-contains (λ q. (D *ℤ pos (f.head q.job)) ≤ℤ q.from) ps p fits.release c) (All-contains Lasts ps p fits.span c).1
-          (All-contains (λ q. (q.to +ℤ (D *ℤ pos (g.head q.job))) ≤ℤ last) ps p room c))
+          (omega (arith, ints, natural_head g p.job, from, (All-contains Lasts ps p fits.span c).1, until))
 
 -- ---- instances
 pub Mirrors-from_needs : (i j : Instance) → SameNeeds i j → is_mirror j.class.env ≡ true → All (λ a. Contains i.arcs (turned a)) j.arcs → Mirrors (frame_of i) (frame_of j)

@@ -1,8 +1,8 @@
 -- Pieces that are moved one by one to a schedule for another frame: places, machines, jobs and work. Moments are moved in any way.
 use Rattle.std.proofs.Common.{◌≡◌, ℕ, ◌<◌, Bool, true, false, cond, eqb, ltb, List, [], ◌∷◌, get_or, map, filter, All, AllPairs, Contains, ℤ, pos, ◌+ℤ◌, ◌*ℤ◌, refl, sym, ap}
-use Rattle.std.proofs.Common.{ap₂, subst, subst₂, ◌∙◌, arith}
+use Rattle.std.proofs.Common.{ap₂, subst, subst₂, ◌∙◌, arith, inl, inr}
 use Rattle.std.specs.Prelude.{◌==◌, ◌&&◌}
-use Rattle.std.proofs.lemmas.Bool.{eqb-true, eqb-false, eq-eqb, ne_eqb, ltb-true, ltb-false}
+use Rattle.std.proofs.lemmas.Bool.{eqb-true, eqb-false, eq-eqb, ne_eqb, ltb-true, ltb-false, cases_order}
 use Rattle.std.proofs.lemmas.List.{length-map, get_or-map}
 use Rattle.std.proofs.lemmas.Simd.{map-map}
 use Rattle.std.proofs.lemmas.List.Elements.{All-head, All-tail, All-filter, All-map}
@@ -32,11 +32,8 @@ pub filter-map : {X Y : Type 0} (f : X → Y) (p : Y → Bool) (q : X → Bool) 
 filter-map f p q [] h = refl
 filter-map f p q (x ∷ xs) h =
     ap₂ (λ b l. cond b (f x ∷ l) l) (All-head (λ y. p (f y) ≡ q y) x xs h) (filter-map f p q xs (All-tail (λ y. p (f y) ≡ q y) x xs h))
-    ∙ by (q x) (filter q xs)
-  where
-    by : (b : Bool) (l : List _) → cond b (f x ∷ map f l) (map f l) ≡ map f (cond b (x ∷ l) l)
-    by true l = refl
-    by false l = refl
+    ∙ elim (q x) as (λ b. cond b (f x ∷ map f (filter q xs)) (map f (filter q xs)) ≡ map f (cond b (x ∷ filter q xs) (filter q xs)))
+    [ true ↦ refl | false ↦ refl ]
 
 -- a list of which a map makes one element has one
 pub one_from_map : {X Y : Type 0} (f : X → Y) (xs : List X) (y : Y) → map f xs ≡ y ∷ [] → (x : X) × (xs ≡ x ∷ []) × (f x ≡ y)
@@ -73,12 +70,11 @@ pub record Suits (f g : Frame) (D E k : ℤ) (number : ℕ → ℕ → ℕ) : Ty
 
 -- operations keep their order
 pub Suits-order : (f g : Frame) {D E k : ℤ} (number : ℕ → ℕ → ℕ) → Suits f g D E k number → (j o n : ℕ) → j < f.jobs → f.Has j o → f.Has j n → number j o < number j n → o < n
-Suits-order f g number s j o n l a b h = by (ltb o n) refl (ltb n o) refl
-  where
-    by : (c : Bool) → ltb o n ≡ c → (d : Bool) → ltb n o ≡ d → o < n
-    by true e d k = ltb-true o n e
-    by false e true k = absurd (omega (arith, h, s.increasing j n o l b a (ltb-true n o k)))
-    by false e false k = let same : o ≡ n = omega (arith, ltb-false o n e, ltb-false n o k) in absurd (omega (arith, h, ap (number j) same))
+Suits-order f g number s j o n l a b h = elim (cases_order o n) [
+  | inl same ↦ absurd (omega (arith, h, ap (number j) same))
+  | inr (inl less) ↦ less
+  | inr (inr more) ↦ absurd (omega (arith, h, s.increasing j n o l b a more))
+]
 
 -- ---- the pieces
 -- a move keeps jobs and machines, renumbers operations, and makes each piece k times as long

@@ -1,6 +1,6 @@
 -- Dividing a schedule by its greatest common divisor, and putting its pieces in order.
-use Rattle.std.proofs.Common.{◌≡◌, ◌≢◌, ℕ, slice_set, zero, suc, negsuc, ◌+◌, ◌*◌, ◌/◌, ◌<◌, ◌≤◌, Bool, List, [], ◌∷◌, ◌++◌, length, get_or, take, map, All, AllPairs}
-use Rattle.std.proofs.Common.{IsPermutation, inl, inr, ℤ, pos, ◌*ℤ◌, ◌≤ℤ◌, ◌<ℤ◌, unsigned_abs, refl, sym, ap, ap₂, subst, ◌∙◌, arith}
+use Rattle.std.proofs.Common.{◌≡◌, ◌≢◌, ℕ, slice_set, negsuc, ◌+◌, ◌*◌, ◌<◌, ◌≤◌, Bool, List, [], ◌∷◌, ◌++◌, length, get_or, take, map, All, AllPairs}
+use Rattle.std.proofs.Common.{IsPermutation, inl, inr, ℤ, pos, ◌*ℤ◌, ◌≤ℤ◌, ◌<ℤ◌, unsigned_abs, refl, sym, ap, ap₂, subst, ◌∙◌, arith, subst₂}
 use Rattle.std.specs.Int.{IsGcd}
 use Rattle.std.specs.Cmp.{IsStrictWeakOrder}
 use Rattle.std.specs.List.Sorted.{IsSortedBy}
@@ -9,9 +9,9 @@ use Prim.Native.Nat.{◌∣◌}
 use Rattle.std.proofs.lemmas.Int.{ints}
 use Rattle.std.proofs.lemmas.Nat.Gcd.{dvd_trans, dvd_refl}
 use Rattle.std.proofs.lemmas.List.{length-map, get_or-map, get_or-set_other, take_more, take_more_set, take_all}
-use Rattle.std.proofs.lemmas.List.Elements.{All-head, All-tail, All-nil, All-cons, All-push, All-map}
+use Rattle.std.proofs.lemmas.List.Elements.{All-head, All-tail, All-nil, All-push, All-map}
 use Rattle.std.proofs.lemmas.List.Sorted.{All-permutation, length_permutation, IsPermutation-sym}
-use Rattle.msp_class.proofs.IntegerRing.{pos-le, *ℤ-zero, *ℤ_assoc, *ℤ_comm, ≤ℤ_trans}
+use Rattle.msp_class.proofs.IntegerRing.{pos-le, *ℤ-zero, *ℤ_assoc, *ℤ_comm, ≤ℤ_trans, *ℤ-cancel_lt}
 use Rattle.msp_instance.specs.declared.Instance.{Instance}
 use Rattle.msp_pieces.specs.declared.Piece.{Piece}
 use Rattle.msp_pieces.specs.declared.Schedule.{Schedule}
@@ -24,6 +24,7 @@ use Rattle.msp_pieces.proofs.lists.DateOrder.{date_less, date_less-order, date_s
 use Rattle.msp_pieces.proofs.costs.Charges.{SameCharges-from_jobs, cost-same_ends}
 use Rattle.msp_pieces.proofs.lists.Permuted.{Feasible-permutation, last_end-permutation}
 use Rattle.msp_pieces.proofs.changes.Shrunk.{All-from_map, grown, grown_schedule, Feasible-shrunk, cost-grown}
+use Rattle.msp_pieces.proofs.lists.Parts.{All-front, All-back}
 
 -- ---- common divisors
 pub IsCommonDivisor-none : (unit : ℤ) (g : ℕ) → g ≡ unsigned_abs unit → IsCommonDivisor unit [] g
@@ -40,20 +41,12 @@ IsCommonDivisor-more unit ps p g m h from to c = record {
     All-push (λ q. (h ∣ unsigned_abs q.from) × (h ∣ unsigned_abs q.to)) ps p (λ k d l. let a = c.all.1 k d l in (dvd_trans h into a.0, dvd_trans h into a.1)) (dvd_trans h to.1 from.0, to.0),
   );
   greatest = λ d a. let T : Piece → Type 0 = λ q. (d ∣ unsigned_abs q.from) × (d ∣ unsigned_abs q.to) in
-      let last = All-last T ps p a.1 in
-      to.2 d last.1 (from.2 d last.0 (c.greatest d (a.0, All-front T ps p a.1)));
+      let last = All-head T p [] (All-back T ps (p ∷ []) a.1) in
+      to.2 d last.1 (from.2 d last.0 (c.greatest d (a.0, All-front T ps (p ∷ []) a.1)));
 }
   where
     into : h ∣ g
     into = dvd_trans h to.1 from.1
-
-    All-front : (T : Piece → Type 0) (xs : List Piece) (x : Piece) → All T (xs ++ x ∷ []) → All T xs
-    All-front T [] x a = All-nil T
-    All-front T (y ∷ ys) x a = All-cons T y ys (All-head T y (ys ++ x ∷ []) a) (All-front T ys x (All-tail T y (ys ++ x ∷ []) a))
-
-    All-last : (T : Piece → Type 0) (xs : List Piece) (x : Piece) → All T (xs ++ x ∷ []) → T x
-    All-last T [] x a = All-head T x [] a
-    All-last T (y ∷ ys) x a = All-last T ys x (All-tail T y (ys ++ x ∷ []) a)
 
 pub IsCommonDivisor-step : (unit : ℤ) (ps : List Piece) (i : ℕ) (d : Piece) (g h : ℕ) → i < length ps
     → ((qs : List Piece) → IsCommonDivisor unit qs g → IsCommonDivisor unit (qs ++ get_or ps i d ∷ []) h) → IsCommonDivisor unit (take i ps) g → IsCommonDivisor unit (take (i + 1) ps) h
@@ -146,31 +139,23 @@ module _ (s t : Schedule) (g : ℕ) (h : IsSettling s t g) where
   is_grown : grown_schedule g middle ≡ s
   is_grown = ap₂ (λ u ps. make_schedule u ps) unit_grown (pieces_grown s.pieces h.spans h.common.all.1)
 
-  feasible_middle : (i : Instance) → Feasible i s → Feasible i middle
-  feasible_middle i f = Feasible-shrunk g some i middle (subst (Feasible i) (sym is_grown) f)
-
   pub settled_feasible : (i : Instance) → Feasible i s → Feasible i t
-  settled_feasible i f = Feasible-permutation i middle t (sym h.unit_is) h.moved (feasible_middle i f)
+  settled_feasible i f =
+      Feasible-permutation i middle t (sym h.unit_is) h.moved (Feasible-shrunk g some i middle (subst (Feasible i) (sym is_grown) f))
 
   pub settled_cost : (i : Instance) → Feasible i s → cost_of i t *ℤ s.unit ≡ cost_of i s *ℤ t.unit
   settled_cost i f =
       let same = cost-same_ends i i t middle (SameCharges-from_jobs i i refl refl (λ k l. (refl, refl, refl)))
       h.unit_is (settled_feasible i f).unit (λ k l. sym (last_end-permutation middle.pieces t.pieces h.moved k)) in
-      ap₂ (λ x y. x *ℤ y) same (sym unit_grown) ∙ turned (cost_of i middle) (pos g) middle.unit
+      ap₂ (λ x y. x *ℤ y) same (sym unit_grown)
+      ∙ sym (*ℤ_assoc (cost_of i middle) (pos g) middle.unit) ∙ ap (λ x. x *ℤ middle.unit) (*ℤ_comm (cost_of i middle) (pos g))
       ∙ ap₂ (λ x y. x *ℤ y) (sym (cost-grown g some i middle) ∙ ap (cost_of i) is_grown) (sym h.unit_is)
-    where
-      turned : (c k u : ℤ) → c *ℤ (k *ℤ u) ≡ (k *ℤ c) *ℤ u
-      turned c k u = sym (*ℤ_assoc c k u) ∙ ap (λ x. x *ℤ u) (*ℤ_comm c k)
 
   unit_from : pos 1 ≤ℤ t.unit
-  unit_from = subst (λ u. pos 1 ≤ℤ u) (sym h.unit_is) (above s.unit h.some_unit unit_grown)
-    where
-      above : (x : ℤ) → pos 1 ≤ℤ x → pos g *ℤ part_of g x ≡ x → pos 1 ≤ℤ part_of g x
-      above x a e = by (unsigned_abs x / g) x a e
-        where
-          by : (n : ℕ) (x : ℤ) → pos 1 ≤ℤ x → pos g *ℤ pos n ≡ x → pos 1 ≤ℤ pos n
-          by zero x a e = absurd (omega (arith, ints, *ℤ-zero (pos g)))
-          by (suc n) x a e = pos-le (omega arith)
+  unit_from =
+      let above = *ℤ-cancel_lt g {a = pos 0} {b = part_of g s.unit}
+      (subst₂ (λ y z. y <ℤ z) (sym (*ℤ-zero (pos g))) (sym unit_grown) (omega (arith, ints, h.some_unit))) in
+      subst (λ u. pos 1 ≤ℤ u) (sym h.unit_is) (omega (arith, ints, above))
 
   moment_within : (x : ℤ) → pos 0 ≤ℤ x → IsMoment x → IsMoment (part_of g x)
   moment_within x n m = (pos-le (omega arith), ≤ℤ_trans (part-below g x n) m.1)
@@ -191,7 +176,7 @@ module _ (s t : Schedule) (g : ℕ) (h : IsSettling s t g) where
   times_divides d (negsuc n) a b c = absurd (omega (arith, ints))
 
   settled_lowest : (d : ℕ) → d ∣ unsigned_abs t.unit → All (λ p. (d ∣ unsigned_abs p.from) × (d ∣ unsigned_abs p.to)) t.pieces → d ≡ 1
-  settled_lowest d u a = one d (dvd_of_mul-dvd-mul_right d some
+  settled_lowest d u a = eq-one_of_dvd-one (dvd_of_mul-dvd-mul_right d some
       (subst (λ x. (d * g) ∣ x) (sym (one-mul g)) (h.common.greatest (d * g) (times_divides d s.unit (after s.unit h.some_unit) h.common.all.0 (subst (λ x. d ∣ unsigned_abs x) h.unit_is u), each))))
     where
       before : All (λ p. (d ∣ unsigned_abs p.from) × (d ∣ unsigned_abs p.to)) (map (divided g) s.pieces)
@@ -203,9 +188,6 @@ module _ (s t : Schedule) (g : ℕ) (h : IsSettling s t g) where
           let c = h.common.all.1 k e l in
           let b = All-from_map (λ p. (d ∣ unsigned_abs p.from) × (d ∣ unsigned_abs p.to)) (divided g) s.pieces before k e l in
           (times_divides d _ n.0 c.0 b.0, times_divides d _ (later _ _ n.0 n.1) c.1 b.1)
-
-      one : (d : ℕ) → d ∣ 1 → d ≡ 1
-      one d h = eq-one_of_dvd-one h
 
   pub settled : IsSettled t
   settled = record { lowest = settled_lowest; order = h.sorted }

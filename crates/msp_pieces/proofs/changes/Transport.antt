@@ -1,12 +1,12 @@
 -- Schedules that are carried to another frame by a map of moments and maps of operation numbers; and those that serve it as they are.
 use Rattle.std.proofs.Common.{◌≡◌, ℕ, ◌<◌, true, List, [], ◌∷◌, length, get_or, map, filter, fold, All, Contains, ◌⊎◌, inl, inr, ℤ, pos, ◌-ℤ◌, ◌*ℤ◌, ◌≤ℤ◌, ◌<ℤ◌, refl, sym, ap, ap₂}
-use Rattle.std.proofs.Common.{subst, subst₂, ◌∙◌, arith}
+use Rattle.std.proofs.Common.{subst, ◌∙◌, arith}
 use Rattle.std.specs.Prelude.{◌==◌}
 use Rattle.std.specs.Int.{int_max}
 use Rattle.std.proofs.lemmas.Int.{ints}
 use Rattle.std.proofs.lemmas.Simd.{map-map}
 use Rattle.std.proofs.lemmas.List.Elements.{All-head, All-tail, All-filter, All-map, All-contains}
-use Rattle.msp_class.proofs.IntegerRing.{≤ℤ_refl, ≤ℤ_trans, ≤ℤ_total, <ℤ_weak, one-*ℤ, *ℤ-zero, *ℤ-sub, *ℤ_comm, *ℤ-mono_nonneg, pos-le, int_max-left, int_max-right, ≤ℤ-int_max_left}
+use Rattle.msp_class.proofs.IntegerRing.{≤ℤ_refl, ≤ℤ_trans, ≤ℤ_total, <ℤ_weak, one-*ℤ, *ℤ-zero, *ℤ-sub, *ℤ-mono_nonneg, pos-le, int_max-left, int_max-right, ≤ℤ-int_max_left}
 use Rattle.msp_pieces.specs.declared.Piece.{Piece}
 use Rattle.msp_pieces.specs.Piece.{length_of, IsBefore}
 use Rattle.msp_class.specs.declared.environments.EnvKind.{EnvKind}
@@ -17,6 +17,7 @@ use Rattle.msp_pieces.specs.Feasible.{Feasible}
 use Rattle.msp_pieces.specs.Cost.{last_end, end_of}
 use Rattle.msp_pieces.proofs.feasible.Frames.{Frame, frame_by, Lasts, Stands, Fits, IsShaped, Fits-from_feasible, Feasible-from_fits}
 use Rattle.msp_pieces.proofs.changes.Moves.{All-map_pairs, filter-map, Suits, Suits-order, Moves, moved-place, moved-machine, moved-job, moved-work}
+use Rattle.msp_class.proofs.IntegerRing.{natural_some, *ℤ-strict}
 
 -- ---- moments
 -- the map begins at 0, is monotone, and makes each piece k times as long
@@ -84,14 +85,9 @@ module _ (f g : Frame) (D E : ℤ) (ps : List Piece) (k : ℤ) (moment : ℤ →
     where
       longer : (a b x y k : ℤ) → pos 1 ≤ℤ k → a <ℤ b → y -ℤ x ≡ k *ℤ (b -ℤ a) → x <ℤ y
       longer a b x y k one h e =
-          let some : (pos 1 *ℤ pos 1) ≤ℤ (k *ℤ (b -ℤ a)) = grown k (b -ℤ a) one (omega (arith, ints)) in
-          (omega (arith, ints))
-        where
-          grown : (k z : ℤ) → pos 1 ≤ℤ k → pos 1 ≤ℤ z → (pos 1 *ℤ pos 1) ≤ℤ (k *ℤ z)
-          grown k z h i = ≤ℤ_trans (*ℤ-mono_nonneg (pos 1) (pos-le (omega arith)) i) (*ℤ-mono_nonneg_right z (≤ℤ_trans (pos-le (omega arith)) i) h)
-            where
-              *ℤ-mono_nonneg_right : {a b : ℤ} (z : ℤ) → pos 0 ≤ℤ z → a ≤ℤ b → (a *ℤ z) ≤ℤ (b *ℤ z)
-              *ℤ-mono_nonneg_right {a} {b} z p q = subst₂ (λ x y. x ≤ℤ y) (*ℤ_comm z a) (*ℤ_comm z b) (*ℤ-mono_nonneg z p q)
+          let (n, is) = natural_some k (omega (arith, ints)) in
+          let some = *ℤ-strict n {a = pos 0} {b = b -ℤ a} (omega (arith, ints, is)) (omega (arith, ints)) in
+          omega (arith, ints, some, e ∙ ap (λ z. z *ℤ (b -ℤ a)) is)
 
   in_order : (f.routed ≡ true) ⊎ ((j o n : ℕ) → j < f.jobs → f.Has j o → f.Has j n → o ≡ n) → All (λ p. All (λ q. p.job ≡ q.job → p.op < q.op → IsBefore p q) moved) moved
   in_order w = All-map_pairs (λ p q. p.job ≡ q.job → p.op < q.op → IsBefore p q)

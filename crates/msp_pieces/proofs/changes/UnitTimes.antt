@@ -28,6 +28,7 @@ use Rattle.msp_pieces.proofs.feasible.LastEnds.{last_end-natural}
 use Rattle.msp_pieces.proofs.costs.Charges.{charge_of, cost-pointwise}
 use Rattle.msp_pieces.specs.Busy.{busy_moment}
 use Rattle.msp_pieces.proofs.changes.Busy.{busy_moment-le, Carries-closed}
+use Rattle.std.proofs.Math.Nat.{mul-pos}
 
 abbrev pub unit_need : Need → Need
 unit_need n = record n { time = 1 }
@@ -84,8 +85,8 @@ module _ (e : ℕ) (i j : Instance) (u : IsUnitOf e i j) (a : ℕ) (inside : a <
   time_there : (o : ℕ) → o < length (job_at i a).needs → (need_at j a o).time ≡ 1
   time_there o l = ap (λ n. n.time) (need_is o l)
 
-  machine_there : (o : ℕ) → o < length (job_at i a).needs → (need_at j a o).machine ≡ (need_at i a o).machine
-  machine_there o l = ap (λ n. n.machine) (need_is o l)
+  runs_there : (o : ℕ) → o < length (job_at i a).needs → (need_at j a o).machine ≡ (need_at i a o).machine
+  runs_there o l = ap (λ n. n.machine) (need_is o l)
 
   -- operations, and where they run
   shop_to : (o : ℕ) → (o < length (job_at i a).needs) × ((need_at i a o).time ≢ 0) → (o < length (job_at j a).needs) × ((need_at j a o).time ≢ 0)
@@ -94,29 +95,17 @@ module _ (e : ℕ) (i j : Instance) (u : IsUnitOf e i j) (a : ℕ) (inside : a <
   shop_from : (o : ℕ) → (o < length (job_at j a).needs) × ((need_at j a o).time ≢ 0) → (o < length (job_at i a).needs) × ((need_at i a o).time ≢ 0)
   shop_from o h = let l : o < length (job_at i a).needs = omega (arith, long, h.0) in (l, λ z. absurd (omega (arith, z, time_here o l, u.some)))
 
-  has_to : (k : EnvKind) (o : ℕ) → HasOperation k i a o → HasOperation k j a o
-  has_to OpenShop o h = shop_to o h
-  has_to FlowShop o h = shop_to o h
-  has_to JobShop o h = shop_to o h
-  has_to _ o h = h
+  record Alike (k : EnvKind) (o : ℕ) : Type 0 where
+    to : HasOperation k i a o → HasOperation k j a o
+    from : HasOperation k j a o → HasOperation k i a o
+    may : (m : ℕ) → HasOperation k i a o → MayRun k i a o m → MayRun k j a o m
+    back : (m : ℕ) → HasOperation k i a o → MayRun k j a o m → MayRun k i a o m
 
-  has_from : (k : EnvKind) (o : ℕ) → HasOperation k j a o → HasOperation k i a o
-  has_from OpenShop o h = shop_from o h
-  has_from FlowShop o h = shop_from o h
-  has_from JobShop o h = shop_from o h
-  has_from _ o h = h
-
-  may_to : (k : EnvKind) (o m : ℕ) → HasOperation k i a o → MayRun k i a o m → MayRun k j a o m
-  may_to OpenShop o m h w = w ∙ sym (machine_there o h.0)
-  may_to FlowShop o m h w = w ∙ sym (machine_there o h.0)
-  may_to JobShop o m h w = w ∙ sym (machine_there o h.0)
-  may_to _ o m h w = omega (arith, u.machines, w)
-
-  may_from : (k : EnvKind) (o m : ℕ) → HasOperation k i a o → MayRun k j a o m → MayRun k i a o m
-  may_from OpenShop o m h w = w ∙ machine_there o h.0
-  may_from FlowShop o m h w = w ∙ machine_there o h.0
-  may_from JobShop o m h w = w ∙ machine_there o h.0
-  may_from _ o m h w = omega (arith, u.machines, w)
+  alike : (k : EnvKind) (o : ℕ) → Alike k o
+  alike OpenShop o = record { to = shop_to o; from = shop_from o; may = λ m h w. w ∙ sym (runs_there o h.0); back = λ m h w. w ∙ runs_there o h.0 }
+  alike FlowShop o = record { to = shop_to o; from = shop_from o; may = λ m h w. w ∙ sym (runs_there o h.0); back = λ m h w. w ∙ runs_there o h.0 }
+  alike JobShop o = record { to = shop_to o; from = shop_from o; may = λ m h w. w ∙ sym (runs_there o h.0); back = λ m h w. w ∙ runs_there o h.0 }
+  alike _ o = record { to = λ h. h; from = λ h. h; may = λ m h w. omega (arith, u.machines, w); back = λ m h w. omega (arith, u.machines, w) }
 
   -- rates and work: over a unit e times as large, and over times e times as long
   record Ratios (k : EnvKind) (o : ℕ) : Type 0 where
@@ -207,10 +196,10 @@ module _ (e : ℕ) (i j : Instance) (u : IsUnitOf e i j) (p : IsShaped i) (q : I
   suits_to : (D : ℤ) → Suits (frame_by k i) (frame_by k j) D (D *ℤ pos e) (pos 1) (λ a o. o)
   suits_to D = record {
     jobs = u.count;
-    has = λ a o l h. has_to e i j u a l k o h;
-    all = λ a o l h. (o, has_from e i j u a l k o h, refl);
+    has = λ a o l h. (alike e i j u a l k o).to h;
+    all = λ a o l h. (o, (alike e i j u a l k o).from h, refl);
     increasing = λ a o n l g h w. w;
-    may = λ a o m l h w. may_to e i j u a l k o m h w;
+    may = λ a o m l h w. (alike e i j u a l k o).may m h w;
     ratio = λ a o l h. let r = here a o l h in record {
       times = r.times;
       over = 1;
@@ -225,15 +214,15 @@ module _ (e : ℕ) (i j : Instance) (u : IsUnitOf e i j) (p : IsShaped i) (q : I
   suits_from : (D : ℤ) → Suits (frame_by k j) (frame_by k i) D D (pos e) (λ a o. o)
   suits_from D = record {
     jobs = sym u.count;
-    has = λ a o l h. has_from e i j u a (within a l) k o h;
-    all = λ a o l h. (o, has_to e i j u a (within a l) k o h, refl);
+    has = λ a o l h. (alike e i j u a (within a l) k o).from h;
+    all = λ a o l h. (o, (alike e i j u a (within a l) k o).to h, refl);
     increasing = λ a o n l g h w. w;
-    may = λ a o m l h w. may_from e i j u a (within a l) k o m (has_from e i j u a (within a l) k o h) w;
-    ratio = λ a o l h. let own = has_from e i j u a (within a l) k o h in let r = here a o (within a l) own in record {
+    may = λ a o m l h w. let same = alike e i j u a (within a l) k o in same.back m (same.from h) w;
+    ratio = λ a o l h. let own = (alike e i j u a (within a l) k o).from h in let r = here a o (within a l) own in record {
       times = 1;
       over = r.over;
       some = omega arith;
-      rate = λ m w. one-*ℤ (pos e *ℤ pos (rate_on k i a m)) ∙ ap pos (r.rate_back m (may_from e i j u a (within a l) k o m own w));
+      rate = λ m w. one-*ℤ (pos e *ℤ pos (rate_on k i a m)) ∙ ap pos (r.rate_back m ((alike e i j u a (within a l) k o).back m own w));
       want = one-*ℤ (D *ℤ pos (whole_work k i a o)) ∙ ap (λ n. D *ℤ pos n) r.want_back ∙ *ℤ_exchange D (pos r.over) (pos (whole_work k j a o));
     };
     cut = λ c. sym u.cut ∙ c;
@@ -257,10 +246,7 @@ module _ (e : ℕ) (i j : Instance) (u : IsUnitOf e i j) (p : IsShaped i) (q : I
       where
         more : (x : ℤ) (n : ℕ) → pos 1 ≤ℤ x → 1 ≤ n → pos 1 ≤ℤ (x *ℤ pos n)
         more (negsuc x) n h l = absurd (omega (arith, ints))
-        more (pos x) n h l = pos-le (grown x n (le-pos h) l)
-          where
-            grown : (x n : ℕ) → 1 ≤ x → 1 ≤ n → 1 ≤ x * n
-            grown x n h l = grind arith
+        more (pos x) n h l = pos-le (mul-pos (le-pos h) l)
 
     pub Feasible-to_unit : Feasible j (unit_schedule e s)
     Feasible-to_unit = Feasible-from_fits j (unit_schedule e s) q (subst (λ x. Fits (frame_by x j) (s.unit *ℤ pos e) s.pieces) u.kind
@@ -293,11 +279,10 @@ IsPlain crit = (crit ≡ Cmax) ⊎ ((crit ≡ SumC) ⊎ (crit ≡ SumWC))
 charge-plain : (crit : Crit) → IsPlain crit → (n : ℕ) (unit v : ℤ) (a b : Job) (x y : ℤ) → a.weight ≡ b.weight → x ≤ℤ (pos n *ℤ y) → job_cost crit unit a x ≤ℤ (pos n *ℤ job_cost crit v b y)
 charge-plain crit c n unit v a b x y w h = elim c [
   | inl e ↦ subst (λ z. job_cost z unit a x ≤ℤ (pos n *ℤ job_cost z v b y)) (sym e) h
-  | inr d ↦ elim d [
-    | inl e ↦ subst (λ z. job_cost z unit a x ≤ℤ (pos n *ℤ job_cost z v b y)) (sym e) h
-    | inr e ↦ subst (λ z. job_cost z unit a x ≤ℤ (pos n *ℤ job_cost z v b y)) (sym e)
-        (subst (λ m. (pos a.weight *ℤ x) ≤ℤ (pos n *ℤ (pos m *ℤ y))) w (subst (λ z. (pos a.weight *ℤ x) ≤ℤ z) (*ℤ_exchange (pos a.weight) (pos n) y) (*ℤ-mono a.weight h)))
-  ]
+  | inr (inl e) ↦ subst (λ z. job_cost z unit a x ≤ℤ (pos n *ℤ job_cost z v b y)) (sym e) h
+  | inr (inr e) ↦ subst (λ z. job_cost z unit a x ≤ℤ (pos n *ℤ job_cost z v b y)) (sym e)
+      (subst (λ m. (pos a.weight *ℤ x) ≤ℤ (pos n *ℤ (pos m *ℤ y))) w
+      (subst (λ z. (pos a.weight *ℤ x) ≤ℤ z) (*ℤ_exchange (pos a.weight) (pos n) y) (*ℤ-mono a.weight h)))
 ]
 
 -- where ends are at most n times as large, so are costs

@@ -3,7 +3,7 @@ use Rattle.std.proofs.Common.{◌≡◌, ℕ, suc, ◌<◌, ◌≤◌, Bool, tru
 use Rattle.std.proofs.Common.{◌<ℤ◌, if◌then◌else◌, refl, sym, ap, ap₂, subst, subst₂, ◌∙◌, arith, zero-add}
 use Rattle.std.specs.Prelude.{int_lt}
 use Rattle.std.specs.Int.{int_max}
-use Rattle.std.proofs.lemmas.Bool.{ltb-true, ltb-false}
+use Rattle.std.proofs.lemmas.Bool.{ltb-true, ltb-false, cases_Bool, cond_both, true_from_ne_false, false_from_ne_true}
 use Rattle.std.proofs.lemmas.Int.{ints, fold-int_max_bounds, fold-int_max_reached}
 use Rattle.std.proofs.lemmas.List.{length-map}
 use Rattle.std.proofs.lemmas.List.Elements.{All-nil, All-cons}
@@ -12,7 +12,7 @@ use Rattle.msp_class.specs.declared.class.Crit.{Crit}
 use Rattle.msp_class.specs.declared.class.Crit.TheVariants.{Cmax, Lmax, Fmax, SumC, SumWC, SumU, SumWU, SumT, SumWT}
 use Rattle.msp_class.specs.Crit.{is_greatest}
 use Rattle.msp_class.proofs.IntegerRing.{≤ℤ_refl, ≤ℤ_trans, ≤ℤ_of_same, ≤ℤ_antisym, +ℤ_mono, one-*ℤ, *ℤ-zero, *ℤ_assoc, *ℤ_exchange, *ℤ-add, *ℤ-sub, *ℤ-mono, *ℤ-mono_nonneg}
-use Rattle.msp_class.proofs.IntegerRing.{*ℤ-strict, *ℤ-cancel_lt, *ℤ-int_max, int_max_mono, pos-le}
+use Rattle.msp_class.proofs.IntegerRing.{*ℤ-strict, *ℤ-cancel_lt, *ℤ-int_max, int_max_mono, pos-le, +ℤ_idr}
 use Rattle.msp_class.specs.Sums.{int_total_below}
 use Rattle.msp_class.proofs.Sums.{sum_by-mono, sum_by-agree, int_total_below-mono, int_total_below-scale}
 use Rattle.msp_instance.specs.declared.Step.{Step}
@@ -30,20 +30,13 @@ use Rattle.msp_pieces.proofs.feasible.Frames.{job_at-map}
 
 -- ---- `int_lt`
 pub int_lt-true : (a b : ℤ) → a <ℤ b → int_lt a b ≡ true
-int_lt-true a b h = by (int_lt a b) refl
-  where
-    by : (t : Bool) → int_lt a b ≡ t → int_lt a b ≡ true
-    by true e = e
-    by false e = absurd (omega (arith, ints))
+int_lt-true a b h = true_from_ne_false (int_lt a b) (λ e. omega (arith, ints))
 
 pub int_lt-same : (a b c d : ℤ) → (a <ℤ b → c <ℤ d) → (c <ℤ d → a <ℤ b) → int_lt a b ≡ int_lt c d
-int_lt-same a b c d f g = by (int_lt a b) refl (int_lt c d) refl
-  where
-    by : (s : Bool) → int_lt a b ≡ s → (t : Bool) → int_lt c d ≡ t → int_lt a b ≡ int_lt c d
-    by true e true k = e ∙ sym k
-    by false e false k = e ∙ sym k
-    by true e false k = let h : c <ℤ d = f (omega (arith, ints)) in absurd (omega (arith, ints))
-    by false e true k = let h : a <ℤ b = g (omega (arith, ints)) in absurd (omega (arith, ints))
+int_lt-same a b c d f g = elim (cases_Bool (int_lt a b)) [
+  | inl e ↦ e ∙ sym (int_lt-true c d (f (omega (arith, ints))))
+  | inr e ↦ e ∙ sym (false_from_ne_true (int_lt c d) (λ k. let h : a <ℤ b = g (omega (arith, ints)) in omega (arith, ints)))
+]
 
 int_lt-scale : (n : ℕ) → 0 < n → (a b : ℤ) → int_lt (pos n *ℤ a) (pos n *ℤ b) ≡ int_lt a b
 int_lt-scale n p a b = int_lt-same (pos n *ℤ a) (pos n *ℤ b) a b (*ℤ-cancel_lt n) (*ℤ-strict n p)
@@ -53,23 +46,14 @@ below : (a b c : ℤ) → a ≤ℤ b → (a -ℤ c) ≤ℤ (b -ℤ c)
 below a b c h = omega (arith, ints)
 
 jump-mono : (unit : ℤ) (s : Step) (x y : ℤ) → x ≤ℤ y → jump unit s x ≤ jump unit s y
-jump-mono unit s x y h = by (int_lt (unit *ℤ pos s.above) x) refl
-  where
-    by : (b : Bool) → int_lt (unit *ℤ pos s.above) x ≡ b → (if b then s.add else 0) ≤ jump unit s y
-    by true e = omega (arith, ap (λ b. if b then s.add else 0) (int_lt-true (unit *ℤ pos s.above) y (omega (arith, ints))))
-    by false e = omega arith
+jump-mono unit s x y h = cond_both (int_lt (unit *ℤ pos s.above) x) s.add 0 (λ n. n ≤ jump unit s y)
+    (λ e. omega (arith, ap (λ b. if b then s.add else 0) (int_lt-true (unit *ℤ pos s.above) y (omega (arith, ints))))) (λ e. omega arith)
 
 jumps-mono : (unit : ℤ) (c : Curve) (x y : ℤ) → x ≤ℤ y → jumps unit c x ≤ jumps unit c y
 jumps-mono unit c x y h = sum_by-mono (λ s. jump unit s x) (λ s. jump unit s y) c.steps (λ k d l. jump-mono unit (get_or c.steps k d) x y h)
 
 late-mono : (unit : ℤ) (j : Job) (x y : ℤ) → pos 0 ≤ℤ unit → x ≤ℤ y → late unit j x ≤ℤ late unit j y
-late-mono unit j x y u h = by (int_lt (unit *ℤ j.due) x) refl (int_lt (unit *ℤ j.due) y) refl
-  where
-    by : (s : Bool) → int_lt (unit *ℤ j.due) x ≡ s → (t : Bool) → int_lt (unit *ℤ j.due) y ≡ t → (if s then unit else pos 0) ≤ℤ (if t then unit else pos 0)
-    by true e true k = ≤ℤ_refl unit
-    by true e false k = absurd (omega (arith, ints))
-    by false e true k = u
-    by false e false k = ≤ℤ_refl (pos 0)
+late-mono unit j x y u h = grind (arith, ints)
 
 tardiness-mono : (unit : ℤ) (j : Job) (x y : ℤ) → x ≤ℤ y → tardiness unit j x ≤ℤ tardiness unit j y
 tardiness-mono unit j x y h = int_max_mono (≤ℤ_refl (pos 0)) (below x y (unit *ℤ j.due) h)
@@ -96,11 +80,10 @@ module _ (n : ℕ) (p : 0 < n) (unit : ℤ) where
   jumps-scale c x = sum_by-agree (λ s. jump units s (pos n *ℤ x)) (λ s. jump unit s x) c.steps (λ s. jump-scale s x)
 
   late-scale : (j : Job) (x : ℤ) → late units j (pos n *ℤ x) ≡ pos n *ℤ late unit j x
-  late-scale j x = ap (λ b. if b then units else pos 0) (ap (λ z. int_lt z (pos n *ℤ x)) (*ℤ_assoc (pos n) unit j.due) ∙ int_lt-scale n p (unit *ℤ j.due) x) ∙ by (int_lt (unit *ℤ j.due) x)
-    where
-      by : (b : Bool) → (if b then units else pos 0) ≡ pos n *ℤ (if b then unit else pos 0)
-      by true = refl
-      by false = sym (*ℤ-zero (pos n))
+  late-scale j x =
+      ap (λ b. if b then units else pos 0) (ap (λ z. int_lt z (pos n *ℤ x)) (*ℤ_assoc (pos n) unit j.due) ∙ int_lt-scale n p (unit *ℤ j.due) x)
+      ∙ elim (int_lt (unit *ℤ j.due) x) as (λ b. (if b then units else pos 0) ≡ pos n *ℤ (if b then unit else pos 0))
+      [ true ↦ refl | false ↦ sym (*ℤ-zero (pos n)) ]
 
   lateness-scale : (j : Job) (x : ℤ) → lateness units j (pos n *ℤ x) ≡ pos n *ℤ lateness unit j x
   lateness-scale j x = ap (λ z. (pos n *ℤ x) -ℤ z) (*ℤ_assoc (pos n) unit j.due) ∙ sym (*ℤ-sub (pos n) x (unit *ℤ j.due))
@@ -204,14 +187,12 @@ pub cost-pointwise : (i j : Instance) (s t : Schedule) (a b : ℤ) → pos 0 ≤
     ((k : ℕ) → k < length i.jobs → (a *ℤ charge_of i s k) ≤ℤ (b *ℤ charge_of j t k)) → (a *ℤ cost_of i s) ≤ℤ (b *ℤ cost_of j t)
 cost-pointwise i j s t a b nonneg join same h = by (is_greatest i.class.crit) refl (ltb 0 (length i.jobs)) refl
   where
-    no_more : (x : ℤ) → x ≡ x +ℤ pos 0
-    no_more x = omega (arith, ints)
-
     by : (g : Bool) → is_greatest i.class.crit ≡ g → (some : Bool) → ltb 0 (length i.jobs) ≡ some → (a *ℤ cost_of i s) ≤ℤ (b *ℤ cost_of j t)
     by false e c l = sum-pointwise i j s t a b e (sym join ∙ e) same h
     by true e true l =
-        subst (λ x. x ≤ℤ (b *ℤ cost_of j t)) (sym (no_more (a *ℤ cost_of i s)))
-        (greatest-pointwise i j s t a b (pos 0) nonneg e (sym join ∙ e) same (ltb-true 0 (length i.jobs) l) (λ k m. subst (λ x. x ≤ℤ (b *ℤ charge_of j t k)) (no_more (a *ℤ charge_of i s k)) (h k m)))
+        subst (λ x. x ≤ℤ (b *ℤ cost_of j t)) (+ℤ_idr (a *ℤ cost_of i s))
+        (greatest-pointwise i j s t a b (pos 0) nonneg e (sym join ∙ e) same (ltb-true 0 (length i.jobs) l)
+        (λ k m. subst (λ x. x ≤ℤ (b *ℤ charge_of j t k)) (sym (+ℤ_idr (a *ℤ charge_of i s k))) (h k m)))
     by true e false l =
         let none : length i.jobs ≡ 0 = omega (arith, ltb-false 0 (length i.jobs) l) in
         ≤ℤ_of_same (ap (λ x. a *ℤ x) (cost_of-none i s e none) ∙ *ℤ-zero a ∙ sym (*ℤ-zero b) ∙ ap (λ x. b *ℤ x) (sym (cost_of-none j t (sym join ∙ e) (sym same ∙ none))))

@@ -18,11 +18,9 @@ last_end-one xs p j =
     ap (λ l. fold int_max (pos 0) (map (λ q. q.to) l)) (filter-append (λ q. q.job == j) xs (p ∷ []))
     ∙ ap (fold int_max (pos 0)) (map-append (λ q. q.to) (filter (λ q. q.job == j) xs) (filter (λ q. q.job == j) (p ∷ [])))
     ∙ fold-append int_max (pos 0) (map (λ q. q.to) (filter (λ q. q.job == j) xs)) (map (λ q. q.to) (filter (λ q. q.job == j) (p ∷ [])))
-    ∙ by_test (p.job == j) (last_end xs j) p
-  where
-    by_test : (b : Bool) (x : ℤ) (p : Piece) → fold int_max x (map (λ q. q.to) (cond b (p ∷ []) [])) ≡ cond b (int_max x p.to) x
-    by_test true x p = refl
-    by_test false x p = refl
+    ∙ elim (p.job == j) as
+    (λ b. fold int_max (last_end xs j) (map (λ q. q.to) (cond b (p ∷ []) [])) ≡ cond b (int_max (last_end xs j) p.to) (last_end xs j))
+    [ true ↦ refl | false ↦ refl ]
 
 pub last_end-more : (xs : List Piece) (k j : ℕ) (d : Piece) → k < length xs
     → last_end (take (k + 1) xs) j ≡ cond ((get_or xs k d).job == j) (int_max (last_end (take k xs) j) (get_or xs k d).to) (last_end (take k xs) j)
@@ -35,9 +33,6 @@ pub record EndsOver (numbers : List ℤ) (pieces : List Piece) : Type 0 where
 
 pub EndsOver-none : (ends : List ℤ) → ((j : ℕ) → j < MOST_JOBS → slice_index_or ends j (pos 0) ≡ pos 0) → EndsOver ends []
 EndsOver-none ends e = record { ends = e; moments = λ j h. (omega (arith, ints), omega (arith, ints)) }
-
-raised : (x y : ℤ) → IsMoment x → IsMoment y → IsMoment (int_max x y)
-raised x y h k = (omega (arith, ints, clamps), omega (arith, ints, clamps))
 
 pub EndsOver-next : (ends new : List ℤ) (xs : List Piece) (k : ℕ) (p d : Piece) → k < length xs → p ≡ get_or xs k d → p.job < length ends → p.job < MOST_JOBS → IsMoment p.to →
     new ≡ set ends p.job (int_max (slice_index_or ends p.job (pos 0)) p.to) → EndsOver ends (take k xs) → EndsOver new (take (k + 1) xs)
@@ -59,7 +54,7 @@ EndsOver-next ends new xs k p d h is inside small moment e so_far = record { end
     ]
 
     chosen : (b : Bool) (x : ℤ) → IsMoment x → IsMoment (cond b (int_max x p.to) x)
-    chosen true x m = raised x p.to m moment
+    chosen true x (a, b) = let (c, d) = moment in (omega (arith, ints, clamps, a, c), omega (arith, ints, clamps, b, d))
     chosen false x m = m
 
     moments_next : (j : ℕ) → j < MOST_JOBS → IsMoment (last_end (take (k + 1) xs) j)

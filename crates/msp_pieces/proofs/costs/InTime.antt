@@ -1,6 +1,6 @@
 -- Jobs that end in time: by their due dates and a bound together. The greatest lateness is at most the bound exactly where all do, and no
 -- job is late exactly where all do by their due dates alone.
-use Rattle.std.proofs.Common.{◌≡◌, ℕ, ◌<◌, ◌≤◌, Bool, true, false, length, ℤ, pos, ◌+ℤ◌, ◌-ℤ◌, ◌*ℤ◌, ◌≤ℤ◌, if◌then◌else◌, refl, sym, ap, subst, ◌∙◌, arith}
+use Rattle.std.proofs.Common.{◌≡◌, ℕ, ◌<◌, Bool, length, ℤ, pos, ◌+ℤ◌, ◌-ℤ◌, ◌*ℤ◌, ◌≤ℤ◌, if◌then◌else◌, refl, sym, ap, subst, ◌∙◌, arith}
 use Rattle.std.specs.Prelude.{int_lt, ◌↔◌, nat_abs}
 use Rattle.std.proofs.lemmas.Int.{ints}
 use Rattle.msp_class.specs.declared.class.Crit.TheVariants.{Lmax, SumU}
@@ -13,6 +13,7 @@ use Rattle.msp_instance.specs.Instance.{job_at}
 use Rattle.msp_pieces.specs.declared.Schedule.{Schedule}
 use Rattle.msp_pieces.specs.Cost.{end_of, job_cost, cost_of}
 use Rattle.msp_pieces.proofs.costs.Charges.{charge_of, cost_of-sum, cost_of-bound, cost_of-least}
+use Rattle.std.proofs.lemmas.Bool.{cond_both}
 
 -- the job ends by its due date and the bound together
 abbrev pub EndsInTime : Instance → ℤ → Schedule → ℕ → Type 0
@@ -34,7 +35,7 @@ meets_jobs i bound s e some = (
 
 -- ---- sums that are 0
 pub sum_zero : (n : ℕ) (g : ℕ → ℤ) → ((k : ℕ) → k < n → pos 0 ≤ℤ g k) → (int_total_below n g ≡ pos 0) ↔ ((k : ℕ) → k < n → g k ≡ pos 0)
-sum_zero n g nonneg = (each, all)
+sum_zero n g nonneg = ((λ e k l. natural (g k) (nonneg k l) ∙ ap pos (omega (arith, total_below-term n f k l, pos-same (sym whole ∙ e)))), all)
   where
     f : ℕ → ℕ
     f k = nat_abs (g k)
@@ -42,22 +43,15 @@ sum_zero n g nonneg = (each, all)
     whole : int_total_below n g ≡ pos (total_below n f)
     whole = int_total_below-natural n g f (λ k l. natural (g k) (nonneg k l))
 
-    each : int_total_below n g ≡ pos 0 → (k : ℕ) → k < n → g k ≡ pos 0
-    each e k l = natural (g k) (nonneg k l) ∙ ap pos (omega (arith, total_below-term n f k l, pos-same (sym whole ∙ e)))
-
     all : ((k : ℕ) → k < n → g k ≡ pos 0) → int_total_below n g ≡ pos 0
     all h = whole ∙ ap pos (total_below-none n f (λ k l. ap nat_abs (h k l)))
 
 pub late_zero : (unit t x : ℤ) → pos 1 ≤ℤ unit → (x ≤ℤ t) ↔ ((if int_lt t x then unit else pos 0) ≡ pos 0)
-late_zero unit t x u = by (int_lt t x) refl
-  where
-    by : (b : Bool) → int_lt t x ≡ b → (x ≤ℤ t) ↔ ((if b then unit else pos 0) ≡ pos 0)
-    by true e = ((λ h. absurd (omega (arith, ints))), (λ h. absurd (omega (arith, ints))))
-    by false e = ((λ h. refl), (λ h. omega (arith, ints)))
+late_zero unit t x u = cond_both (int_lt t x) unit (pos 0) (λ z. (x ≤ℤ t) ↔ (z ≡ pos 0))
+    (λ e. ((λ h. absurd (omega (arith, ints))), (λ h. absurd (omega (arith, ints))))) (λ e. ((λ h. refl), (λ h. omega (arith, ints))))
 
 pub late_nonneg : (b : Bool) (unit : ℤ) → pos 1 ≤ℤ unit → pos 0 ≤ℤ (if b then unit else pos 0)
-late_nonneg true unit u = omega (arith, ints)
-late_nonneg false unit u = omega (arith, ints)
+late_nonneg b unit u = cond_both b unit (pos 0) (λ z. pos 0 ≤ℤ z) (λ _. omega (arith, ints)) (λ _. omega (arith, ints))
 
 -- ---- the number of late jobs
 pub free_jobs : (i : Instance) (s : Schedule) → i.class.crit ≡ SumU → pos 1 ≤ℤ s.unit → (cost_of i s ≡ pos 0) ↔ ((k : ℕ) → k < length i.jobs → EndsInTime i (pos 0) s k)

@@ -3,7 +3,7 @@ use Rattle.std.proofs.Common.{◌≡◌, ◌≢◌, ℕ, ◌+◌, ◌*◌, ◌<�
 use Rattle.std.proofs.Common.{sum_by, if◌then◌else◌, refl, sym, ap, subst, ◌∙◌, arith}
 use Rattle.std.specs.Prelude.{int_lt, ⊤}
 use Rattle.std.proofs.lemmas.Int.{ints}
-use Rattle.std.proofs.lemmas.Bool.{eq-eqb, ne_eqb}
+use Rattle.std.proofs.lemmas.Bool.{eq-eqb, ne_eqb, false_from_ne_true, not-true}
 use Rattle.std.proofs.lemmas.List.{append_assoc}
 use Rattle.std.proofs.lemmas.List.Elements.{All-nil, All-cons, All-head, All-append, All-filter, filter_passes}
 use Rattle.std.proofs.lemmas.List.Kept.{AllPairs-filter}
@@ -49,18 +49,10 @@ late_cost i s d e u =
     one false = ap pos (omega arith)
 
 pub not_late : (a b : ℤ) → b ≤ℤ a → int_lt a b ≡ false
-not_late a b h = by (int_lt a b) refl
-  where
-    by : (t : Bool) → int_lt a b ≡ t → int_lt a b ≡ false
-    by false e = e
-    by true e = absurd (omega (arith, ints))
+not_late a b h = false_from_ne_true (int_lt a b) (λ e. omega (arith, ints))
 
 in_time : (a b : ℤ) → not (int_lt a b) ≡ true → b ≤ℤ a
-in_time a b h = by (int_lt a b) refl h
-  where
-    by : (t : Bool) → int_lt a b ≡ t → not t ≡ true → b ≤ℤ a
-    by false e k = omega (arith, ints)
-    by true e k = absurd (cc)
+in_time a b h = let e = not-true _ h in omega (arith, ints)
 
 -- ---- elements back to back from a moment on, each of which ends by its due date
 abbrev pub OnTime : {X : Type 0} → (X → ℕ) → (X → ℤ) → ℕ → List X → Type 0
@@ -99,10 +91,9 @@ module _ (i : Instance) (m : IsOneMachine i) (t : Schedule) (f : Feasible i t) w
         let end = t.unit *ℤ due_at i x in
         let has : HasRoom i t by_then (pos 0) end =
         law_of_ends.room i t by_then (pos 0) end m.kind f (omega (arith, ints)) (≤ℤ_trans (last_end-natural t.pieces x) last) (λ k d l _. (f.span k d l).0) (λ j l e. in_time end (end_of t j) e) in
-        *ℤ-cancel_pos t.unit (omega (arith, ints, f.unit)) (≤ℤ_trans has (≤ℤ_of_same (ap (λ n. pos n *ℤ (end -ℤ pos 0)) m.one ∙ one-*ℤ (end -ℤ pos 0) ∙ same end)))
-      where
-        same : (a : ℤ) → a -ℤ pos 0 ≡ a
-        same a = omega (arith, ints)
+        let same : end -ℤ pos 0 ≡ end = omega (arith, ints) in
+        let is = ap (λ n. pos n *ℤ (end -ℤ pos 0)) m.one ∙ one-*ℤ (end -ℤ pos 0) ∙ same in
+        *ℤ-cancel_pos t.unit (omega (arith, ints, f.unit)) (≤ℤ_trans has (≤ℤ_of_same is))
 
     jobs_take : (xs : List ℕ) → All (λ j. j < length i.jobs) xs → AllPairs (λ a b. a ≢ b) xs → All (λ j. end_of t j ≤ℤ (t.unit *ℤ due_at i x)) xs → sum_by (time_at i) xs ≤ time_together i by_then
     jobs_take xs inside apart early = omega (

@@ -10,9 +10,8 @@ use Rattle.msp_pieces.proofs.costs.Small.{product_within}
 
 sizes_small : (x y : ℤ) (k : ℕ) → LiesWithin k (x *ℤ y) → unsigned_abs x * unsigned_abs y ≤ k
 sizes_small (pos a) (pos b) k h = omega (arith, ints, h)
-sizes_small (pos a) (negsuc b) k h = omega (arith, ints, h)
 sizes_small (negsuc a) (pos b) k h = omega (arith, ints, h)
-sizes_small (negsuc a) (negsuc b) k h = omega (arith, ints, h)
+sizes_small _ _ k h = omega (arith, ints, h)
 
 pub product_fits : {a b x y : ℤ} (k : ℕ) → a ≡ x → b ≡ y → LiesWithin k (x *ℤ y) → k < i128_limit → unsigned_abs a * unsigned_abs b < i128_limit
 product_fits {a} {b} {x} {y} k e f h l = subst₂ (λ u v. unsigned_abs u * unsigned_abs v < i128_limit) (sym e) (sym f) (let s = sizes_small x y k h in omega (arith, s, l))

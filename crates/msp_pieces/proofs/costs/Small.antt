@@ -1,11 +1,11 @@
 -- The numbers of an inner instance over a bounded unit are small.
 use Rattle.std.proofs.Common.{◌≡◌, ℕ, suc, ◌+◌, ◌*◌, ◌<◌, ◌≤◌, Bool, true, false, List, length}
-use Rattle.std.proofs.Common.{ℤ, pos, negsuc, ◌+ℤ◌, ◌*ℤ◌, ◌≤ℤ◌, unsigned_abs, ◌⊎◌, inl, inr, All, sum_by, refl, sym, subst, arith, lit≤}
+use Rattle.std.proofs.Common.{ℤ, pos, negsuc, ◌+ℤ◌, ◌*ℤ◌, ◌≤ℤ◌, unsigned_abs, ◌⊎◌, inl, inr, All, get_or, sum_by, refl, sym, subst, arith, lit≤}
 use Rattle.std.proofs.lemmas.Int.{ints}
 use Rattle.std.proofs.lemmas.Nat.{mul-le}
 use Rattle.msp_class.specs.declared.sizes.TheConstants.{MOST_STEPS, GREATEST, GREATEST_EQUAL_TIME, GREATEST_UNIT}
 use Rattle.msp_class.specs.declared.environments.EnvKind.{EnvKind}
-use Rattle.msp_class.specs.declared.environments.EnvKind.TheVariants.{Identical, Uniform, Unrelated, OpenShop, FlowShop, JobShop}
+use Rattle.msp_class.specs.declared.environments.EnvKind.TheVariants.{Unrelated}
 use Rattle.msp_class.specs.Env.{kind_of}
 use Rattle.msp_class.specs.Crit.{uses_due, uses_weight, uses_curve}
 use Rattle.msp_class.proofs.IntegerRing.{natural_some}
@@ -17,19 +17,16 @@ use Rattle.msp_instance.specs.declared.Instance.{Instance}
 use Rattle.msp_class.specs.declared.class.Times.{Times}
 use Rattle.msp_class.specs.declared.class.Times.TheVariants.{Equal}
 use Rattle.msp_instance.specs.Instance.{no_curve, no_job, no_need, job_at, need_at}
-use Rattle.msp_instance.specs.Conditions.{LiesWithin, Limits, HasRelease, greatest_time, HasDue, HasWeight, IsCurve, HasCurve, IsJobOf, MeetsConditions, Inner, InClass, inner_limits, text_limits}
+use Rattle.msp_instance.specs.Conditions.{LiesWithin, Limits, HasRelease, greatest_time, HasWeight, IsCurve, HasCurve, IsJobOf, MeetsConditions, Inner, InClass, inner_limits, text_limits}
 use Rattle.msp_pieces.specs.declared.limits.TheConstants.{GREATEST_CARRIED_UNIT}
 use Rattle.msp_pieces.specs.declared.Schedule.{Schedule}
 use Rattle.msp_pieces.specs.Within.{HasSmallCost, Within, greatest_scaled, greatest_level, AreSmallTimes}
+pub use Rattle.msp_instance.proofs.Limits.{due-within as due_within}
 
 -- a product of a number up to u and one within D
 pub product_within : (n : ℕ) (x : ℤ) (u D k : ℕ) → n ≤ u → LiesWithin D x → u * D ≤ k → LiesWithin k (pos n *ℤ x)
 product_within n (pos a) u D k h w l = let small : a ≤ D = omega (arith, ints, w) in let p = mul-le n a u D h small in (omega (arith, ints), omega (arith, ints))
 product_within n (negsuc a) u D k h w l = let small : suc a ≤ D = omega (arith, ints, w) in let p = mul-le n (suc a) u D h small in (omega (arith, ints), omega (arith, ints))
-
-pub due_within : (l : Limits) (b : Bool) (d : ℤ) → HasDue l b d → LiesWithin l.greatest_date d
-due_within l true d h = h
-due_within l false d h = (omega (arith, ints, h), omega (arith, ints, h))
 
 weight_small : (b : Bool) (w : ℕ) → HasWeight b w → w ≤ GREATEST
 weight_small true w h = h.1
@@ -63,21 +60,13 @@ HasSmallCost-from l u n i j fit small h =
     let adds = adds_small l.greatest_time j.curve.steps curve.few curve.steps in
     record {
       due = product_within n j.due u _ _ small (due_within l (uses_due i.class.crit) j.due h.due) fit.dates;
-      base = λ a k. product_within n (j.curve.base +ℤ pos a) u _ _ small (raised_within l j.curve.base a (sum_by (λ s. s.add) j.curve.steps) curve.base k adds) fit.levels;
+      base = λ a k. product_within n (j.curve.base +ℤ pos a) u (l.greatest_date + MOST_STEPS * l.greatest_time) _ small
+          (omega (arith, ints, curve.base.0), omega (arith, ints, curve.base.1, k, adds)) fit.levels;
       few = curve.few;
-      steps = λ k d t. product_within n (pos _) u _ _ small (pos_within _ _ (curve.steps k d t).0) fit.times;
+      steps = λ k d t. product_within n (pos (get_or j.curve.steps k d).above) u l.greatest_time _ small (omega (arith, ints), omega (arith, ints, (curve.steps k d t).0)) fit.times;
       slope = curve.slope;
       weight = weight_small (uses_weight i.class.crit) j.weight h.weight;
     }
-  where
-    raised_within : (l : Limits) (b : ℤ) (a s : ℕ) → LiesWithin l.greatest_date b → a ≤ s → s ≤ MOST_STEPS * l.greatest_time → LiesWithin (l.greatest_date + MOST_STEPS * l.greatest_time) (b +ℤ pos a)
-    raised_within l b a s w p q = (omega (arith, ints), omega (arith, ints))
-
-    pos_within : (a T : ℕ) → a ≤ T → LiesWithin T (pos a)
-    pos_within a T p = (omega (arith, ints), omega (arith, ints))
-
-each_small : (l : Limits) (u n : ℕ) (i : Instance) → FitTogether l u → n ≤ u → MeetsConditions l i → All (HasSmallCost (pos n)) i.jobs
-each_small l u n i fit small h k d t = HasSmallCost-from l u n i _ fit small (h.jobs k d t)
 
 -- limits that an instance meets, which are small together with the unit
 pub record HasLimits (i : Instance) (n : ℕ) : Type 0 where
@@ -89,20 +78,6 @@ pub record HasLimits (i : Instance) (n : ℕ) : Type 0 where
 
 by_kind : (kind : EnvKind) (i : Instance) (n : ℕ) → MeetsConditions (inner_limits kind) i
     → n ≤ unsigned_abs GREATEST_UNIT → (kind ≡ Unrelated → InClass i ⊎ (pos n ≤ℤ GREATEST_CARRIED_UNIT)) → HasLimits i n
-by_kind Identical i n h small scaled = record {
-  limits = inner_limits Identical;
-  most = unsigned_abs GREATEST_UNIT;
-  together = record { dates = lit≤ tt; times = lit≤ tt; levels = lit≤ tt; releases = lit≤ tt; equal = lit≤ tt };
-  unit = small;
-  conditions = h;
-}
-by_kind Uniform i n h small scaled = record {
-  limits = inner_limits Uniform;
-  most = unsigned_abs GREATEST_UNIT;
-  together = record { dates = lit≤ tt; times = lit≤ tt; levels = lit≤ tt; releases = lit≤ tt; equal = lit≤ tt };
-  unit = small;
-  conditions = h;
-}
 by_kind Unrelated i n h small scaled = elim (scaled refl) [
   | inl text ↦ record {
     limits = text_limits;
@@ -119,22 +94,8 @@ by_kind Unrelated i n h small scaled = elim (scaled refl) [
     conditions = h;
   }
 ]
-by_kind OpenShop i n h small scaled = record {
-  limits = inner_limits OpenShop;
-  most = unsigned_abs GREATEST_UNIT;
-  together = record { dates = lit≤ tt; times = lit≤ tt; levels = lit≤ tt; releases = lit≤ tt; equal = lit≤ tt };
-  unit = small;
-  conditions = h;
-}
-by_kind FlowShop i n h small scaled = record {
-  limits = inner_limits FlowShop;
-  most = unsigned_abs GREATEST_UNIT;
-  together = record { dates = lit≤ tt; times = lit≤ tt; levels = lit≤ tt; releases = lit≤ tt; equal = lit≤ tt };
-  unit = small;
-  conditions = h;
-}
-by_kind JobShop i n h small scaled = record {
-  limits = inner_limits JobShop;
+by_kind kind i n h small scaled = record {
+  limits = inner_limits kind;
   most = unsigned_abs GREATEST_UNIT;
   together = record { dates = lit≤ tt; times = lit≤ tt; levels = lit≤ tt; releases = lit≤ tt; equal = lit≤ tt };
   unit = small;
@@ -153,7 +114,8 @@ small_unit i s h w =
 pub small_costs : (i : Instance) (s : Schedule) → Inner i → Within i s → All (HasSmallCost s.unit) i.jobs
 small_costs i s h w =
     let (n, unit_is, has) = small_unit i s h w in
-    subst (λ (x : ℤ). All (HasSmallCost x) i.jobs) (sym unit_is) (each_small has.limits has.most n i has.together has.unit has.conditions)
+    subst (λ (x : ℤ). All (HasSmallCost x) i.jobs) (sym unit_is)
+    (λ k d t. HasSmallCost-from has.limits has.most n i _ has.together has.unit (has.conditions.jobs k d t))
 
 release_small : (l : Limits) (b : Bool) (r : ℕ) → l.greatest_release ≤ l.greatest_date → HasRelease l b r → LiesWithin l.greatest_date (pos r)
 release_small l true r le h = (omega (arith, ints), omega (arith, ints, h, le))

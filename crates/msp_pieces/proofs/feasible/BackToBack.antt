@@ -1,5 +1,5 @@
 -- Jobs back to back on machine 0 from moment 0, as a schedule: when it is feasible, and the form in which it is reported.
-use Rattle.std.proofs.Common.{◌≡◌, ℕ, ◌*◌, ◌<◌, ◌≤◌, Bool, true, false, List, [], ◌∷◌, length, get_or, map, ℤ, pos, ◌*ℤ◌, ◌≤ℤ◌, inl, All}
+use Rattle.std.proofs.Common.{◌≡◌, ℕ, ◌<◌, Bool, true, false, List, [], ◌∷◌, length, get_or, map, pos, ◌*ℤ◌, ◌≤ℤ◌, inl, All}
 use Rattle.std.proofs.Common.{AllPairs, MatchBool, refl, sym, ap, ◌∙◌, subst, arith}
 use Rattle.std.proofs.lemmas.Int.{ints}
 use Rattle.std.proofs.lemmas.List.Elements.{All-nil}
@@ -30,9 +30,6 @@ back_to_back-timed p t js h k d l =
     let made = back_to_back-made piece p piece_makes t js k d l in
     record { from = ap (λ q. q.from) made; to = ap (λ q. q.to) made; lasts = back_to_back-positive piece p piece_makes t js h k d l }
 
-pub back_to_back-machine : (p : ℕ → ℕ) (t : ℕ) (js : List ℕ) → All (λ q. q.machine ≡ 0) (back_to_back piece p t js)
-back_to_back-machine p t js k d l = ap (λ q. q.machine) (back_to_back-made piece p piece_makes t js k d l)
-
 pub back_to_back-op : (p : ℕ → ℕ) (t : ℕ) (js : List ℕ) → All (λ q. q.op ≡ 0) (back_to_back piece p t js)
 back_to_back-op p t js k d l = ap (λ q. q.op) (back_to_back-made piece p piece_makes t js k d l)
 
@@ -40,11 +37,8 @@ module _ (i : Instance) (order : List ℕ) (o : OnceBelow (length i.jobs) order)
   abbrev pieces : List Piece
   pieces = back_to_back piece (time_at i) 0 order
 
-  positive : All (λ j. 0 < time_at i j) order
-  positive k d l = some (get_or order k d) (o.within k d l)
-
   timed : All IsTimed pieces
-  timed = back_to_back-timed (time_at i) 0 order positive
+  timed = back_to_back-timed (time_at i) 0 order (λ k d l. some (get_or order k d) (o.within k d l))
 
   in_order : AllPairs (λ p q. (p.to ≤ℤ q.from) × (p.from ≤ℤ p.to)) pieces
   in_order a b d h k =
@@ -62,7 +56,7 @@ module _ (i : Instance) (order : List ℕ) (o : OnceBelow (length i.jobs) order)
     places : All (HasPlace i) pieces
     places k d l =
         let op = back_to_back-op (time_at i) 0 order k d l in
-        let on = back_to_back-machine (time_at i) 0 order k d l in
+        let on = ap (λ q. q.machine) (back_to_back-made piece (time_at i) piece_makes 0 order k d l) in
         let one = m.one in
         record {
           job = back_to_back-All piece (time_at i) piece_makes (λ j. j < length i.jobs) 0 order o.within k d l;

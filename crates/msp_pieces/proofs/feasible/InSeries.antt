@@ -1,5 +1,5 @@
 -- An instance without release dates and routes has a feasible schedule that ends when the times of all jobs are over, so a best one costs little.
-use Rattle.std.proofs.Common.{◌≡◌, ◌≢◌, ℕ, ◌+◌, ◌*◌, ◌^◌, ◌<◌, ◌≤◌, ◌⊎◌, Bool, true, false, not, List, [], ◌∷◌, length, get_or, filter, All, AllPairs, Contains, sum_by}
+use Rattle.std.proofs.Common.{◌≡◌, ◌≢◌, ℕ, ◌+◌, ◌*◌, ◌<◌, ◌≤◌, ◌⊎◌, Bool, true, false, not, List, [], ◌∷◌, length, get_or, filter, All, AllPairs, Contains, sum_by}
 use Rattle.std.proofs.Common.{ℤ, pos, neg_ℤ, ◌-ℤ◌, ◌*ℤ◌, ◌≤ℤ◌, unsigned_abs, slice_index_or, Some, inl, inr, refl, sym, ap, subst, subst₂, ◌∙◌, arith, lit≤, le_trans}
 use Rattle.std.specs.Prelude.{◌==◌}
 use Rattle.std.specs.List.{range_with_len}
@@ -71,9 +71,6 @@ record Facts (k : EnvKind) (T : ℕ) (i : Instance) : Type 0 where
   times : (j : ℕ) → j < length i.jobs → HasTimes (least_time k i.class.times) T (job_at i j).needs
   heads : (j : ℕ) → j < length i.jobs → (job_at i j).release ≡ 0
 
-alone : (R : ℕ → ℕ → Type 0) → AllPairs R (0 ∷ [])
-alone R i j d a b = absurd (omega arith)
-
 -- in shops, the operations with a time
 module _ (i : Instance) (j : ℕ) where
   abbrev numbers : List ℕ
@@ -121,13 +118,16 @@ serial_by k T i m h = record {
   unit = unit_positive k T i h;
   has = λ j l. zero_only (λ o. o ≡ 0) refl;
   all = λ j o l e. (0, omega arith, sym e);
-  once = λ j l. alone (λ x y. x ≢ y);
+  once = λ j l a b d m n. absurd (omega (arith, m, n));
   may = λ j l. zero_only (λ o. 0 < i.machines) (omega (arith, h.machines));
   some = λ j l. zero_only (λ o. 0 < time_at i j o) (h.times j l 0 no_need (omega (arith, (h.shape j l).0, h.machines))).0;
   rate = λ j l. zero_only (λ o. time_at i j o * rate_on k i j 0 ≡ unit_by k i * whole_work k i j o) (rate_first k T i h j l);
   heads = h.heads;
   unrouted = refl;
 }
+
+times_most : (a b t n : ℕ) → a ≤ b → n ≤ a * t → n ≤ b * t
+times_most a b t n h k = omega (arith, mul-le a t b t h (omega arith), k)
 
 -- the operations of a job take at most so often the greatest time
 job_sum : (k : EnvKind) (T : ℕ) (i : Instance) → Facts k T i → (j : ℕ) → j < length i.jobs → sum_by (λ x. time_at i x.job x.op) (tasks_of (ops_by k i) j) ≤ most_by k * T
@@ -138,9 +138,6 @@ job_sum k T i h j l = times_most (length (ops_by k i j)) (most_by k) T _ (few k 
   ap (λ n. n * T) (length-map (ops_by k i j) (task j)),
 ))
   where
-    times_most : (a b t n : ℕ) → a ≤ b → n ≤ a * t → n ≤ b * t
-    times_most a b t n h k = omega (arith, mul-le a t b t h (omega arith), k)
-
     few : (k : EnvKind) → Facts k T i → length (ops_by k i j) ≤ most_by k
     few OpenShop h = omega (arith, shop_few i j, (h.shape j l).0, h.machines)
     few _ h = omega arith
@@ -199,15 +196,12 @@ series-is_early l i m h e (order, q, forward) =
     let serial = serial_by k T i m g in
     let o = OnceBelow-from_sequence i order q in
     let sum = tasks-sum (ops_by k i) (λ x. time_at i x.job x.op) (most_by k * T) order (λ a d b. job_sum k T i g (get_or order a d) (o.within a d b)) in
-    let all = fewer (length order) (most_by k * T) _ (omega (arith, q.whole, h.few)) sum in
+    let all = times_most (length order) MOST_JOBS (most_by k * T) _ (omega (arith, q.whole, h.few)) sum in
     record {
       feasible = Feasible-from_fits i (series_of i order) (IsShaped-from_conditions l i h)
           (Fits-series (frame_of i) (unit_by k i) (ops_by k i) (machine_by k i) (time_at i) serial order o (may_precede i order q h.ends forward) (no_loops i order q h.ends forward));
       ends = λ a d b. ≤ℤ_trans (series-to (frame_of i) (unit_by k i) (ops_by k i) (machine_by k i) (time_at i) serial order o a d b) (pos-le all);
     }
-  where
-    fewer : (n b s : ℕ) → n ≤ MOST_JOBS → s ≤ n * b → s ≤ MOST_JOBS * b
-    fewer n b s h k = omega (arith, mul-le n b MOST_JOBS b h (omega arith), k)
 
 -- ---- what it costs
 -- an early schedule costs little; no due date is below -d
@@ -221,23 +215,19 @@ module _ (i : Instance) (s : Schedule) (time d u : ℕ) (early : IsEarly i time 
   room : (n m : ℕ) → 1 ≤ m → n + m * d ≤ m * (n + d)
   room n m h = omega (arith, mul-le 1 n m n h (omega arith))
 
-  end_small : (x : ℤ) → x ≤ℤ pos time → x ≤ℤ (pos u *ℤ pos (time + d))
-  end_small x h = ≤ℤ_trans h (pos-le (omega (arith, room time u unit_some)))
-
   late_small : (x y : ℤ) → x ≤ℤ pos time → neg_ℤ (pos d) ≤ℤ y → (x -ℤ (pos u *ℤ y)) ≤ℤ (pos u *ℤ pos (time + d))
   late_small x y h k = ≤ℤ_trans (omega (arith, ints, subst (λ z. z ≤ℤ (pos u *ℤ y)) (*ℤ-neg (pos u) (pos d)) (*ℤ-mono u k))) (pos-le (room time u unit_some))
 
   charge_small : (i.class.crit ≡ Cmax) ⊎ (i.class.crit ≡ Lmax) → (j : ℕ) → j < length i.jobs → charge_of i s j ≤ℤ (s.unit *ℤ pos (time + d))
   charge_small c j l = subst (λ v. job_cost i.class.crit v (job_at i j) (end_of s j) ≤ℤ (v *ℤ pos (time + d))) (sym is) (elim c [
-    | inl e ↦ subst (λ k. job_cost k (pos u) (job_at i j) (end_of s j) ≤ℤ (pos u *ℤ pos (time + d))) (sym e) (end_small (end_of s j) (ended j))
+    | inl e ↦ subst (λ k. job_cost k (pos u) (job_at i j) (end_of s j) ≤ℤ (pos u *ℤ pos (time + d))) (sym e)
+        (≤ℤ_trans (ended j) (pos-le (omega (arith, room time u unit_some))))
     | inr e ↦ subst (λ k. job_cost k (pos u) (job_at i j) (end_of s j) ≤ℤ (pos u *ℤ pos (time + d))) (sym e) (late_small (end_of s j) (job_at i j).due (ended j) (dues j l))
   ])
 
   early_is_cheap : 1 ≤ length i.jobs → (i.class.crit ≡ Cmax) ⊎ (i.class.crit ≡ Lmax) → cost_of i s ≤ℤ (s.unit *ℤ pos (time + d))
-  early_is_cheap some c = cost_of-least i s (s.unit *ℤ pos (time + d)) greatest some (charge_small c)
-    where
-      greatest : is_greatest i.class.crit ≡ true
-      greatest = elim c [ inl e ↦ ap is_greatest e | inr e ↦ ap is_greatest e ]
+  early_is_cheap some c =
+      cost_of-least i s (s.unit *ℤ pos (time + d)) (elim c [ inl e ↦ ap is_greatest e | inr e ↦ ap is_greatest e ]) some (charge_small c)
 
 -- no best schedule costs more
 best_is_cheap : (i : Instance) (s t : Schedule) (bound : ℕ) → Feasible i s → cost_of i s ≤ℤ (s.unit *ℤ pos bound) → Best i t → cost_of i t ≤ℤ (t.unit *ℤ pos bound)

@@ -1,5 +1,5 @@
 -- The end of a job: no piece of it ends later, and where it has a piece, one ends then.
-use Rattle.std.proofs.Common.{◌≡◌, ℕ, ◌<◌, List, length, get_or, map, filter, All, Contains, inl, inr, ℤ, pos, ◌≤ℤ◌, ◌<ℤ◌, refl, sym, ap, subst, ◌∙◌, arith}
+use Rattle.std.proofs.Common.{◌≡◌, ℕ, ◌<◌, List, length, get_or, map, filter, All, Contains, inl, inr, ℤ, pos, ◌≤ℤ◌, refl, sym, ap, subst, ◌∙◌, arith}
 use Rattle.std.specs.Prelude.{◌==◌}
 use Rattle.std.proofs.lemmas.Bool.{eqb-true, eq-eqb}
 use Rattle.std.proofs.lemmas.List.{length-map, get_or-map}
@@ -46,9 +46,8 @@ pub last_end-reached : (f : Frame) (unit : ℤ) (ps : List Piece) → Fits f uni
 last_end-reached f unit ps fits works j l =
     let (p, c, e) = piece_of f unit ps fits works j l in
     elim (fold-int_max_reached (pos 0) (ends_of ps j) (last_end ps j) refl) [
-      | inl z ↦ absurd (never p.from p.to (last_end ps p.job) (All-contains Lasts ps p fits.span c) (last_end-contains ps p c) (ap (last_end ps) e ∙ z))
+      | inl z ↦
+          let lasts = All-contains Lasts ps p fits.span c in
+          absurd (omega (arith, ints, lasts.0, lasts.1, last_end-contains ps p c, ap (last_end ps) e ∙ z))
       | inr m ↦ let (q, a, t) = Contains-from_map (λ q. q.to) (of_job ps j) (last_end ps j) p m in let (b, k) = Contains-from_filter (λ q. q.job == j) ps q a in (q, b, eqb-true _ _ k, t)
     ]
-  where
-    never : (a b z : ℤ) → (pos 0 ≤ℤ a) × (a <ℤ b) → b ≤ℤ z → z ≡ pos 0 → ⊥
-    never a b z h k e = omega (arith, ints, h.0, h.1)

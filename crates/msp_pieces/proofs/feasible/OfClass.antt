@@ -6,9 +6,6 @@ use Rattle.msp_class.specs.Env.{kind_of}
 use Rattle.msp_instance.specs.declared.Instance.{Instance}
 use Rattle.msp_instance.specs.Conditions.{HasArcs, HasDegree, HasSpeeds, HasSmallMultiple, IsJobOf, Inner, inner_limits}
 
-inner_of : (i : Instance) (c : Class) → i.class ≡ c → Inner i → Inner (record i { class = c })
-inner_of i c e h = subst (λ c. Inner (record i { class = c })) e h
-
 pub record IsOfClass (i : Instance) (c : Class) : Type 0 where
   pub kind : kind_of i.class.env ≡ kind_of c.env
   pub cut : i.class.cut ≡ c.cut
@@ -26,7 +23,7 @@ pub record IsOfClass (i : Instance) (c : Class) : Type 0 where
 
 pub IsOfClass-from : (i : Instance) (c : Class) → i.class ≡ c → Inner i → IsOfClass i c
 IsOfClass-from i c e h =
-    let m = (inner_of i c e h).conditions in
+    let m = (subst (λ (c : Class). Inner (record i { class = c })) e h).conditions in
     record {
       kind = ap (λ c. kind_of c.env) e;
       cut = ap (λ c. c.cut) e;

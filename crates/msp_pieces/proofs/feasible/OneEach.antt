@@ -20,6 +20,28 @@ use Rattle.msp_pieces.proofs.feasible.OneMachine.{pieces_of-job}
 use Rattle.msp_pieces.proofs.lists.OnceEach.{OnceBelow-one}
 use Rattle.msp_pieces.proofs.changes.Moves.{Contains-map}
 
+-- the jobs have the operation 0 alone, which any machine may run
+pub record HasOneOperation (i : Instance) : Type 0 where
+  pub first : (j o : ℕ) → HasOperation (kind_of i.class.env) i j o → o ≡ 0
+  pub operation : (j : ℕ) → HasOperation (kind_of i.class.env) i j 0
+  pub may_run : (j m : ℕ) → m < i.machines → MayRun (kind_of i.class.env) i j 0 m
+  pub route : (ps : List Piece) → FollowsRoute (kind_of i.class.env) ps
+
+HasOneOperation-from_kind : (i : Instance) (k : EnvKind) → kind_of i.class.env ≡ k → ((j o : ℕ) → HasOperation k i j o → o ≡ 0) → ((j : ℕ) → HasOperation k i j 0) →
+    ((j m : ℕ) → m < i.machines → MayRun k i j 0 m) → ((ps : List Piece) → FollowsRoute k ps) → HasOneOperation i
+HasOneOperation-from_kind i k kind first operation may_run route = record {
+  first = λ j o op. first j o (subst (λ x. HasOperation x i j o) kind op);
+  operation = λ j. subst (λ x. HasOperation x i j 0) (sym kind) (operation j);
+  may_run = λ j m l. subst (λ x. MayRun x i j 0 m) (sym kind) (may_run j m l);
+  route = λ ps. subst (λ x. FollowsRoute x ps) (sym kind) (route ps);
+}
+
+pub HasOneOperation-identical : (i : Instance) → kind_of i.class.env ≡ Identical → HasOneOperation i
+HasOneOperation-identical i kind = HasOneOperation-from_kind i Identical kind (λ j o e. e) (λ j. refl) (λ j m l. l) (λ ps. tt)
+
+pub HasOneOperation-uniform : (i : Instance) → kind_of i.class.env ≡ Uniform → HasOneOperation i
+HasOneOperation-uniform i kind = HasOneOperation-from_kind i Uniform kind (λ j o e. e) (λ j. refl) (λ j m l. l) (λ ps. tt)
+
 -- the instance has machines that may run any job, whole
 pub record IsUncut (i : Instance) : Type 0 where
   pub cut : i.class.cut ≡ false
@@ -29,25 +51,17 @@ pub record IsUncut (i : Instance) : Type 0 where
   pub may_run : (j m : ℕ) → m < i.machines → MayRun (kind_of i.class.env) i j 0 m
   pub route : (ps : List Piece) → FollowsRoute (kind_of i.class.env) ps
 
-IsUncut-from_kind : (i : Instance) (k : EnvKind) → kind_of i.class.env ≡ k → ((j o : ℕ) → HasOperation k i j o → o ≡ 0) → ((j : ℕ) → HasOperation k i j 0) →
-    ((j m : ℕ) → m < i.machines → MayRun k i j 0 m) → ((ps : List Piece) → FollowsRoute k ps) → i.class.cut ≡ false → length i.jobs ≤ MOST_JOBS → IsUncut i
-IsUncut-from_kind i k kind first operation may_run route cut few = record {
-  cut = cut;
-  few = few;
-  first = λ j o op. first j o (subst (λ x. HasOperation x i j o) kind op);
-  operation = λ j. subst (λ x. HasOperation x i j 0) (sym kind) (operation j);
-  may_run = λ j m l. subst (λ x. MayRun x i j 0 m) (sym kind) (may_run j m l);
-  route = λ ps. subst (λ x. FollowsRoute x ps) (sym kind) (route ps);
-}
+IsUncut-from_one : (i : Instance) → HasOneOperation i → i.class.cut ≡ false → length i.jobs ≤ MOST_JOBS → IsUncut i
+IsUncut-from_one i o cut few = record { cut = cut; few = few; first = o.first; operation = o.operation; may_run = o.may_run; route = o.route }
 
 pub IsUncut-identical : (i : Instance) → kind_of i.class.env ≡ Identical → i.class.cut ≡ false → length i.jobs ≤ MOST_JOBS → IsUncut i
-IsUncut-identical i kind = IsUncut-from_kind i Identical kind (λ j o e. e) (λ j. refl) (λ j m l. l) (λ ps. tt)
+IsUncut-identical i kind = IsUncut-from_one i (HasOneOperation-identical i kind)
 
 pub IsUncut-uniform : (i : Instance) → kind_of i.class.env ≡ Uniform → i.class.cut ≡ false → length i.jobs ≤ MOST_JOBS → IsUncut i
-IsUncut-uniform i kind = IsUncut-from_kind i Uniform kind (λ j o e. e) (λ j. refl) (λ j m l. l) (λ ps. tt)
+IsUncut-uniform i kind = IsUncut-from_one i (HasOneOperation-uniform i kind)
 
 pub IsUncut-unrelated : (i : Instance) → kind_of i.class.env ≡ Unrelated → i.class.cut ≡ false → length i.jobs ≤ MOST_JOBS → IsUncut i
-IsUncut-unrelated i kind = IsUncut-from_kind i Unrelated kind (λ j o e. e) (λ j. refl) (λ j m l. l) (λ ps. tt)
+IsUncut-unrelated i kind = IsUncut-from_one i (HasOneOperation-from_kind i Unrelated kind (λ j o e. e) (λ j. refl) (λ j m l. l) (λ ps. tt))
 
 -- The pieces of a schedule that is built end no later: above what the solvers reach, and below GREATEST_MOMENT.
 abbrev pub early_end : ℕ
@@ -84,9 +98,6 @@ module _ (i : Instance) (uncut : IsUncut i) (unit : ℕ) (pieces : List Piece) (
       let kb : b < length (map (λ p. p.job) pieces) = omega (arith, k, length-map pieces (λ p. p.job)) in
       OnceBelow-distinct each.jobs a b 0 l kb (get_or-map (λ p. p.job) pieces a d 0 (omega (arith, k, l)) ∙ e ∙ sym (get_or-map (λ p. p.job) pieces b d 0 k))
 
-  piece_of_job : (j : ℕ) → j < n → (p : Piece) × (pieces_of s j 0 ≡ p ∷ [])
-  piece_of_job j l = let (p, e) = OnceBelow-one (λ p. p.job) pieces each.jobs j l in (p, pieces_of-job s j each.ops ∙ e)
-
   placed : All (HasPlace i) pieces
   placed k d l = by (get_or pieces k d) (job_inside k d l) (each.ops k d l) (each.inside k d l)
     where
@@ -103,7 +114,8 @@ module _ (i : Instance) (uncut : IsUncut i) (unit : ℕ) (pieces : List Piece) (
   gets : Gets 0
   gets j l = subst (λ b. MatchBool b (total (map (work_of (kind_of i.class.env) i) (pieces_of s j 0)) ≡ pos unit *ℤ pos (whole_work (kind_of i.class.env) i j 0))
       ((p : Piece) × (pieces_of s j 0 ≡ p ∷ []) × IsWholeWork (kind_of i.class.env) i (pos unit) p)) (sym uncut.cut)
-      (let (p, e) = piece_of_job j l in
+      (let (p, one) = OnceBelow-one (λ p. p.job) pieces each.jobs j l in
+      let e = pieces_of-job s j each.ops ∙ one in
       (p, e, All-contains (IsWholeWork (kind_of i.class.env) i (pos unit)) pieces p each.whole (Contains-from_filter _ pieces p (subst (λ xs. Contains xs p) (sym e) (0, omega arith, refl))).0))
 
   pub one_each_is_feasible : Feasible i s

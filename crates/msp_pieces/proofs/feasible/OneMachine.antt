@@ -1,9 +1,9 @@
 -- Feasible schedules on one machine, as lemmas on pieces in ℕ want them: begins and ends, work, and the sum of costs.
-use Rattle.std.proofs.Common.{◌≡◌, ℕ, zero, suc, ◌+◌, ◌*◌, ◌-◌, ◌<◌, ◌≤◌, max, Bool, true, false, cond, eqb, List, [], ◌∷◌, length, get_or, take, map, filter, fold, ℤ, pos}
-use Rattle.std.proofs.Common.{nat_abs, ◌+ℤ◌, ◌-ℤ◌, ◌*ℤ◌, ◌≤ℤ◌, ◌<ℤ◌, inl, inr, All, AllPairs, sum_by, MatchBool, MatchOption, refl, sym, ap, ap₂, ◌∙◌, subst, arith, zero-add, add-one}
+use Rattle.std.proofs.Common.{◌≡◌, ℕ, zero, suc, ◌*◌, ◌-◌, ◌<◌, ◌≤◌, max, Bool, true, false, cond, eqb, List, [], ◌∷◌, length, get_or, take, map, filter, fold, ℤ, pos}
+use Rattle.std.proofs.Common.{nat_abs, ◌+ℤ◌, ◌*ℤ◌, ◌≤ℤ◌, ◌<ℤ◌, inl, inr, All, AllPairs, sum_by, MatchBool, MatchOption, refl, sym, ap, ap₂, ◌∙◌, subst, arith, zero-add, add-one}
 use Rattle.std.specs.Prelude.{◌==◌, ◌&&◌, ⊤}
 use Rattle.std.specs.Int.{int_max}
-use Rattle.std.proofs.lemmas.Bool.{eqb-true, eq-eqb}
+use Rattle.std.proofs.lemmas.Bool.{eqb-true, eq-eqb, and_parts}
 use Rattle.std.proofs.lemmas.Int.{ints, clamps}
 use Rattle.std.proofs.lemmas.List.{take_all}
 use Rattle.std.proofs.lemmas.List.Elements.{All-head, All-tail, All-filter, filter_passes}
@@ -43,10 +43,7 @@ apart_in_int p q t u h = elim h [ inl a ↦ inl (omega (arith, ints, a, t.to, u.
 
 -- how long a piece lasts
 pub length-timed : (p : Piece) → IsTimed p → length_of p ≡ pos (finish p - start p)
-length-timed p t = by p.from p.to (start p) (finish p) t.from t.to t.lasts
-  where
-    by : (x y : ℤ) (a b : ℕ) → x ≡ pos a → y ≡ pos b → a < b → y -ℤ x ≡ pos (b - a)
-    by x y a b e f h = omega (arith, ints)
+length-timed p t = omega (arith, ints, t.from, t.to, t.lasts)
 
 -- the pieces and the unit of a feasible schedule
 module _ (i : Instance) (s : Schedule) (f : Feasible i s) where
@@ -70,8 +67,7 @@ filter-same f g (x ∷ xs) h =
     ∙ ap (λ l. cond (g x) (x ∷ l) l) (filter-same f g xs (All-tail (λ y. f y ≡ g y) x xs h))
 
 pub both_true : (a b : Bool) → (a && b) ≡ true → (a ≡ true) × (b ≡ true)
-both_true true b h = (refl, h)
-both_true false b h = absurd (cc)
+both_true a b h = and_parts a b h
 
 with_true : (a b : Bool) → b ≡ true → (a && b) ≡ a
 with_true true b h = h
@@ -148,9 +144,6 @@ module _ (i : Instance) (kind : kind_of i.class.env ≡ Identical) (s : Schedule
   pub timed_pieces : All IsTimed s.pieces
   timed_pieces = pieces_timed i s f
 
-  operations : All (λ p. p.op ≡ 0) s.pieces
-  operations k d l = subst (λ x. HasOperation x i (get_or s.pieces k d).job (get_or s.pieces k d).op) kind (f.place k d l).operation
-
   pub machines_below : All (λ p. p.machine < i.machines) s.pieces
   machines_below k d l = subst (λ x. MayRun x i (get_or s.pieces k d).job (get_or s.pieces k d).op (get_or s.pieces k d).machine) kind (f.place k d l).machine
 
@@ -167,9 +160,6 @@ module _ (i : Instance) (kind : kind_of i.class.env ≡ Identical) (s : Schedule
     abbrev Gets : EnvKind → Type 0
     Gets x = MatchBool i.class.cut (total (map (part_of x i) (pieces_of s j 0)) ≡ s.unit *ℤ pos (whole_work x i j 0)) ((p : Piece) × (pieces_of s j 0 ≡ p ∷ []) × IsWholeWork x i s.unit p)
 
-    gets : Gets Identical
-    gets = subst Gets kind (f.work j 0 small (subst (λ x. HasOperation x i j 0) (sym kind) refl))
-
     -- the whole of job j in parts of the unit
     abbrev whole : ℕ
     whole = nat_abs s.unit * (need_at i j 0).time
@@ -178,10 +168,7 @@ module _ (i : Instance) (kind : kind_of i.class.env ≡ Identical) (s : Schedule
     unit_times = ap (λ u. u *ℤ pos (need_at i j 0).time) (unit_in_parts i s f)
 
     same_pieces : pieces_of s j 0 ≡ mine
-    same_pieces = pieces_of-job s j operations
-
-    in_parts : total (map length_of (pieces_of s j 0)) ≡ s.unit *ℤ pos (need_at i j 0).time → sum_by (size_of start finish) mine ≡ whole
-    in_parts h = pos-same (sym (total_lengths mine timed_mine) ∙ ap (λ l. total (map length_of l)) (sym same_pieces) ∙ h ∙ unit_times)
+    same_pieces = pieces_of-job s j (λ k d l. let p = get_or s.pieces k d in subst (λ x. HasOperation x i p.job p.op) kind (f.place k d l).operation)
 
     in_one : (p : Piece) → pieces_of s j 0 ≡ p ∷ [] → length_of p ≡ s.unit *ℤ pos (need_at i p.job p.op).time → sum_by (size_of start finish) mine ≡ whole
     in_one p e h =
@@ -194,11 +181,11 @@ module _ (i : Instance) (kind : kind_of i.class.env ≡ Identical) (s : Schedule
         ap (sum_by (size_of start finish)) is ∙ zero-add (finish p - start p) ∙ pos-same size
 
     pub full_work : work_of job_of start finish s.pieces j ≡ whole
-    full_work = by i.class.cut gets
+    full_work = by i.class.cut (subst Gets kind (f.work j 0 small (subst (λ x. HasOperation x i j 0) (sym kind) refl)))
       where
         by : (b : Bool) → MatchBool b (total (map length_of (pieces_of s j 0)) ≡ s.unit *ℤ pos (need_at i j 0).time)
             ((p : Piece) × (pieces_of s j 0 ≡ p ∷ []) × (length_of p ≡ s.unit *ℤ pos (need_at i p.job p.op).time)) → sum_by (size_of start finish) mine ≡ whole
-        by true h = in_parts h
+        by true h = pos-same (sym (total_lengths mine timed_mine) ∙ ap (λ l. total (map length_of l)) (sym same_pieces) ∙ h ∙ unit_times)
         by false h = in_one h.0 h.1 h.2
 
 module _ (i : Instance) (m : IsOneMachine i) (s : Schedule) (f : Feasible i s) where

@@ -1,6 +1,6 @@
 -- All operations one after another: in a frame without heads and routes it is feasible, and all ends when the times are over.
-use Rattle.std.proofs.Common.{◌≡◌, ◌≢◌, ℕ, zero, suc, ◌+◌, ◌*◌, ◌<◌, ◌≤◌, Bool, true, false, cond, List, [], ◌∷◌, ◌++◌, length, get_or, map, filter, All, AllPairs, Contains}
-use Rattle.std.proofs.Common.{sum_by, ℤ, pos, ◌*ℤ◌, ◌≤ℤ◌, inl, refl, sym, ap, ap₂, subst, ◌∙◌, arith}
+use Rattle.std.proofs.Common.{◌≡◌, ◌≢◌, ℕ, zero, suc, ◌*◌, ◌<◌, ◌≤◌, Bool, true, false, cond, List, [], ◌∷◌, ◌++◌, length, get_or, map, filter, All, AllPairs, Contains}
+use Rattle.std.proofs.Common.{sum_by, pos, ◌*ℤ◌, ◌≤ℤ◌, inl, refl, sym, ap, ap₂, subst, ◌∙◌, arith}
 use Rattle.std.specs.Prelude.{◌==◌, ◌&&◌}
 use Rattle.std.proofs.lemmas.Bool.{eqb-true, eq-eqb, false≢true}
 use Rattle.std.proofs.lemmas.Int.{ints}
@@ -98,9 +98,6 @@ piece_on machine x a b = record { job = x.job; op = x.op; machine = machine x.jo
 abbrev pub task_of : Piece → Task
 task_of p = task p.job p.op
 
-piece_on-makes : (machine : ℕ → ℕ → ℕ) → Makes (piece_on machine) task_of start finish
-piece_on-makes machine = record { job_is = λ x a b. refl; from_is = λ x a b. refl; to_is = λ x a b. refl }
-
 -- all operations of the jobs of a list, one after another
 abbrev pub one_by_one : (ℕ → List ℕ) → (ℕ → ℕ → ℕ) → (ℕ → ℕ → ℕ) → List ℕ → List Piece
 one_by_one ops machine time order = back_to_back (piece_on machine) (λ x. time x.job x.op) 0 (tasks ops order)
@@ -132,7 +129,7 @@ module _ (f : Frame) (D : ℕ) (ops : ℕ → List ℕ) (machine time : ℕ → 
   series = one_by_one ops machine time order
 
   makes : Makes (piece_on machine) task_of start finish
-  makes = piece_on-makes machine
+  makes = record { job_is = λ x a b. refl; from_is = λ x a b. refl; to_is = λ x a b. refl }
 
   -- what holds of each operation of a job holds of each task
   each : (Q : ℕ → ℕ → Type 0) → ((j : ℕ) → j < f.jobs → All (Q j) (ops j)) → All (λ x. Q x.job x.op) all_tasks

@@ -1,5 +1,5 @@
 -- Jobs that may not be cut, on machines of any kind: each has one piece, and the pieces of one machine are apart.
-use Rattle.std.proofs.Common.{◌≡◌, ℕ, ◌*◌, ◌-◌, ◌≤◌, ◌<◌, false, ◌≢◌, inl, inr, [], ◌∷◌, length, get_or, map, Contains, ℤ, pos, nat_abs, ◌-ℤ◌, ◌*ℤ◌, ◌≤ℤ◌, ◌<ℤ◌}
+use Rattle.std.proofs.Common.{◌≡◌, ℕ, ◌*◌, ◌-◌, ◌<◌, false, ◌≢◌, inl, inr, [], ◌∷◌, length, get_or, map, Contains, ℤ, pos, nat_abs, ◌-ℤ◌, ◌*ℤ◌, ◌≤ℤ◌, ◌<ℤ◌}
 use Rattle.std.proofs.Common.{MatchBool, arith, refl, sym, ap, subst, subst₂, ◌∙◌}
 use Rattle.std.specs.Prelude.{◌==◌, ◌&&◌}
 use Rattle.std.proofs.lemmas.Bool.{eqb-true}
@@ -60,10 +60,8 @@ module _ (i : Instance) (s : Schedule) (whole : i.class.cut ≡ false) (works : 
       → a ≢ b → (only_piece s a).machine ≡ (only_piece s b).machine → IsApart (λ j. start (only_piece s j)) (λ j. finish (only_piece s j)) a b
   only_apart a b l m ne on = elim (AllPairs-contains (λ p q. p.machine ≡ q.machine → AreApart p q) s.pieces (only_piece s a) (only_piece s b) f.machine (is_only a l).among (is_only b m).among) [
     | inl r ↦ apart_in_nat (only_piece s a) (only_piece s b) (only_timed a l) (only_timed b m) (r on)
-    | inr o ↦ elim o [
-      | inl e ↦ absurd (ne (sym (is_only a l).job ∙ ap (λ p. p.job) e ∙ (is_only b m).job))
-      | inr r ↦ apart_in_nat (only_piece s a) (only_piece s b) (only_timed a l) (only_timed b m) (elim (r (sym on)) [ inl x ↦ inr x | inr x ↦ inl x ])
-    ]
+    | inr (inl e) ↦ absurd (ne (sym (is_only a l).job ∙ ap (λ p. p.job) e ∙ (is_only b m).job))
+    | inr (inr r) ↦ apart_in_nat _ _ (only_timed a l) (only_timed b m) (elim (r (sym on)) [ inl x ↦ inr x | inr x ↦ inl x ])
   ]
 
   pub only_end : (j : ℕ) → j < length i.jobs → pos (finish (only_piece s j)) ≤ℤ end_of s j

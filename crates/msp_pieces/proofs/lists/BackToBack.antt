@@ -1,15 +1,16 @@
 -- The pieces of jobs that are laid one after another: `make j a b` is the piece of job j from a to b.
-use Rattle.std.proofs.Common.{◌≡◌, ℕ, suc, ◌+◌, ◌*◌, ◌-◌, ◌≤◌, ◌<◌, max, Bool, true, false, cond, eqb, ◌≢◌, inl, inr, List, [], ◌∷◌, ◌++◌, map, length, get_or, All, AllPairs}
+use Rattle.std.proofs.Common.{◌≡◌, ℕ, suc, ◌+◌, ◌*◌, ◌≤◌, ◌<◌, cond, eqb, ◌≢◌, inl, inr, List, [], ◌∷◌, ◌++◌, map, length, get_or, All, AllPairs}
 use Rattle.std.proofs.Common.{Contains, filter, sum_by, arith, refl, sym, ap, ap₂, subst, ◌∙◌}
 use Rattle.std.proofs.lemmas.List.Sums.{sum_by-cons}
 use Rattle.std.proofs.lemmas.List.Elements.{All-nil, All-cons, All-head, All-tail, Contains-append_right}
 use Rattle.std.proofs.lemmas.List.Kept.{AllPairs-cons}
-use Rattle.std.proofs.lemmas.Bool.{eqb-true, eqb-false, eq-eqb, ne_eqb}
+use Rattle.std.proofs.lemmas.Bool.{eq-eqb, ne_eqb, cases_eq}
 use Rattle.msp_class.specs.Sums.{total_below}
 use Rattle.msp_class.proofs.Sums.{sum_by-same, sum_by-OnceBelow, total_below-same, OnceBelow, OnceBelow-distinct, OnceBelow-contains}
 use Rattle.msp_class.proofs.Sums.{AllPairs-head, AllPairs-tail, AllPairs-contains, Contains-tail}
 use Rattle.msp_pieces.proofs.lists.Intervals.{last_of, greatest_by}
 use Rattle.msp_pieces.specs.BackToBack.{weighted_ends, back_to_back}
+use Rattle.std.proofs.lemmas.Bool.Decides.{nat_tests}
 
 -- when job j of these ends, back to back: 0 where it is none of them
 abbrev pub end_in : (ℕ → ℕ) → ℕ → List ℕ → ℕ → ℕ
@@ -95,7 +96,7 @@ module _ {X P : Type 0} (make : X → ℕ → ℕ → P) (p : X → ℕ) where
     back_to_back-arcs Arc t js loose forward q r c d arc =
         elim (AllPairs-contains (λ x y. (to x ≤ from y) × ¬ (Arc (job y) (job x))) (back_to_back make p t js)
         q r (λ i j e a b. (back_to_back-in_order t js i j e a b, back_to_back-AllPairs (λ x y. ¬ (Arc y x)) t js forward i j e a b)) c d)
-        [ inl h ↦ h.0 | inr rest ↦ elim rest [ inl same ↦ absurd (loose (job q) (subst (λ x. Arc (job q) (job x)) (sym same) arc)) | inr h ↦ absurd (h.1 arc) ] ]
+        [ inl h ↦ h.0 | inr (inl same) ↦ absurd (loose (job q) (subst (λ x. Arc (job q) (job x)) (sym same) arc)) | inr (inr h) ↦ absurd (h.1 arc) ]
 
 -- ---- any list of jobs
 module _ {P : Type 0} (make : ℕ → ℕ → ℕ → P) (p : ℕ → ℕ) {job from to : P → ℕ} (makes : Makes make job from to) where
@@ -111,38 +112,32 @@ module _ {P : Type 0} (make : ℕ → ℕ → ℕ → P) (p : ℕ → ℕ) {job 
   pub back_to_back-filter : (t : ℕ) (js : List ℕ) (j : ℕ)
       → AllPairs (λ x y. x ≢ y) js → Contains js j → filter (λ q. eqb (job q) j) (back_to_back make p t js) ≡ make j (begin_in p t js j) (end_in p t js j) ∷ []
   back_to_back-filter t [] j u c = absurd (omega (arith, c.1))
-  back_to_back-filter t (i ∷ js) j u c = by (eqb i j) refl (λ v. back_to_back-filter (t + p i) js j (AllPairs-tail (λ x y. x ≢ y) i js u) v)
+  back_to_back-filter t (i ∷ js) j u c = elim (cases_eq i j) [
+    | inl e ↦
+        ap (λ b. cond b (make i t (t + p i) ∷ later) later) (ap (λ x. eqb x j) (makes.job_is i t (t + p i)) ∙ eq-eqb i j e)
+        ∙ ap (λ l. make i t (t + p i) ∷ l)
+        (back_to_back-filter_none (t + p i) js j (λ k d l q. AllPairs-head (λ x y. x ≢ y) i js u k d l (e ∙ sym q)))
+        ∙ ap (λ x. make x t (t + p i) ∷ []) e
+        ∙ sym (ap (λ b. make j (cond b t (begin_in p (t + p i) js j)) (cond b (t + p i) (end_in p (t + p i) js j)) ∷ []) (eq-eqb i j e))
+    | inr ne ↦
+        ap (λ b. cond b (make i t (t + p i) ∷ later) later) (ap (λ x. eqb x j) (makes.job_is i t (t + p i)) ∙ ne_eqb i j ne)
+        ∙ back_to_back-filter (t + p i) js j (AllPairs-tail (λ x y. x ≢ y) i js u) (Contains-tail i js j c ne)
+        ∙ sym (ap (λ b. make j (cond b t (begin_in p (t + p i) js j)) (cond b (t + p i) (end_in p (t + p i) js j)) ∷ []) (ne_eqb i j ne))
+  ]
     where
       later : List P
       later = filter (λ q. eqb (job q) j) (back_to_back make p (t + p i) js)
 
-      by : (b : Bool) → eqb i j ≡ b → (Contains js j → later ≡ make j (begin_in p (t + p i) js j) (end_in p (t + p i) js j) ∷ [])
-          → cond (eqb (job (make i t (t + p i))) j) (make i t (t + p i) ∷ later) later ≡ make j (cond (eqb i j) t (begin_in p (t + p i) js j)) (cond (eqb i j) (t + p i) (end_in p (t + p i) js j)) ∷ []
-      by true e more =
-          ap (λ b. cond b (make i t (t + p i) ∷ later) later) (ap (λ x. eqb x j) (makes.job_is i t (t + p i)) ∙ e)
-          ∙ ap (λ l. make i t (t + p i) ∷ l) (back_to_back-filter_none (t + p i) js j (λ k d l q. AllPairs-head (λ x y. x ≢ y) i js u k d l (eqb-true i j e ∙ sym q)))
-          ∙ ap (λ x. make x t (t + p i) ∷ []) (eqb-true i j e)
-          ∙ sym (ap (λ b. make j (cond b t (begin_in p (t + p i) js j)) (cond b (t + p i) (end_in p (t + p i) js j)) ∷ []) e)
-      by false e more =
-          ap (λ b. cond b (make i t (t + p i) ∷ later) later) (ap (λ x. eqb x j) (makes.job_is i t (t + p i)) ∙ e)
-          ∙ more (Contains-tail i js j c (eqb-false i j e))
-          ∙ sym (ap (λ b. make j (cond b t (begin_in p (t + p i) js j)) (cond b (t + p i) (end_in p (t + p i) js j)) ∷ []) e)
-
   pub back_to_back-last : (t : ℕ) (js : List ℕ) (j : ℕ) → AllPairs (λ x y. x ≢ y) js → Contains js j → last_of job to (back_to_back make p t js) j ≡ end_in p t js j
-  back_to_back-last t js j u c = ap (greatest_by to) (back_to_back-filter t js j u c) ∙ only (end_in p t js j) (makes.to_is j (begin_in p t js j) (end_in p t js j))
-    where
-      only : {a : ℕ} (b : ℕ) → a ≡ b → max a 0 ≡ b
-      only {a} b e = omega arith
+  back_to_back-last t js j u c =
+      ap (greatest_by to) (back_to_back-filter t js j u c) ∙ omega (arith, makes.to_is j (begin_in p t js j) (end_in p t js j))
 
 -- ---- when the jobs end
 pub end_in-begin : (p : ℕ → ℕ) (t : ℕ) (js : List ℕ) (j : ℕ) → Contains js j → end_in p t js j ≡ begin_in p t js j + p j
 end_in-begin p t [] j c = absurd (omega (arith, c.1))
-end_in-begin p t (i ∷ js) j c = by (eqb i j) refl (λ v. end_in-begin p (t + p i) js j v)
-  where
-    by : (b : Bool) → eqb i j ≡ b → (Contains js j → end_in p (t + p i) js j ≡ begin_in p (t + p i) js j + p j)
-        → cond (eqb i j) (t + p i) (end_in p (t + p i) js j) ≡ cond (eqb i j) t (begin_in p (t + p i) js j) + p j
-    by true e more = ap (λ b. cond b (t + p i) (end_in p (t + p i) js j)) e ∙ ap (λ x. t + p x) (eqb-true i j e) ∙ sym (ap (λ b. cond b t (begin_in p (t + p i) js j) + p j) e)
-    by false e more = ap (λ b. cond b (t + p i) (end_in p (t + p i) js j)) e ∙ more (Contains-tail i js j c (eqb-false i j e)) ∙ sym (ap (λ b. cond b t (begin_in p (t + p i) js j) + p j) e)
+end_in-begin p t (i ∷ js) j c =
+    let later : i ≢ j → end_in p (t + p i) js j ≡ begin_in p (t + p i) js j + p j = λ ne. end_in-begin p (t + p i) js j (Contains-tail i js j c ne) in
+    grind (arith, nat_tests, later)
 
 -- the job at a place begins after the times of those before it
 pub begin_in-at : (p : ℕ → ℕ) (t : ℕ) (xs : List ℕ) (j : ℕ) (ys : List ℕ) → All (λ i. i ≢ j) xs → begin_in p t (xs ++ j ∷ ys) j ≡ t + sum_by p xs
@@ -164,12 +159,9 @@ ends-weighted_ends p w t (i ∷ js) u =
     (λ k d l. ap (λ b. w (get_or js k d) * cond b (t + p i) (end_in p (t + p i) js (get_or js k d))) (ne_eqb i (get_or js k d) (AllPairs-head (λ x y. x ≢ y) i js u k d l)))
     ∙ ends-weighted_ends p w (t + p i) js (AllPairs-tail (λ x y. x ≢ y) i js u))
 
-pub ends-weighted_ends_below : (p w : ℕ → ℕ) (n t : ℕ) (js : List ℕ) → OnceBelow n js → total_below n (λ j. w j * end_in p t js j) ≡ weighted_ends p w t js
-ends-weighted_ends_below p w n t js o = sym (sum_by-OnceBelow (λ j. w j * end_in p t js j) o) ∙ ends-weighted_ends p w t js (OnceBelow-distinct o)
-
 -- the same for the greatest end of each job's pieces
 pub last-weighted_ends_below : {P : Type 0} (make : ℕ → ℕ → ℕ → P) {job from to : P → ℕ} (makes : Makes make job from to) (p w : ℕ → ℕ) (n t : ℕ) (js : List ℕ)
     → OnceBelow n js → total_below n (λ j. w j * last_of job to (back_to_back make p t js) j) ≡ weighted_ends p w t js
 last-weighted_ends_below make makes p w n t js o =
     total_below-same n _ _ (λ j l. ap (λ m. w j * m) (back_to_back-last make p makes t js j (OnceBelow-distinct o) (OnceBelow-contains o j l)))
-    ∙ ends-weighted_ends_below p w n t js o
+    ∙ sym (sum_by-OnceBelow (λ j. w j * end_in p t js j) o) ∙ ends-weighted_ends p w t js (OnceBelow-distinct o)

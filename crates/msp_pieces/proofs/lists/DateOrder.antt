@@ -1,8 +1,6 @@
 -- Comparing dates and then numbers is a strict weak order, so a sort by it puts the earlier date first, and ties by number.
-use Rattle.std.proofs.Common.{◌≡◌, ℕ, ◌<◌, ◌≤◌, Bool, true, false, cond, ◌⊎◌, inl, inr, List, get_or, AllPairs, ℤ, ◌<ℤ◌, ◌≤ℤ◌, refl, sym, ◌∙◌, subst, arith}
-use Rattle.std.specs.Prelude.{int_lt}
+use Rattle.std.proofs.Common.{◌≡◌, ℕ, ◌<◌, ◌≤◌, Bool, true, false, ◌⊎◌, inl, inr, List, get_or, AllPairs, ℤ, ◌<ℤ◌, ◌≤ℤ◌, arith}
 use Rattle.std.specs.Ordering.{is_lt, int_cmp, nat_cmp, ordering_then}
-use Rattle.std.specs.declared.cmp.Ordering.TheVariants.{Less, Equal, Greater}
 use Rattle.std.specs.Cmp.{IsStrictWeakOrder}
 use Rattle.std.specs.List.Sorted.{IsSortedBy}
 use Rattle.std.proofs.lemmas.Bool.Decides.{nat_tests}
@@ -23,36 +21,16 @@ not_number : (a b : ℕ) → b ≤ a → is_lt (nat_cmp a b) ≡ false
 not_number a b k = grind (arith, nat_tests)
 
 pub less-no : (x y : ℤ) (a b : ℕ) → less x y a b ≡ false → (y <ℤ x) ⊎ ((y ≡ x) × (b ≤ a))
-less-no x y a b h = by (int_lt x y) refl (int_lt y x) refl h
-  where
-    by : (s : Bool) → int_lt x y ≡ s → (t : Bool) → int_lt y x ≡ t → is_lt (ordering_then (cond s Less (cond t Greater Equal)) (nat_cmp a b)) ≡ false → (y <ℤ x) ⊎ ((y ≡ x) × (b ≤ a))
-    by true e t f k = absurd (cc)
-    by false e true f k = inl (omega (arith, ints))
-    by false e false f k = inr (omega (arith, ints), number-no a b k)
+less-no x y a b h = grind (arith, ints, nat_tests)
 
 pub not_less : (x y : ℤ) (a b : ℕ) → (y <ℤ x) ⊎ ((y ≡ x) × (b ≤ a)) → less x y a b ≡ false
-not_less x y a b h = by (int_lt x y) refl (int_lt y x) refl h
-  where
-    by : (s : Bool) → int_lt x y ≡ s → (t : Bool) → int_lt y x ≡ t → (y <ℤ x) ⊎ ((y ≡ x) × (b ≤ a)) → is_lt (ordering_then (cond s Less (cond t Greater Equal)) (nat_cmp a b)) ≡ false
-    by true e t f (inl k) = absurd (omega (arith, ints))
-    by true e t f (inr k) = absurd (omega (arith, ints, k.0))
-    by false e true f k = refl
-    by false e false f (inl k) = absurd (omega (arith, ints))
-    by false e false f (inr k) = not_number a b k.1
+not_less x y a b h = grind (arith, ints, nat_tests)
 
 pub less-yes : (x y : ℤ) (a b : ℕ) → less x y a b ≡ true → (x <ℤ y) ⊎ ((x ≡ y) × (a < b))
-less-yes x y a b h = by (int_lt x y) refl (int_lt y x) refl h
-  where
-    by : (s : Bool) → int_lt x y ≡ s → (t : Bool) → int_lt y x ≡ t → is_lt (ordering_then (cond s Less (cond t Greater Equal)) (nat_cmp a b)) ≡ true → (x <ℤ y) ⊎ ((x ≡ y) × (a < b))
-    by true e t f k = inl (omega (arith, ints))
-    by false e true f k = absurd (cc)
-    by false e false f k = inr (omega (arith, ints), number-yes a b k)
+less-yes x y a b h = grind (arith, ints, nat_tests)
 
 joined : (x y z : ℤ) (a b c : ℕ) → (y <ℤ x) ⊎ ((y ≡ x) × (b ≤ a)) → (z <ℤ y) ⊎ ((z ≡ y) × (c ≤ b)) → (z <ℤ x) ⊎ ((z ≡ x) × (c ≤ a))
-joined x y z a b c (inl h) (inl k) = inl (omega (arith, ints))
-joined x y z a b c (inl h) (inr k) = inl (subst (λ v. v <ℤ x) (sym k.0) h)
-joined x y z a b c (inr h) (inl k) = inl (subst (λ v. z <ℤ v) h.0 k)
-joined x y z a b c (inr h) (inr k) = inr (k.0 ∙ h.0, omega (arith, h.1, k.1))
+joined x y z a b c h k = grind (arith, ints)
 
 module _ {X : Type 0} (date : X → ℤ) (number : X → ℕ) where
   abbrev pub date_less : X → X → Bool
@@ -83,7 +61,4 @@ module _ {X : Type 0} (date : X → ℤ) (number : X → ℕ) where
 
 -- jobs by date do not fall in it, however ties are broken
 pub dates_rise : (Tie : ℕ → ℕ → Type 0) (due : ℕ → ℤ) (jobs : List ℕ) → AllPairs (λ a b. (due a <ℤ due b) ⊎ ((due a ≡ due b) × Tie a b)) jobs → AllPairs (λ a b. due a ≤ℤ due b) jobs
-dates_rise Tie due jobs h a b d l k = at_most (get_or jobs a d) (get_or jobs b d) (h a b d l k)
-  where
-    at_most : (x y : ℕ) → (due x <ℤ due y) ⊎ ((due x ≡ due y) × Tie x y) → due x ≤ℤ due y
-    at_most x y g = elim g [ inl l ↦ <ℤ_weak l | inr e ↦ ≤ℤ_of_same e.0 ]
+dates_rise Tie due jobs h a b d l k = elim (h a b d l k) [ inl less ↦ <ℤ_weak less | inr e ↦ ≤ℤ_of_same e.0 ]

@@ -1,10 +1,10 @@
 -- Pieces of time [from, to) on machines: how much of an interval they fill.
-use Rattle.std.proofs.Common.{◌≡◌, ℕ, zero, suc, ◌+◌, ◌*◌, ◌-◌, ◌≤◌, ◌<◌, min, max, Bool, true, false, cond, eqb, leb, ◌≢◌, List, [], ◌∷◌, length, get_or, All, AllPairs}
-use Rattle.std.proofs.Common.{Contains, filter, sum_by, le_trans, arith, refl, sym, ap, subst, ◌∙◌}
+use Rattle.std.proofs.Common.{◌≡◌, ℕ, zero, suc, ◌+◌, ◌*◌, ◌-◌, ◌≤◌, ◌<◌, min, max, Bool, true, false, cond, eqb, leb, List, [], ◌∷◌, length, get_or, All, AllPairs}
+use Rattle.std.proofs.Common.{Contains, filter, sum_by, le_trans, arith, refl, sym, ap, subst, ◌∙◌, inl, inr}
 use Rattle.std.proofs.lemmas.List.Sums.{sum_by-cons}
 use Rattle.std.proofs.lemmas.List.Elements.{All-filter, filter_passes, All-nil, All-cons, All-head, All-tail, All-contains, Contains-get_or}
 use Rattle.std.proofs.lemmas.List.Kept.{AllPairs-filter}
-use Rattle.std.proofs.lemmas.Bool.{eqb-true, leb-true, leb-false, eqb-false, eq-eqb}
+use Rattle.std.proofs.lemmas.Bool.{eqb-true, leb-true, leb-false, eq-eqb, cases_lt}
 use Rattle.msp_class.specs.Sums.{total_below}
 use Rattle.msp_class.proofs.Sums.{sum_by-mono, sum_by-same, sum_by-add, sum_by-filter, sum_by-by_key_filter, sum_by-by_key_test, total_below-some, cond-yes, total_below-bound}
 use Rattle.msp_class.proofs.Sums.{AllPairs-head, AllPairs-tail, Contains-filter, Contains-from_filter, sum_by-some}
@@ -47,14 +47,9 @@ packing {X} from to a b (x ∷ xs) h = by (leb (from x) (to x)) refl (packing fr
         let most = fills (from x) (to x) a b _ _ (leb-true (from x) (to x) e) before after in
         let head = sum_by-cons (overlap_of from to a b) x xs in
         let both = sum_by-add (overlap_of from to a (min b (from x))) (overlap_of from to (max a (to x)) b) xs in
-        along (overlap (from x) (to x) a b) _ _ _ _ _ _ head parts both most
-      where
-        along : (o s t u v w m : ℕ) → s ≡ o + t → t ≤ u → u ≡ v + w → o + (v + w) ≤ m → s ≤ m
-        along o s t u v w m e h f k = omega arith
-    by false e whole before after = le_of_same (sum_by-cons (overlap_of from to a b) x xs) (omega (arith, leb-false (from x) (to x) e))
-      where
-        le_of_same : {m n k : ℕ} → m ≡ n → n ≤ k → m ≤ k
-        le_of_same {m} {n} {k} e h = omega arith
+        omega (arith, head, parts, both, most)
+    by false e whole before after =
+        subst (λ n. n ≤ b - a) (sym (sum_by-cons (overlap_of from to a b) x xs)) (omega (arith, leb-false (from x) (to x) e))
 
 -- pieces that are apart and inside [a, b) last no longer than it
 pub packed : {X : Type 0} (from to : X → ℕ) (a b : ℕ) (xs : List X) → AllPairs (IsApart from to) xs → All (λ q. (a ≤ from q) × (to q ≤ b)) xs → sum_by (size_of from to) xs ≤ b - a
@@ -81,7 +76,9 @@ pub room : {X : Type 0} (job machine from to : X → ℕ) (test : ℕ → Bool) 
     → All (λ q. test (job q) ≡ true → (a ≤ from q) × (to q ≤ b)) xs
     → total_below n (λ j. cond (test j) (work_of job from to xs j) 0) ≤ m * (b - a)
 room {X} job machine from to test m n a b xs jobs machines apart inside =
-    le_by (work_by_job job from to test n xs jobs) (sum_by-by_key_filter machine (size_of from to) m chosen (All-filter passes (λ q. machine q < m) xs machines))
+    subst (λ z. z ≤ m * (b - a))
+    (sym (sum_by-by_key_filter machine (size_of from to) m chosen (All-filter passes (λ q. machine q < m) xs machines))
+    ∙ work_by_job job from to test n xs jobs)
     (total_below-bound m (b - a) (λ μ. sum_by (size_of from to) (filter (λ q. eqb (machine q) μ) chosen)) (λ μ l. packed from to a b
     _ (apart_on_each machine from to μ chosen (AllPairs-filter (IsApartOn machine from to) passes xs apart)) (All-filter (λ q. eqb (machine q) μ) (λ q. (a ≤ from q) × (to q ≤ b)) chosen within)))
   where
@@ -93,9 +90,6 @@ room {X} job machine from to test m n a b xs jobs machines apart inside =
 
     within : All (λ q. (a ≤ from q) × (to q ≤ b)) chosen
     within k d l = All-filter passes (λ q. test (job q) ≡ true → (a ≤ from q) × (to q ≤ b)) xs inside k d l (filter_passes passes xs k d l)
-
-    le_by : {s t u v : ℕ} → s ≡ t → s ≡ u → u ≤ v → t ≤ v
-    le_by {s} {t} {u} {v} e f h = omega arith
 
 -- the same on one machine
 pub room_on_one : {X : Type 0} (job from to : X → ℕ) (test : ℕ → Bool) (n a b : ℕ) (xs : List X)
@@ -132,11 +126,10 @@ greatest_by-least f b (x ∷ xs) h = omega (arith, All-head (λ y. f y ≤ b) x 
 pub greatest_by-reached : {X : Type 0} (f : X → ℕ) (xs : List X) → 0 < length xs → (x : X) × Contains xs x × (f x ≡ greatest_by f xs)
 greatest_by-reached f [] h = absurd (omega arith)
 greatest_by-reached {X} f (x ∷ []) h = (x, (0, omega arith, refl), omega arith)
-greatest_by-reached {X} f (x ∷ y ∷ ys) h = by (leb (greatest_by f (y ∷ ys)) (f x)) refl (greatest_by-reached f (y ∷ ys) (omega arith))
-  where
-    by : (b : Bool) → leb (greatest_by f (y ∷ ys)) (f x) ≡ b → (z : X) × Contains (y ∷ ys) z × (f z ≡ greatest_by f (y ∷ ys)) → (z : X) × Contains (x ∷ y ∷ ys) z × (f z ≡ greatest_by f (x ∷ y ∷ ys))
-    by true e later = (x, (0, omega arith, refl), omega (arith, leb-true _ _ e))
-    by false e later = let (z, c, p) = later in (z, (suc c.0, omega (arith, c.1), c.2), p ∙ omega (arith, leb-false _ _ e))
+greatest_by-reached {X} f (x ∷ y ∷ ys) h = elim (cases_lt (f x) (greatest_by f (y ∷ ys))) [
+  | inl less ↦ let (z, c, p) = greatest_by-reached f (y ∷ ys) (omega arith) in (z, (suc c.0, omega (arith, c.1), c.2), p ∙ omega (arith, less))
+  | inr most ↦ (x, (0, omega arith, refl), omega (arith, most))
+]
 
 -- the moment by which job j is complete: the greatest end of its pieces
 abbrev pub last_of : {X : Type 0} → (X → ℕ) → (X → ℕ) → List X → ℕ → ℕ
@@ -144,10 +137,9 @@ last_of job to xs j = greatest_by to (filter (λ q. eqb (job q) j) xs)
 
 pub last_of-bound : {X : Type 0} (job to : X → ℕ) (xs : List X) → All (λ q. to q ≤ last_of job to xs (job q)) xs
 last_of-bound {X} job to xs k d l =
-    greatest_by-contains to (filter mine xs) (get_or xs k d) (Contains-filter mine xs (get_or xs k d) (Contains-get_or xs k d l) (eq-eqb (job (get_or xs k d)) (job (get_or xs k d)) refl))
-  where
-    mine : X → Bool
-    mine q = eqb (job q) (job (get_or xs k d))
+    let mine = λ (q : X). eqb (job q) (job (get_or xs k d)) in
+    let q = get_or xs k d in
+    greatest_by-contains to (filter mine xs) q (Contains-filter mine xs q (Contains-get_or xs k d l) (eq-eqb (job q) (job q) refl))
 
 -- whatever bounds the ends of j's pieces, and is reached or below all such bounds, is this moment
 pub last_of-least : {X : Type 0} (job to : X → ℕ) (xs : List X) (j b : ℕ) → All (λ q. job q ≡ j → to q ≤ b) xs → last_of job to xs j ≤ b
@@ -156,23 +148,19 @@ last_of-least job to xs j b h = greatest_by-least to b _ (λ k d l. All-filter _
 -- a job with work has a piece that ends there
 pub last_of-reached : {X : Type 0} (job from to : X → ℕ) (xs : List X) (j : ℕ) → 0 < work_of job from to xs j → (q : X) × Contains xs q × (job q ≡ j) × (to q ≡ last_of job to xs j)
 last_of-reached {X} job from to xs j h =
+    let mine = λ (q : X). eqb (job q) j in
     let (x, c, p) = sum_by-some (size_of from to) (filter mine xs) h in
     let (q, d, e) = greatest_by-reached to (filter mine xs) (omega (arith, c.1)) in
     let (i, m) = Contains-from_filter mine xs q d in
     (q, i, eqb-true (job q) j m, e)
-  where
-    mine : X → Bool
-    mine q = eqb (job q) j
 
 -- a job with work has a piece
 pub piece_of : {X : Type 0} (job from to : X → ℕ) (xs : List X) (j : ℕ) → 0 < work_of job from to xs j → (q : X) × Contains xs q × (job q ≡ j) × (from q < to q)
 piece_of {X} job from to xs j h =
+    let mine = λ (q : X). eqb (job q) j in
     let (q, c, p) = sum_by-some (size_of from to) (filter mine xs) h in
     let (i, m) = Contains-from_filter mine xs q c in
     (q, i, eqb-true (job q) j m, omega arith)
-  where
-    mine : X → Bool
-    mine q = eqb (job q) j
 
 -- ---- the greatest of the values below n
 abbrev pub greatest_below : ℕ → (ℕ → ℕ) → ℕ
@@ -181,21 +169,15 @@ greatest_below (suc n) f = max (greatest_below n f) (f n)
 
 pub greatest_below-bound : (n : ℕ) (f : ℕ → ℕ) (i : ℕ) → i < n → f i ≤ greatest_below n f
 greatest_below-bound zero f i l = absurd (omega arith)
-greatest_below-bound (suc n) f i l = by (eqb i n) refl (greatest_below-bound n f i)
-  where
-    by : (b : Bool) → eqb i n ≡ b → (i < n → f i ≤ greatest_below n f) → f i ≤ max (greatest_below n f) (f n)
-    by true e later = omega (arith, ap f (eqb-true i n e))
-    by false e later = let ne : i ≢ n = eqb-false i n e in omega (arith, later (omega arith))
+greatest_below-bound (suc n) f i l = grind (arith, greatest_below-bound n f i)
 
 pub greatest_below-reached : (n : ℕ) (f : ℕ → ℕ) → 0 < n → (i : ℕ) × (i < n) × (f i ≡ greatest_below n f)
 greatest_below-reached zero f h = absurd (omega arith)
 greatest_below-reached (suc zero) f h = (0, omega arith, omega arith)
-greatest_below-reached (suc (suc n)) f h = by (leb (greatest_below (suc n) f) (f (suc n))) refl (greatest_below-reached (suc n) f (omega arith))
-  where
-    by : (b : Bool) → leb (greatest_below (suc n) f) (f (suc n)) ≡ b
-        → (i : ℕ) × (i < suc n) × (f i ≡ greatest_below (suc n) f) → (i : ℕ) × (i < suc (suc n)) × (f i ≡ max (greatest_below (suc n) f) (f (suc n)))
-    by true e later = (suc n, omega arith, omega (arith, leb-true _ _ e))
-    by false e later = let (i, l, s) = later in (i, omega arith, s ∙ omega (arith, leb-false _ _ e))
+greatest_below-reached (suc (suc n)) f h = elim (cases_lt (f (suc n)) (greatest_below (suc n) f)) [
+  | inl less ↦ let (i, l, s) = greatest_below-reached (suc n) f (omega arith) in (i, omega arith, s ∙ omega (arith, less))
+  | inr most ↦ (suc n, omega arith, omega (arith, most))
+]
 
 -- ---- the law of ends
 -- where no piece of the jobs that pass a test begins before a, and they have work: one of them ends last, after a, and the work is at most m times as long as from a to there
@@ -227,11 +209,10 @@ law_of_ends {X} job machine from to test last m n a xs jobs machines apart begin
         (λ k d l p. (begin k d l p, omega (arith, ends k d l, greatest_below-bound n ended (job (get_or xs k d)) (jobs k d l), cond-yes (last (job (get_or xs k d))) p)))
 
     after : a < most
-    after = by (leb most a) refl
-      where
-        by : (b : Bool) → leb most a ≡ b → a < most
-        by true e = let none : most - a ≡ 0 = omega (arith, leb-true most a e) in absurd (omega (arith, some, bound, ap (λ x. m * x) none))
-        by false e = leb-false most a e
+    after = elim (cases_lt a most) [
+      | inl less ↦ less
+      | inr past ↦ let none : most - a ≡ 0 = omega (arith, past) in absurd (omega (arith, some, bound, ap (λ x. m * x) none))
+    ]
 
     passed : (b : Bool) (z : ℕ) → cond b z 0 ≡ most → (b ≡ true) × (z ≡ most)
     passed true z f = (refl, f)

@@ -84,9 +84,7 @@ module _ {X : Type 0} (p : X → Bool) where
     where
       by : (b c : Bool) (l : List X) → IsPermutation (cond b (x ∷ cond c (y ∷ l) l) (cond c (y ∷ l) l)) (cond c (y ∷ cond b (x ∷ l) l) (cond b (x ∷ l) l))
       by true true l = IsPermutation-swap (x ∷ y ∷ l) (y ∷ x ∷ l) 0 1 (omega arith) (omega arith) refl
-      by true false l = IsPermutation-refl (x ∷ l)
-      by false true l = IsPermutation-refl (y ∷ l)
-      by false false l = IsPermutation-refl l
+      by _ _ l = IsPermutation-refl _
 
   pub filter-permutation : (xs ys : List X) → IsPermutation xs ys → IsPermutation (filter p xs) (filter p ys)
   filter-permutation xs ys h = permuted Filtered (λ l. IsPermutation-refl (filter p l)) (λ a b c s t. IsPermutation-trans _ _ _ s t) filtered_more filtered_exchange xs ys h
@@ -108,11 +106,8 @@ one_left x (y ∷ z ∷ zs) h = absurd (omega (arith, length_permutation (x ∷ 
 add_commutes : (a x y : ℤ) → (a +ℤ x) +ℤ y ≡ (a +ℤ y) +ℤ x
 add_commutes a x y = omega (arith, ints)
 
-greater_commutes : (a x y : ℤ) → int_max (int_max a x) y ≡ int_max (int_max a y) x
-greater_commutes a x y = grind (arith, ints)
-
 pub last_end-permutation : (ps qs : List Piece) → IsPermutation ps qs → (j : ℕ) → last_end ps j ≡ last_end qs j
-last_end-permutation ps qs h j = fold-permutation int_max greater_commutes
+last_end-permutation ps qs h j = fold-permutation int_max (λ a x y. grind (arith, ints))
     (λ p. p.to) (filter (λ p. p.job == j) ps) (filter (λ p. p.job == j) qs) (filter-permutation (λ p. p.job == j) ps qs h) (pos 0)
 
 pub twice : (R : Piece → Piece → Type 0) (ps qs : List Piece) → IsPermutation ps qs → All (λ p. All (R p) ps) ps → All (λ p. All (R p) qs) qs

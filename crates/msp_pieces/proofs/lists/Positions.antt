@@ -1,8 +1,8 @@
 -- Jobs on machines, each in one piece: how many ends the time of each job counts in, and what that says of the sum of all ends.
-use Rattle.std.proofs.Common.{◌≡◌, ℕ, zero, suc, ◌+◌, ◌*◌, ◌-◌, ◌≤◌, ◌<◌, Bool, true, false, cond, eqb, leb, ◌≢◌, inl, inr, List, get_or, All, AllPairs, filter, arith, refl, sym, ap, subst, ◌∙◌}
+use Rattle.std.proofs.Common.{◌≡◌, ℕ, zero, suc, ◌+◌, ◌*◌, ◌-◌, ◌≤◌, ◌<◌, Bool, true, false, cond, eqb, leb, ◌≢◌, inl, inr, List, get_or, All, AllPairs, filter, arith, refl, sym, subst, ◌∙◌}
 use Rattle.std.specs.Prelude.{◌&&◌}
 use Rattle.std.specs.List.{range_with_len}
-use Rattle.std.proofs.lemmas.Bool.{eqb-true, eqb-false, eq-eqb, leb-true, leb-false, le-leb}
+use Rattle.std.proofs.lemmas.Bool.{eqb-true, eq-eqb, leb-true, le-leb, cases_eq, cases_Bool, and_from, false_from_ne_true}
 use Rattle.std.proofs.lemmas.List.Elements.{filter_passes}
 use Rattle.std.proofs.lemmas.List.Kept.{AllPairs-filter}
 use Rattle.std.proofs.lemmas.List.FromFn.{length-range_with_len, get_or-range_with_len}
@@ -13,33 +13,25 @@ use Rattle.msp_class.proofs.Sums.{total_below-term, total_below-tight, total_bel
 use Rattle.msp_pieces.specs.Intervals.{IsApart, IsApartOn, size_of}
 use Rattle.msp_pieces.proofs.lists.Intervals.{apart_from_one, packed}
 use Rattle.msp_pieces.proofs.feasible.OneMachine.{both_true}
+use Rattle.std.proofs.lemmas.Bool.Decides.{nat_tests}
 
 -- ---- totals
 abbrev one_if : Bool → ℕ
 one_if b = cond b 1 0
 
 pub total_below-strict : (n : ℕ) (f g : ℕ → ℕ) (k : ℕ) → k < n → ((i : ℕ) → i < n → f i ≤ g i) → f k < g k → total_below n f < total_below n g
-total_below-strict n f g k l h s = by (leb (total_below n g) (total_below n f)) refl
-  where
-    by : (b : Bool) → leb (total_below n g) (total_below n f) ≡ b → total_below n f < total_below n g
-    by true e = absurd (omega (arith, s, total_below-tight n f g h (leb-true _ _ e) k l))
-    by false e = leb-false _ _ e
+total_below-strict n f g k l h s = grind (arith, total_below-tight n f g h)
 
 -- where at most one number passes the test, at most one is counted
 pub count_at_most_one : (n : ℕ) (test : ℕ → Bool) → ((a b : ℕ) → a < n → b < n → test a ≡ true → test b ≡ true → a ≡ b) → total_below n (λ a. cond (test a) 1 0) ≤ 1
 count_at_most_one zero test h = omega arith
-count_at_most_one (suc n) test h = by (test n) refl (count_at_most_one n test (λ a b l m. h a b (omega arith) (omega arith)))
-  where
-    none : test n ≡ true → (a : ℕ) → a < n → (b : Bool) → test a ≡ b → one_if (test a) ≡ 0
-    none e a l true f = absurd (omega (arith, h a n (omega arith) (omega arith) f e))
-    none e a l false f = cond-no 1 f
-
-    by : (b : Bool) → test n ≡ b → total_below n (λ a. cond (test a) 1 0) ≤ 1 → total_below n (λ a. cond (test a) 1 0) + cond (test n) 1 0 ≤ 1
-    by true e k = omega (arith, cond-yes 1 e, total_below-none n (λ a. cond (test a) 1 0) (λ a l. none e a l (test a) refl))
-    by false e k = omega (arith, cond-no 1 e, k)
-
-both_hold : {a b : Bool} → a ≡ true → b ≡ true → (a && b) ≡ true
-both_hold {a} {b} e f = ap (λ c. c && b) e ∙ f
+count_at_most_one (suc n) test h = elim (cases_Bool (test n)) [
+  | inl e ↦
+      let none = total_below-none n (λ a. cond (test a) 1 0)
+      (λ a l. cond-no 1 (false_from_ne_true (test a) (λ f. omega (arith, h a n (omega arith) (omega arith) f e)))) in
+      omega (arith, cond-yes 1 e, none)
+  | inr e ↦ omega (arith, cond-no 1 e, count_at_most_one n test (λ a b l m. h a b (omega arith) (omega arith)))
+]
 
 -- what pairs without repeats sum to is at most the sum over all pairs
 pub distinct_pairs : (n rows columns : ℕ) (x y : ℕ → ℕ) (f : ℕ → ℕ → ℕ) → ((a : ℕ) → a < n → (x a < rows) × (y a < columns)) → ((a b : ℕ) → a < n → b < n → x a ≡ x b → y a ≡ y b → a ≡ b)
@@ -91,7 +83,7 @@ module _ (n : ℕ) (machine finish : ℕ → ℕ) where
   position_of a = total_below n (λ b. cond (holds_up a b) 1 0)
 
   holds_up_itself : (a : ℕ) → holds_up a a ≡ true
-  holds_up_itself a = both_hold (eq-eqb (machine a) (machine a) refl) (le-leb (finish a) (finish a) (omega arith))
+  holds_up_itself a = and_from _ _ (eq-eqb (machine a) (machine a) refl) (le-leb (finish a) (finish a) (omega arith))
 
   pub position_of-some : (a : ℕ) → a < n → 1 ≤ position_of a
   position_of-some a l = omega (arith, total_below-term n (λ b. cond (holds_up a b) 1 0) a l, cond-yes 1 (holds_up_itself a))
@@ -103,32 +95,20 @@ module _ (n : ℕ) (machine finish : ℕ → ℕ) where
     -- of two jobs on a machine, the earlier has the greater position
     earlier : (a b : ℕ) → a < n → b < n → machine a ≡ machine b → finish a < finish b → position_of b < position_of a
     earlier a b l h on before = total_below-strict n (λ c. cond (holds_up b c) 1 0)
-        (λ c. cond (holds_up a c) 1 0) a l (λ c m. more c (holds_up b c) refl) (omega (arith, cond-yes 1 (holds_up_itself a), not_before (holds_up b a) refl))
+        (λ c. cond (holds_up a c) 1 0) a l (λ c m. grind (arith, nat_tests)) (omega (arith, cond-yes 1 (holds_up_itself a), not_before))
       where
-        more : (c : ℕ) (t : Bool) → holds_up b c ≡ t → cond (holds_up b c) 1 0 ≤ cond (holds_up a c) 1 0
-        more c true e =
-            let p = both_true (eqb (machine b) (machine c)) (leb (finish b) (finish c)) e in
-            omega (
-              arith,
-              cond-yes 1 e,
-              cond-yes 1 (both_hold (eq-eqb (machine a) (machine c) (on ∙ eqb-true _ _ p.0)) (le-leb (finish a) (finish c) (omega (arith, leb-true (finish b) (finish c) p.1)))),
-            )
-        more c false e = omega (arith, cond-no 1 e)
-
-        not_before : (t : Bool) → holds_up b a ≡ t → one_if (holds_up b a) ≡ 0
-        not_before true e = absurd (omega (arith, leb-true (finish b) (finish a) (both_true (eqb (machine b) (machine a)) (leb (finish b) (finish a)) e).1))
-        not_before false e = cond-no 1 e
+        not_before : one_if (holds_up b a) ≡ 0
+        not_before = grind (arith, nat_tests)
 
     -- no two jobs have one position on one machine
     pub position_of-once : (a b : ℕ) → a < n → b < n → machine a ≡ machine b → position_of a ≡ position_of b → a ≡ b
-    position_of-once a b l h on same = by (eqb a b) refl
-      where
-        by : (t : Bool) → eqb a b ≡ t → a ≡ b
-        by true e = eqb-true a b e
-        by false e = elim (apart a b l h (eqb-false a b e) on) [
-          | inl k ↦ absurd (omega (arith, same, earlier a b l h on (omega (arith, lasts b h))))
-          | inr k ↦ absurd (omega (arith, same, earlier b a h l (sym on) (omega (arith, lasts a l))))
-        ]
+    position_of-once a b l h on same = elim (cases_eq a b) [
+      | inl e ↦ e
+      | inr ne ↦ elim (apart a b l h ne on) [
+        | inl k ↦ absurd (omega (arith, same, earlier a b l h on (omega (arith, lasts b h))))
+        | inr k ↦ absurd (omega (arith, same, earlier b a h l (sym on) (omega (arith, lasts a l))))
+      ]
+    ]
 
     -- a job ends no sooner than the time of all that end on its machine by then
     pub ends_after : (b : ℕ) → b < n → total_below n (λ a. cond (holds_up a b) (finish a - start a) 0) ≤ finish b

@@ -1,9 +1,9 @@
 -- Jobs back to back, each begun when the one before it ends: the weighted sum of their ends, and orders that no packing of pieces beats.
-use Rattle.std.proofs.Common.{◌≡◌, ℕ, ◌+◌, ◌*◌, ◌-◌, ◌≤◌, ◌<◌, Bool, true, false, cond, leb, List, [], ◌∷◌, ◌++◌, get_or, All, AllPairs, sum_by, IsPermutation}
-use Rattle.std.proofs.Common.{le_trans, arith, refl, sym, ap, subst, ◌∙◌}
+use Rattle.std.proofs.Common.{◌≡◌, ℕ, ◌+◌, ◌*◌, ◌≤◌, ◌<◌, cond, leb, List, [], ◌∷◌, ◌++◌, get_or, All, AllPairs, sum_by, IsPermutation}
+use Rattle.std.proofs.Common.{le_trans, arith, sym, ap, subst, ◌∙◌}
 use Rattle.std.specs.List.{range_with_len}
 use Rattle.std.proofs.lemmas.List.Sums.{sum_by-cons}
-use Rattle.std.proofs.lemmas.Bool.{leb-false, le-leb, false≢true}
+use Rattle.std.proofs.lemmas.Bool.{le-leb}
 use native.Mathlib.Nat.{mul-le-mul_left}
 use Rattle.msp_class.specs.Sums.{total_below}
 use Rattle.msp_class.proofs.Sums.{sum_by-mono, sum_by-agree, sum_by-add, sum_by-scale, sum_by-scale_right, sum_by-OnceBelow, total_below-same, total_below-scale, cond-scale}
@@ -11,6 +11,7 @@ use Rattle.msp_class.proofs.Sums.{cond-yes, OnceBelow, OnceBelow-from_permutatio
 use Rattle.msp_pieces.specs.Intervals.{IsApart, work_of}
 use Rattle.msp_pieces.proofs.lists.Intervals.{earlier_ends, last_of, last_of-bound}
 use Rattle.msp_pieces.specs.BackToBack.{weighted_ends}
+use Rattle.std.proofs.lemmas.Bool.Decides.{nat_tests}
 
 -- how long the jobs of xs take that end no later than j, where job i ends at c i
 abbrev pub done_by : {X : Type 0} → (X → ℕ) → (X → ℕ) → List X → X → ℕ
@@ -43,12 +44,7 @@ module _ {X : Type 0} (p w : X → ℕ) where
   SmithBefore a i = w i * p a ≤ w a * p i
 
   pub Covers-from_smith : (c : X → ℕ) (a i : X) → SmithBefore a i → Covers c a i
-  Covers-from_smith c a i h = by (w i) (w a) (p i) (p a) (leb (c a) (c i)) (leb (c i) (c a)) h (λ e. le-leb (c i) (c a) (omega (arith, leb-false (c a) (c i) e)))
-    where
-      by : (v u q r : ℕ) (b d : Bool) → v * r ≤ u * q → (b ≡ false → d ≡ true) → v * r ≤ u * cond d q 0 + v * cond b r 0
-      by v u q r true d h k = omega arith
-      by v u q r false true h k = omega arith
-      by v u q r false false h k = absurd (false≢true (k refl))
+  Covers-from_smith c a i h = grind (arith, nat_tests)
 
   done_by-cons : (c : X → ℕ) (a : X) (xs : List X) (j : X) → done_by p c (a ∷ xs) j ≡ cond (leb (c a) (c j)) (p a) 0 + done_by p c xs j
   done_by-cons c a xs j = sum_by-cons (λ i. cond (leb (c i) (c j)) (p i) 0) a xs

@@ -6,7 +6,7 @@ use Rattle.std.proofs.lemmas.Bool.{cases_Bool}
 use Rattle.std.proofs.lemmas.Int.{ints}
 use Rattle.msp_class.proofs.IntegerRing.{+ℤ_idr}
 use Rattle.msp_instance.specs.Conditions.{LiesWithin}
-use Rattle.std.proofs.lemmas.List.{map-append, take_more, take-append-drop}
+use Rattle.std.proofs.lemmas.List.{append-nil, map-append, take_more, take-append-drop}
 use Rattle.std.proofs.lemmas.List.Sums.{fold-append}
 use Rattle.std.proofs.lemmas.List.Elements.{filter-append}
 use Rattle.msp_pieces.specs.declared.Piece.{Piece}
@@ -28,19 +28,10 @@ abbrev pub listed : Option Piece → List Piece
 listed None = []
 listed (Some p) = p ∷ []
 
-pub listed-next : (xs : List Piece) (k j o : ℕ) (p d : Piece)
-    → k < length xs → p ≡ get_or xs k d → is_among j o p ≡ true → pieces_among (take k xs) j o ≡ [] → pieces_among (take (k + 1) xs) j o ≡ p ∷ []
-listed-next xs k j o p d h is hit none = among-more xs k j o d h ∙ ap (λ l. l ++ cond (is_among j o (get_or xs k d)) (get_or xs k d ∷ []) []) none
-    ∙ ap (λ q. cond (is_among j o q) (q ∷ []) []) (sym is) ∙ ap (λ b. cond b (p ∷ []) []) hit
-
 pub listed-same : (xs : List Piece) (k j o : ℕ) (p d : Piece) (l : List Piece)
     → k < length xs → p ≡ get_or xs k d → is_among j o p ≡ false → pieces_among (take k xs) j o ≡ l → pieces_among (take (k + 1) xs) j o ≡ l
 listed-same xs k j o p d l h is miss so_far = among-more xs k j o d h ∙ ap (λ q. pieces_among (take k xs) j o ++ cond (is_among j o q) (q ∷ []) []) (sym is)
-    ∙ ap (λ b. pieces_among (take k xs) j o ++ cond b (p ∷ []) []) miss ∙ append_none (pieces_among (take k xs) j o) ∙ so_far
-  where
-    append_none : (l : List Piece) → l ++ [] ≡ l
-    append_none [] = refl
-    append_none (x ∷ l) = ap (λ m. x ∷ m) (append_none l)
+    ∙ ap (λ b. pieces_among (take k xs) j o ++ cond b (p ∷ []) []) miss ∙ append-nil (pieces_among (take k xs) j o) ∙ so_far
 
 -- two pieces of the operation are not one
 pub never_one : (xs : List Piece) (k j o : ℕ) (p q d r : Piece) → k < length xs → p ≡ get_or xs k d → is_among j o p ≡ true → pieces_among (take k xs) j o ≡ q ∷ [] → ¬ (pieces_among xs j o ≡ r ∷ [])

@@ -2,17 +2,18 @@
 use Rattle.std.proofs.Common.{◌≡◌, ◌≢◌, ℕ, ◌+◌, ◌<◌, Bool, List, [], length, get_or, take, set, All, ℤ, pos, ◌≤ℤ◌, sym, ap, subst, ◌∙◌, arith, inl, inr}
 use Rattle.std.specs.Prelude.{◌==◌, slice_index_or, IsTrue, ◌↔◌}
 use Rattle.std.specs.Int.{int_min}
-use Rattle.std.proofs.lemmas.Bool.{cases_Bool, cases_lt, eqb-true, eqb-false}
+use Rattle.std.proofs.lemmas.Bool.{cases_Bool, eqb-true, eqb-false}
 use Rattle.std.proofs.lemmas.List.{length-take, get_or-take, get_or-set_other}
 use Rattle.std.proofs.lemmas.List.Elements.{All-nil, All-more}
 use Rattle.std.proofs.lemmas.Grind.{get_or-set_at}
 use Rattle.std.proofs.lemmas.Int.{ints, clamps}
 use Rattle.msp_instance.specs.declared.Arc.{Arc}
+use Rattle.msp_class.proofs.IntegerRing.{≤ℤ_trans}
 use Rattle.msp_class.specs.declared.sizes.TheConstants.{MOST_JOBS}
 use Rattle.msp_pieces.specs.declared.Piece.{Piece}
 use Rattle.msp_pieces.specs.declared.limits.TheConstants.{GREATEST_MOMENT}
 use Rattle.msp_schedule.specs.Begins.{IsBegin, AreBegins}
-use Rattle.msp_schedule.specs.Breaks.{KeepsArc, no_arc}
+use Rattle.msp_schedule.specs.Breaks.{KeepsArc}
 use Rattle.msp_pieces.specs.Cost.{last_end}
 use Rattle.msp_pieces.specs.Within.{IsMoment}
 use Rattle.msp_pieces.proofs.feasible.LastEnds.{last_end-bound, last_end-least}
@@ -68,10 +69,7 @@ AreBegins-next begins new xs k p d h is inside small e so_far j t = elim (cases_
 -- an arc is kept where the last end before is no later than the first beginning after
 pub arc_if : (xs : List Piece) (a : Arc) (x : ℤ) → IsBegin xs a.after x → last_end xs a.before ≤ℤ x → KeepsArc xs a
 arc_if xs a x begin h k d l m e n before after =
-    chain (get_or xs k d).to (last_end xs a.before) x (get_or xs m e).from (subst (λ j. (get_or xs k d).to ≤ℤ last_end xs j) before (last_end-bound xs k d l)) h (begin.bound m e n after)
-  where
-    chain : (a b c d : ℤ) → a ≤ℤ b → b ≤ℤ c → c ≤ℤ d → a ≤ℤ d
-    chain a b c d h k l = omega (arith, ints)
+    ≤ℤ_trans (subst (λ j. (get_or xs k d).to ≤ℤ last_end xs j) before (last_end-bound xs k d l)) (≤ℤ_trans h (begin.bound m e n after))
 
 pub arc_only_if : (xs : List Piece) (a : Arc) (x : ℤ)
     → All (λ p. IsMoment p.from × IsMoment p.to) xs → IsMoment (last_end xs a.before) → IsBegin xs a.after x → KeepsArc xs a → last_end xs a.before ≤ℤ x
@@ -86,10 +84,3 @@ arc_decided xs a ends begins result are ends_are small moments inside (to, from)
   λ h. from (subst (λ x. x ≤ℤ slice_index_or begins a.after (pos 0))
       (sym (ends_are a.before inside.0)) (arc_only_if xs a (slice_index_or begins a.after (pos 0)) moments (small a.before inside.0) (are a.after inside.1) h)),
 )
-
-pub arcs_more : (xs : List Piece) (arcs : List Arc) (n : ℕ) → KeepsArc xs (slice_index_or arcs n no_arc)
-    → ((k : ℕ) → k < n → KeepsArc xs (slice_index_or arcs k no_arc)) → (k : ℕ) → k < n + 1 → KeepsArc xs (slice_index_or arcs k no_arc)
-arcs_more xs arcs n h before k l = elim (cases_lt k n) [
-  | inl less ↦ before k less
-  | inr more ↦ subst (λ i. KeepsArc xs (slice_index_or arcs i no_arc)) (omega (arith, l, more)) h
-]

@@ -1,11 +1,12 @@
 -- Conditions that are kept are not broken, and the first one that is broken is named.
-use Rattle.std.proofs.Common.{◌≡◌, ℕ, zero, suc, ◌+◌, List, ◌<◌, ◌⊎◌, inl, inr, length, get_or, All, AllPairs, ℤ, pos, ◌*ℤ◌, ◌≤ℤ◌, ◌<ℤ◌, refl, sym, ap, subst, ◌∙◌, arith, Option, Some, None}
+use Rattle.std.proofs.Common.{◌≡◌, ℕ, zero, suc, ◌+◌, List, ◌<◌, ◌⊎◌, inl, inr, length, get_or, All, AllPairs, pos, ◌*ℤ◌, ◌≤ℤ◌, ◌<ℤ◌, refl, sym, ap, subst, ◌∙◌, arith, Option, Some, None}
 use Rattle.std.proofs.lemmas.Int.{ints}
 use Rattle.std.proofs.lemmas.Bool.{cases_lt}
 use Rattle.std.specs.Prelude.{IsNone, IfSome, ◌↔◌}
 use Rattle.msp_class.specs.declared.environments.EnvKind.{EnvKind}
 use Rattle.msp_class.specs.declared.environments.EnvKind.TheVariants.{FlowShop, JobShop}
 use Rattle.msp_class.specs.Env.{kind_of}
+use Rattle.msp_class.proofs.IntegerRing.{≤ℤ_of_same, <ℤ_weak}
 use Rattle.msp_instance.specs.declared.Instance.{Instance}
 use Rattle.msp_instance.specs.Instance.{job_at}
 use Rattle.msp_pieces.specs.declared.Piece.{Piece}
@@ -38,22 +39,20 @@ overlap_is_not_apart a b la lb order early (inr h) = omega (arith, ints, h, lb, 
 
 module _ (lane : Piece → ℕ) (xs : List Piece) (lasts : All (λ p. p.from <ℤ p.to) xs) (apart : AllPairs (λ p q. lane p ≡ lane q → IsApart p q) xs) where
   pub no_overlap : (k l : ℕ) → ¬ Overlaps lane xs k l
-  no_overlap k l o = overlap_is_not_apart (piece_at xs k) (piece_at xs l) (lasts k no_piece o.one) (lasts l no_piece o.other) (weak o.ahead) o.early pair
+  no_overlap k l o = overlap_is_not_apart (piece_at xs k) (piece_at xs l) (lasts k no_piece o.one) (lasts l no_piece o.other) weak o.early pair
     where
-      weak : ((piece_at xs k).from <ℤ (piece_at xs l).from) ⊎ (((piece_at xs k).from ≡ (piece_at xs l).from) × (k < l)) → (piece_at xs k).from ≤ℤ (piece_at xs l).from
-      weak (inl h) = omega (arith, ints, h)
-      weak (inr (e, h)) = omega (arith, ints, e)
+      weak : (piece_at xs k).from ≤ℤ (piece_at xs l).from
+      weak = elim o.ahead [ inl h ↦ <ℤ_weak h | inr (e, h) ↦ ≤ℤ_of_same e ]
 
       swap : (a b : Piece) → IsApart a b → IsApart b a
       swap a b (inl h) = inr h
       swap a b (inr h) = inl h
 
       self : k ≡ l → ⊥
-      self e = by (o.ahead)
-        where
-          by : ((piece_at xs k).from <ℤ (piece_at xs l).from) ⊎ (((piece_at xs k).from ≡ (piece_at xs l).from) × (k < l)) → ⊥
-          by (inl h) = let same : (piece_at xs k).from ≡ (piece_at xs l).from = ap (λ x. (piece_at xs x).from) e in omega (arith, ints, h, same)
-          by (inr (f, h)) = omega (arith, h, e)
+      self e = elim o.ahead [
+        | inl h ↦ let same : (piece_at xs k).from ≡ (piece_at xs l).from = ap (λ x. (piece_at xs x).from) e in omega (arith, ints, h, same)
+        | inr (f, h) ↦ omega (arith, h, e)
+      ]
 
       pair : IsApart (piece_at xs k) (piece_at xs l)
       pair = elim (cases_lt k l) [

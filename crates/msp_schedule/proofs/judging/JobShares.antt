@@ -1,14 +1,15 @@
 -- The pieces of one job among all pieces: what a search in sorted pieces finds, and what routes and work need of the others.
-use Rattle.std.proofs.Common.{◌≡◌, ℕ, not, ◌+◌, ◌<◌, ◌≤◌, Bool, true, false, cond, List, [], ◌∷◌, ◌++◌, length, get_or, take, drop, filter, map, All, Contains, Option, Some, None}
-use Rattle.std.proofs.Common.{ℤ, pos, ◌*ℤ◌, ◌≤ℤ◌, refl, sym, ap, subst, ◌∙◌, arith, inl, inr}
+use Rattle.std.proofs.Common.{◌≡◌, ℕ, not, ◌+◌, ◌<◌, ◌≤◌, Bool, true, false, List, [], ◌∷◌, ◌++◌, length, get_or, take, drop, filter, map, All, Contains, Option, Some, None}
+use Rattle.std.proofs.Common.{ℤ, pos, ◌*ℤ◌, ◌≤ℤ◌, refl, sym, ap, subst, ◌∙◌, arith}
 use Rattle.std.specs.Prelude.{◌==◌, ◌&&◌, MatchBool, IfSome, IsTrue, ◌↔◌}
 use Rattle.std.specs.List.{AllWithin}
-use Rattle.std.proofs.lemmas.Bool.{cases_Bool, eqb-true, eq-eqb}
-use Rattle.std.proofs.lemmas.Int.{ints, clamps}
+use Rattle.std.proofs.lemmas.Bool.{eq-eqb, ne_eqb}
+use Rattle.std.proofs.lemmas.Int.{ints}
 use Rattle.std.specs.Int.{int_max}
 use Rattle.std.proofs.lemmas.List.{take-append-drop, append-nil, length-take, length-drop, get_or-take, get_or-drop}
-use Rattle.std.proofs.lemmas.List.Elements.{All-nil, All-more, All-filter, All-contains, filter-append, Contains-get_or}
+use Rattle.std.proofs.lemmas.List.Elements.{All-nil, All-more, All-take, All-filter, All-contains, filter-append, filter_agree, Contains-get_or}
 use Rattle.std.proofs.lemmas.List.Filters.{length-filter_both}
+use Rattle.msp_class.proofs.IntegerRing.{≤ℤ_trans, ≤ℤ-int_max_left, ≤ℤ-int_max_right, int_max-least}
 use Rattle.msp_class.proofs.Sums.{Contains-filter}
 use Rattle.msp_class.specs.Env.{kind_of}
 use Rattle.msp_instance.specs.declared.Instance.{Instance}
@@ -19,6 +20,7 @@ use Rattle.msp_schedule.specs.Begins.{IsEarlierEnd}
 use Rattle.msp_schedule.specs.Breaks.{KeepsRoute, pieces_among, IsLeast}
 use Rattle.msp_schedule.specs.Works.{AreMeasurable, GetsWorkAmong, LacksWorkAmong, IsWorked}
 use Rattle.msp_pieces.specs.Within.{IsMoment}
+use Rattle.msp_pieces.proofs.lists.Places.{filter-both}
 use Rattle.msp_schedule.proofs.judging.ArcTimes.{fewer}
 
 -- ---- what a filter keeps
@@ -43,24 +45,18 @@ module _ {X : Type 0} where
   pub All-after : (P : X → Type 0) (xs : List X) (i : ℕ) → i ≤ length xs → AllWithin P xs i (length xs) → All P (drop i xs)
   All-after P xs i h all k d l = subst P (sym (get_or-drop i xs k d)) (all (i + k) d (omega arith) (omega (arith, length-drop i xs, l, h)))
 
-decide : (j k : ℕ) → (j ≡ k → ⊥) → (j == k) ≡ false
-decide j k n = elim (cases_Bool (j == k)) [ inl h ↦ absurd (n (eqb-true _ _ h)) | inr h ↦ h ]
-
-pub share_is : (xs : List Piece) (j a b : ℕ) → All (λ p. p.job < j) (take a xs)
-    → All (λ p. j ≤ p.job) (drop a xs) → All (λ p. p.job < j + 1) (take b (drop a xs)) → All (λ p. j + 1 ≤ p.job) (drop b (drop a xs)) →
-    take b (drop a xs) ≡ filter (λ p. p.job == j) xs
-share_is xs j a b before from inside after = filter_middle (λ p. p.job == j) xs a b
-    (λ k d l. let t = before k d l in decide (get_or (take a xs) k d).job j (λ e. omega (arith, t, e)))
-    (λ k d l. eq-eqb _ _ (let low = All-take_of (λ p. j ≤ p.job) (drop a xs) b from k d l in let high = inside k d l in omega (arith, low, high)))
-    (λ k d l. let t = after k d l in decide (get_or (drop b (drop a xs)) k d).job j (λ e. omega (arith, t, e)))
-  where
-    All-take_of : (P : Piece → Type 0) (ys : List Piece) (n : ℕ) → All P ys → All P (take n ys)
-    All-take_of P ys n h k d l = let small : k < n = omega (arith, length-take n ys) in subst P (sym (get_or-take n ys k d small)) (h k d (omega (arith, length-take n ys)))
-
 pub share_at : (xs rest : List Piece) (j a b : ℕ) → rest ≡ drop a xs → All (λ p. p.job < j) (take a xs) → All (λ p. j ≤ p.job) (drop a xs)
     → All (λ p. p.job < j + 1) (take b rest) → All (λ p. j + 1 ≤ p.job) (drop b rest) → take b rest ≡ filter (λ p. p.job == j) xs
-share_at xs rest j a b e before from inside after =
-    ap (take b) e ∙ share_is xs j a b before from (subst (λ l. All (λ p. p.job < j + 1) (take b l)) e inside) (subst (λ l. All (λ p. j + 1 ≤ p.job) (drop b l)) e after)
+share_at xs rest j a b e before from inside after = ap (take b) e ∙ filter_middle (λ p. p.job == j) xs a b
+    (λ k d l. let t = before k d l in ne_eqb (get_or (take a xs) k d).job j (λ e. omega (arith, t, e)))
+    (subst (λ r. All (λ p. (p.job == j) ≡ true) (take b r)) e here)
+    (subst (λ r. All (λ p. (p.job == j) ≡ false) (drop b r)) e (λ k d l. let t = after k d l in ne_eqb (get_or (drop b rest) k d).job j (λ e. omega (arith, t, e))))
+  where
+    here : All (λ p. (p.job == j) ≡ true) (take b rest)
+    here k d l =
+        let low = All-take (λ p. j ≤ p.job) b rest (subst (All (λ p. j ≤ p.job)) (sym e) from) k d l in
+        let high = inside k d l in
+        eq-eqb _ _ (omega (arith, low, high))
 
 -- ---- routes
 module _ (xs : List Piece) (j : ℕ) where
@@ -90,14 +86,11 @@ module _ (xs : List Piece) (j : ℕ) where
 
   -- ---- work
   among_share : (ys : List Piece) (o : ℕ) → pieces_among (filter (λ p. p.job == j) ys) j o ≡ pieces_among ys j o
-  among_share [] o = refl
-  among_share (p ∷ ps) o = by (p.job == j) refl (among_share ps o)
+  among_share ys o = filter-both (λ p. p.job == j) (λ p. (p.job == j) && (p.op == o)) ys ∙ filter_agree _ _ (λ p. twice (p.job == j) (p.op == o)) ys
     where
-      by : (b : Bool) → (p.job == j) ≡ b → pieces_among (filter (λ p. p.job == j) ps) j o ≡ pieces_among ps j o
-          → pieces_among (cond (p.job == j) (p ∷ filter (λ p. p.job == j) ps) (filter (λ p. p.job == j) ps)) j o ≡ cond ((p.job == j) && (p.op == o)) (p ∷ pieces_among ps j o) (pieces_among ps j o)
-      by true e rest = ap (λ b. pieces_among (cond b (p ∷ filter (λ p. p.job == j) ps) (filter (λ p. p.job == j) ps)) j o) e ∙ ap (λ l. cond ((p.job == j) && (p.op == o)) (p ∷ l) l) rest
-      by false e rest = ap (λ b. pieces_among (cond b (p ∷ filter (λ p. p.job == j) ps) (filter (λ p. p.job == j) ps)) j o) e
-          ∙ rest ∙ ap (λ b. cond (b && (p.op == o)) (p ∷ pieces_among ps j o) (pieces_among ps j o)) (sym e)
+      twice : (a b : Bool) → (a && (a && b)) ≡ (a && b)
+      twice true b = refl
+      twice false b = refl
 
   pub work_by_share : (i : Instance) (u : ℤ) (o : ℕ) → IsWorked i u Share j o → IsWorked i u xs j o
   work_by_share i u o h op = subst (λ l. MatchBool i.class.cut (total (map (work_of (kind_of i.class.env) i) l) ≡ u *ℤ pos (whole_work (kind_of i.class.env) i j o))
@@ -125,14 +118,11 @@ module _ (xs : List Piece) (j : ℕ) where
   pub shared : (P : Piece → Type 0) (ys : List Piece) → ys ≡ Share → All P xs → All P ys
   shared P ys e h = subst (All P) (sym e) (All-filter (λ p. p.job == j) P xs h)
 
-  few_shared : (ys : List Piece) (n : ℕ) → ys ≡ Share → length xs ≤ n → length ys ≤ n
-  few_shared ys n e h = omega (arith, ap length e, length-filter_both (λ p. p.job == j) (λ p. not (p.job == j)) (λ _. refl) xs, h)
-
   pub measured_share : (ys : List Piece) (i : Instance) → ys ≡ Share → AreMeasurable i xs → AreMeasurable i ys
   measured_share ys i e h = record {
     inner = h.inner;
     checked = h.checked;
-    few = few_shared ys _ e h.few;
+    few = omega (arith, ap length e, length-filter_both (λ p. p.job == j) (λ p. not (p.job == j)) (λ _. refl) xs, h.few);
     place = shared (HasPlace i) ys e h.place;
     moments = shared (λ p. IsMoment p.from × IsMoment p.to) ys e h.moments;
   }
@@ -152,21 +142,12 @@ pub earlier_more : (xs : List Piece) (k j o : ℕ) (d p : Piece) (x : ℤ)
     → k < length xs → p ≡ get_or xs k d → (p.job ≡ j) × (p.op < o) → IsEarlierEnd (take k xs) j o x → IsEarlierEnd (take (k + 1) xs) j o (int_max p.to x)
 earlier_more xs k j o d p x h is counts so_far = subst (λ q. (q.job ≡ j) × (q.op < o) → IsEarlierEnd (take (k + 1) xs) j o (int_max q.to x)) (sym is) next counts
   where
-    left : (a x b : ℤ) → b ≤ℤ x → b ≤ℤ int_max a x
-    left a x b h = omega (arith, ints, clamps)
-
-    right : (a x : ℤ) → a ≤ℤ int_max a x
-    right a x = omega (arith, ints, clamps)
-
-    both : (a x b : ℤ) → a ≤ℤ b → x ≤ℤ b → int_max a x ≤ℤ b
-    both a x b h k = omega (arith, ints, clamps)
-
     next : ((get_or xs k d).job ≡ j) × ((get_or xs k d).op < o) → IsEarlierEnd (take (k + 1) xs) j o (int_max (get_or xs k d).to x)
     next c = record {
-      natural = left (get_or xs k d).to x (pos 0) so_far.natural;
+      natural = ≤ℤ_trans so_far.natural (≤ℤ-int_max_right (get_or xs k d).to x);
       bound = All-more (λ q. q.job ≡ j → q.op < o → q.to ≤ℤ int_max (get_or xs k d).to x)
-          xs k d h (λ i f l s t. left (get_or xs k d).to x (get_or (take k xs) i f).to (so_far.bound i f l s t)) (λ s t. right (get_or xs k d).to x);
-      least = λ b n all. let f = fewer (λ q. q.job ≡ j → q.op < o → q.to ≤ℤ b) xs k d h all in both (get_or xs k d).to x b (f.1 c.0 c.1) (so_far.least b n f.0);
+          xs k d h (λ i f l s t. ≤ℤ_trans (so_far.bound i f l s t) (≤ℤ-int_max_right (get_or xs k d).to x)) (λ s t. ≤ℤ-int_max_left (get_or xs k d).to x);
+      least = λ b n all. let f = fewer (λ q. q.job ≡ j → q.op < o → q.to ≤ℤ b) xs k d h all in int_max-least (f.1 c.0 c.1) (so_far.least b n f.0);
     }
 
 pub earlier_same : (xs : List Piece) (k j o : ℕ) (d p : Piece) (x : ℤ)
@@ -181,9 +162,6 @@ earlier_same xs k j o d p x h is not_later so_far = record {
 pub route_from_end : (xs : List Piece) (j o : ℕ) (x y : ℤ) (result : Bool) → y ≡ x → All (λ p. IsMoment p.from × IsMoment p.to) xs
     → IsEarlierEnd xs j o x → IsTrue result ↔ All (λ q. q.job ≡ j → q.op ≡ o → y ≤ℤ q.from) xs → IsTrue result ↔ KeepsRoute xs j o
 route_from_end xs j o x y result e moments end (to, from) = (
-  λ h k d l m f n mine other less same. joined (get_or xs k d).to x y (get_or xs m f).from e (end.bound k d l mine less) (to h m f n other same),
+  λ h k d l m f n mine other less same. ≤ℤ_trans (end.bound k d l mine less) (subst (λ z. z ≤ℤ (get_or xs m f).from) e (to h m f n other same)),
   λ kept. from (λ m f n mine same. subst (λ z. z ≤ℤ (get_or xs m f).from) (sym e) (end.least (get_or xs m f).from (moments m f n).0.0 (λ k d l own less. kept k d l m f n own mine less same))),
 )
-  where
-    joined : (a x y b : ℤ) → y ≡ x → a ≤ℤ x → y ≤ℤ b → a ≤ℤ b
-    joined a x y b e h k = omega (arith, ints, e)

@@ -1,21 +1,20 @@
 -- Occupancies of pieces in order: neighbours that do not meet leave no overlap, and the first two that meet are the first overlap.
-use Rattle.std.proofs.Common.{◌≡◌, ◌≢◌, ℕ, ◌+◌, ◌<◌, ◌≤◌, ◌⊎◌, inl, inr, Bool, true, false, cond, List, length, get_or, All, AllPairs, Contains, IsPermutation, Option, Some, None}
-use Rattle.std.proofs.Common.{ℤ, ◌≤ℤ◌, ◌<ℤ◌, refl, sym, ap, subst, ◌∙◌, arith}
-use Rattle.std.specs.Prelude.{◌==◌, nat_lt}
-use Rattle.std.specs.Ordering.{int_cmp, nat_cmp, ordering_then, is_lt}
+use Rattle.std.proofs.Common.{◌≡◌, ◌≢◌, ℕ, ◌+◌, ◌<◌, ◌≤◌, inl, inr, Bool, false, List, length, get_or, All, AllPairs, Contains, IsPermutation, Option, Some, None}
+use Rattle.std.proofs.Common.{◌≤ℤ◌, ◌<ℤ◌, refl, sym, ap, subst, ◌∙◌, arith}
+use Rattle.std.specs.Ordering.{int_cmp, nat_cmp, ordering_then, MatchOrdering, is_lt}
 use Rattle.std.specs.declared.cmp.Ordering.{Ordering}
 use Rattle.std.specs.declared.cmp.Ordering.TheVariants.{Less, Equal, Greater}
-use Rattle.std.proofs.lemmas.Bool.Decides.{nat_tests}
-use Rattle.msp_pieces.proofs.lists.DateOrder.{less, less-no, less-yes, not_less}
-use Rattle.std.proofs.lemmas.Bool.{cases_Bool, cases_lt, eqb-true}
+use Rattle.msp_pieces.proofs.lists.DateOrder.{less-no}
+use Rattle.std.proofs.lemmas.Bool.{cases_lt}
+use Rattle.std.proofs.lemmas.Cmp.{ranked, nat_cmp_total, int_cmp_total, on_total, then_total}
 use Rattle.std.proofs.lemmas.Int.{ints}
 use Rattle.std.proofs.lemmas.List.{get_or_default}
 use Rattle.std.proofs.lemmas.List.Elements.{Contains-get_or}
 use Rattle.std.specs.Cmp.{IsStrictWeakOrder}
 use Rattle.std.specs.List.Sorted.{IsSortedBy}
 use Rattle.std.specs.Prelude.{IfSome}
-use Rattle.std.proofs.lemmas.List.Sorted.{sorted_far, All-permutation, Contains-permutation}
-use Rattle.msp_class.proofs.IntegerRing.{≤ℤ_total}
+use Rattle.std.proofs.lemmas.List.Sorted.{ranks_by, sorted_far, All-permutation, Contains-permutation}
+use Rattle.msp_class.proofs.IntegerRing.{≤ℤ_total, ≤ℤ_trans, ≤ℤ_of_same, <ℤ_weak}
 use Rattle.msp_pieces.specs.declared.Piece.{Piece}
 use Rattle.msp_schedule.specs.declared.occupancies.Occupancy.{Occupancy}
 use Rattle.msp_schedule.specs.declared.overlaps.Lane.{Lane}
@@ -46,21 +45,15 @@ occupancies_by_number lane ps ms (e, at) = record {
 pub occupancies_permuted : (lane : Lane) (ps : List Piece) (ms ns : List Occupancy) → IsPermutation ms ns → HasOccupancies lane ps ms → HasOccupancies lane ps ns
 occupancies_permuted lane ps ms ns h m = record {
   each = All-permutation (λ m. (m.number < length ps) × (m ≡ occupancy_of lane (piece_at ps m.number) m.number)) ms ns h m.each;
-  all = λ k l. contained (occupancy_of lane (piece_at ps k) k) (m.all k l);
+  all = λ k l. Contains-permutation ms ns (occupancy_of lane (piece_at ps k) k) h (m.all k l);
   distinct = AllPairs-permutation (λ a b. a.number ≢ b.number) (λ a b n e. n (sym e)) ms ns h m.distinct;
 }
-  where
-    contained : (x : Occupancy) → Contains ms x → Contains ns x
-    contained x c = Contains-permutation ms ns x h c
 
 -- ---- occupancies in order
 module _ (lane : Lane) (ps : List Piece) (ms : List Occupancy) (has : HasOccupancies lane ps ms) (sorted : AllPairs IsNotAfter ms) where
   -- the occupancy of a piece, and its place
   place : (k : ℕ) → k < length ps → (x : ℕ) × (x < length ms) × (occupancy_at ms x ≡ occupancy_of lane (piece_at ps k) k)
-  place k l = let c = has.all k l in (c.0, c.1, placed c.0 c.1 c.2)
-    where
-      placed : (x : ℕ) → x < length ms → get_or ms x (occupancy_of lane (piece_at ps k) k) ≡ occupancy_of lane (piece_at ps k) k → occupancy_at ms x ≡ occupancy_of lane (piece_at ps k) k
-      placed x l e = get_or_default ms x no_occupancy _ l ∙ e
+  place k l = let c = has.all k l in (c.0, c.1, get_or_default ms c.0 no_occupancy _ c.1 ∙ c.2)
 
   -- a occupancy that comes later does not come before
   in_order : (k l x y : ℕ) → x < length ms → y < length ms → occupancy_at ms x ≡ occupancy_of lane (piece_at ps k) k
@@ -103,23 +96,14 @@ module _ (lane : Lane) (ps : List Piece) (ms : List Occupancy) (has : HasOccupan
       near : (occupancy_at ms x).lane ≡ (occupancy_at ms (x + 1)).lane → (occupancy_at ms x).to ≤ℤ (occupancy_at ms (x + 1)).from
       near e = elim (≤ℤ_total (occupancy_at ms x).to (occupancy_at ms (x + 1)).from) [ inl h ↦ h | inr early ↦ absurd (clear x (omega (arith, less, below)) (e, early)) ]
 
-      chain : (p q r : ℤ) → p ≤ℤ q → q ≤ℤ r → p ≤ℤ r
-      chain p q r h k = omega (arith, ints)
-
-      weak : (p q : ℤ) → p <ℤ q → p ≤ℤ q
-      weak p q h = omega (arith, ints)
-
-      equal : (p q : ℤ) → p ≡ q → p ≤ℤ q
-      equal p q h = omega (arith, ints, h)
-
       lane_between : IsNotAfter (occupancy_at ms x) (occupancy_at ms (x + 1)) → (occupancy_at ms x).lane ≤ (occupancy_at ms (x + 1)).lane
       lane_between (inl h) = omega (arith, h)
       lane_between (inr (e, h)) = omega (arith, e)
 
       further : IsNotAfter (occupancy_at ms x) (occupancy_at ms (x + 1)) → IsNotAfter (occupancy_at ms (x + 1)) (occupancy_at ms y) → (occupancy_at ms x).to ≤ℤ (occupancy_at ms y).from
       further first (inl h) = absurd (omega (arith, lane_between first, h, same))
-      further first (inr (e, inl h)) = chain _ _ _ (near (same ∙ sym e)) (weak _ _ h)
-      further first (inr (e, inr (f, h))) = chain _ _ _ (near (same ∙ sym e)) (equal _ _ f)
+      further first (inr (e, inl h)) = ≤ℤ_trans (near (same ∙ sym e)) (<ℤ_weak h)
+      further first (inr (e, inr (f, h))) = ≤ℤ_trans (near (same ∙ sym e)) (≤ℤ_of_same f)
 
   -- an overlap has its second occupancy beyond each place up to which neighbours do not meet
   beyond : (a k l y : ℕ) → IsClearBelow ms a → a ≤ length ms → y < length ms → occupancy_at ms y ≡ occupancy_of lane (piece_at ps l) l → Overlaps (lane_of lane) ps k l → a ≤ y
@@ -133,10 +117,7 @@ module _ (lane : Lane) (ps : List Piece) (ms : List Occupancy) (has : HasOccupan
           let (x, ix, ex) = place k o.one in
           let less = in_order k l x y ix iy ex ey (inr (o.same, o.ahead)) in
           let apart = apart_at a x y clear less below whole (ap (λ m. m.lane) ex ∙ o.same ∙ sym (ap (λ m. m.lane) ey)) in
-          never (occupancy_at ms x).to (occupancy_at ms y).from (piece_at ps k).to (piece_at ps l).from (ap (λ m. m.to) ex) (ap (λ m. m.from) ey) apart o.early
-        where
-          never : (a b c d : ℤ) → a ≡ c → b ≡ d → a ≤ℤ b → d <ℤ c → ⊥
-          never a b c d e f h k = omega (arith, ints, e, f)
+          omega (arith, ints, ap (λ m. m.to) ex, ap (λ m. m.from) ey, apart, o.early)
 
   pub clear_is_apart : IsClearBelow ms (length ms) → AllPairs (λ p q. lane_of lane p ≡ lane_of lane q → IsApart p q) ps
   clear_is_apart clear = apart_without_overlap (lane_of lane)
@@ -161,10 +142,9 @@ module _ (lane : Lane) (ps : List Piece) (ms : List Occupancy) (has : HasOccupan
       ahead : IsNotAfter (occupancy_of lane (piece_at ps a) a) (occupancy_of lane (piece_at ps b) b) → lane_of lane (piece_at ps a) ≡ lane_of lane (piece_at ps b) → StandsAhead ps a b
       ahead (inl h) e = absurd (omega (arith, h, e))
       ahead (inr (s, inl h)) e = inl h
-      ahead (inr (s, inr (f, h))) e = inr (f, let n = has.distinct k (k + 1) no_occupancy (omega arith) inside in strict a b h (λ same. n (ea ∙ same ∙ sym eb)))
-        where
-          strict : (a b : ℕ) → a ≤ b → a ≢ b → a < b
-          strict a b h n = elim (cases_lt a b) [ inl l ↦ l | inr m ↦ absurd (n (omega (arith, h, m))) ]
+      ahead (inr (s, inr (f, h))) e =
+          let n : a ≢ b = λ same. has.distinct k (k + 1) no_occupancy (omega arith) inside (ea ∙ same ∙ sym eb) in
+          inr (f, omega (arith, h, n))
 
       same : lane_of lane (piece_at ps a) ≡ lane_of lane (piece_at ps b)
       same = sym (ap (λ m. m.lane) one) ∙ meets.0 ∙ ap (λ m. m.lane) second
@@ -185,82 +165,23 @@ module _ (lane : Lane) (ps : List Piece) (ms : List Occupancy) (has : HasOccupan
       }
 
 -- ---- the order that is sorted by
-abbrev pub first_less : ℕ → ℕ → Ordering → Bool
-first_less p q rest = is_lt (ordering_then (nat_cmp p q) rest)
-
-first_less-yes : (p q : ℕ) (rest : Ordering) → first_less p q rest ≡ true → (p < q) ⊎ ((p ≡ q) × (is_lt rest ≡ true))
-first_less-yes p q rest h = by (nat_lt p q) refl (p == q) refl h
-  where
-    by : (s : Bool) → nat_lt p q ≡ s → (t : Bool) → (p == q) ≡ t → is_lt (ordering_then (cond s Less (cond t Equal Greater)) rest) ≡ true → (p < q) ⊎ ((p ≡ q) × (is_lt rest ≡ true))
-    by true e t f k = inl (grind (arith, nat_tests))
-    by false e true f k = inr (eqb-true _ _ f, k)
-    by false e false f k = absurd (cc)
-
-first_less-no : (p q : ℕ) (rest : Ordering) → first_less p q rest ≡ false → (q < p) ⊎ ((q ≡ p) × (is_lt rest ≡ false))
-first_less-no p q rest h = by (nat_lt p q) refl (p == q) refl h
-  where
-    by : (s : Bool) → nat_lt p q ≡ s → (t : Bool) → (p == q) ≡ t → is_lt (ordering_then (cond s Less (cond t Equal Greater)) rest) ≡ false → (q < p) ⊎ ((q ≡ p) × (is_lt rest ≡ false))
-    by true e t f k = absurd (cc)
-    by false e true f k = inr (sym (eqb-true _ _ f), k)
-    by false e false f k = inl (grind (arith, nat_tests))
-
-not_first_less : (p q : ℕ) (rest : Ordering) → (q < p) ⊎ ((q ≡ p) × (is_lt rest ≡ false)) → first_less p q rest ≡ false
-not_first_less p q rest h = elim (cases_Bool (first_less p q rest)) [
-  | inl is ↦ absurd (never (first_less-yes p q rest is) h)
-  | inr isnt ↦ isnt
-]
-  where
-    never : (p < q) ⊎ ((p ≡ q) × (is_lt rest ≡ true)) → (q < p) ⊎ ((q ≡ p) × (is_lt rest ≡ false)) → ⊥
-    never (inl a) (inl b) = omega (arith, a, b)
-    never (inl a) (inr b) = let e = b.0 in omega (arith, a, e)
-    never (inr a) (inl b) = let e = a.0 in omega (arith, e, b)
-    never (inr (e, a)) (inr (f, b)) = absurd (cc)
-
 abbrev pub occupancy_less : Occupancy → Occupancy → Bool
-occupancy_less a b = first_less a.lane b.lane (ordering_then (int_cmp a.from b.from) (nat_cmp a.number b.number))
-
-no_less : (a b : Occupancy) → occupancy_less a b ≡ false → IsNotAfter b a
-no_less a b h = by (first_less-no a.lane b.lane _ h)
-  where
-    by : (b.lane < a.lane) ⊎ ((b.lane ≡ a.lane) × (less a.from b.from a.number b.number ≡ false)) → IsNotAfter b a
-    by (inl l) = inl l
-    by (inr (e, l)) = inr (e, less-no a.from b.from a.number b.number l)
-
-not_before : (a b : Occupancy) → IsNotAfter b a → occupancy_less a b ≡ false
-not_before a b (inl l) = not_first_less a.lane b.lane _ (inl l)
-not_before a b (inr (e, l)) = not_first_less a.lane b.lane _ (inr (e, not_less a.from b.from a.number b.number l))
-
-less_weak : (a b : Occupancy) → occupancy_less a b ≡ true → IsNotAfter a b
-less_weak a b h = by (first_less-yes a.lane b.lane _ h)
-  where
-    inner : (x y : ℤ) (m n : ℕ) → (x <ℤ y) ⊎ ((x ≡ y) × (m < n)) → (x <ℤ y) ⊎ ((x ≡ y) × (m ≤ n))
-    inner x y m n (inl l) = inl l
-    inner x y m n (inr (e, l)) = inr (e, omega (arith, l))
-
-    by : (a.lane < b.lane) ⊎ ((a.lane ≡ b.lane) × (less a.from b.from a.number b.number ≡ true)) → IsNotAfter a b
-    by (inl l) = inl l
-    by (inr (e, l)) = inr (e, inner a.from b.from a.number b.number (less-yes a.from b.from a.number b.number l))
-
-joined_moments : (x y z : ℤ) (a b c : ℕ) → (x <ℤ y) ⊎ ((x ≡ y) × (a ≤ b)) → (y <ℤ z) ⊎ ((y ≡ z) × (b ≤ c)) → (x <ℤ z) ⊎ ((x ≡ z) × (a ≤ c))
-joined_moments x y z a b c (inl h) (inl k) = inl (omega (arith, ints))
-joined_moments x y z a b c (inl h) (inr k) = inl (subst (λ v. x <ℤ v) k.0 h)
-joined_moments x y z a b c (inr h) (inl k) = inl (subst (λ v. v <ℤ z) (sym h.0) k)
-joined_moments x y z a b c (inr h) (inr k) = inr (h.0 ∙ k.0, omega (arith, h.1, k.1))
-
-joined : (a b c : Occupancy) → IsNotAfter a b → IsNotAfter b c → IsNotAfter a c
-joined a b c (inl h) (inl k) = inl (omega (arith, h, k))
-joined a b c (inl h) (inr (e, k)) = inl (omega (arith, h, e))
-joined a b c (inr (e, h)) (inl k) = inl (omega (arith, e, k))
-joined a b c (inr (e, h)) (inr (f, k)) = inr (e ∙ f, joined_moments a.from b.from c.from a.number b.number c.number h k)
+occupancy_less a b = is_lt (ordering_then (nat_cmp a.lane b.lane) (ordering_then (int_cmp a.from b.from) (nat_cmp a.number b.number)))
 
 pub occupancy_less-order : IsStrictWeakOrder occupancy_less
-occupancy_less-order = record {
-  one_way = λ a b h. not_before b a (less_weak a b h);
-  chain = λ a b c h k. not_before a c (joined c b a (no_less b c k) (no_less a b h));
-}
+occupancy_less-order = ranks_by (then_total (on_total (λ (m : Occupancy). m.lane) nat_cmp_total)
+    (then_total (on_total (λ (m : Occupancy). m.from) int_cmp_total) (on_total (λ (m : Occupancy). m.number) nat_cmp_total))) (λ m. m)
+
+no_less : (a b : Occupancy) (lanes : Ordering) → MatchOrdering lanes (a.lane < b.lane) (a.lane ≡ b.lane) (b.lane < a.lane)
+    → is_lt (ordering_then lanes (ordering_then (int_cmp a.from b.from) (nat_cmp a.number b.number))) ≡ false → IsNotAfter b a
+no_less a b Less h e = absurd (cc)
+no_less a b Equal h e = inr (sym h, less-no a.from b.from a.number b.number e)
+no_less a b Greater h e = inl h
 
 pub occupancies_sorted : (ms : List Occupancy) → IsSortedBy occupancy_less ms → AllPairs IsNotAfter ms
-occupancies_sorted ms h i j d l k = no_less (get_or ms j d) (get_or ms i d) (sorted_far occupancy_less occupancy_less-order ms h i j d (omega arith) k)
+occupancies_sorted ms h i j d l k =
+    no_less (get_or ms j d) (get_or ms i d) _ (ranked (get_or ms j d).lane (get_or ms i d).lane _ refl)
+    (sorted_far occupancy_less occupancy_less-order ms h i j d (omega arith) k)
 
 -- ---- the sweep
 pub swept_none : (lane : Lane) (ps : List Piece) (ms ns xs : List Occupancy) → AreOccupancies lane ps (length ps) ms

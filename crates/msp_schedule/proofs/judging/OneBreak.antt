@@ -1,5 +1,5 @@
 -- A schedule has at most one first break.
-use Rattle.std.proofs.Common.{◌≡◌, ℕ, ◌<◌, ◌⊎◌, inl, inr, List, ◌≤ℤ◌, ◌<ℤ◌, sym, ap, ap₂, subst, ◌∙◌, arith}
+use Rattle.std.proofs.Common.{◌≡◌, ℕ, ◌<◌, ◌⊎◌, inl, inr, List, ◌≤ℤ◌, sym, ap, ap₂, subst, ◌∙◌, arith}
 use Rattle.std.proofs.lemmas.Int.{ints}
 use Rattle.std.proofs.lemmas.Bool.{cases_lt}
 use Rattle.msp_class.proofs.IntegerRing.{≤ℤ_total, ≤ℤ_antisym}
@@ -44,10 +44,7 @@ module _ (lane : Piece → ℕ) (ps : List Piece) where
   first_overlaps : (a b c : ℕ) → Overlaps lane ps a b → Overlaps lane ps c b → StandsAhead ps a c → Overlaps lane ps a c
   first_overlaps a b c x y ahead =
       let from = no_later c b y.ahead in
-      record { one = x.one; other = y.one; same = x.same ∙ sym y.same; ahead = ahead; early = early _ _ _ from x.early }
-    where
-      early : (u v w : _) → u ≤ℤ v → v <ℤ w → u <ℤ w
-      early u v w h k = omega (arith, ints, h, k)
+      record { one = x.one; other = y.one; same = x.same ∙ sym y.same; ahead = ahead; early = omega (arith, ints, from, x.early) }
 
   first_overlap_is_one : (a b c d : ℕ) → IsFirstOverlap lane ps a b → IsFirstOverlap lane ps c d → (a ≡ c) × (b ≡ d)
   first_overlap_is_one a b c d x y =

@@ -34,38 +34,6 @@ module _ (lane : Piece → ℕ) (xs : List Piece) where
   at_most : (l b : ℕ) → l < b + 1 → (l < b) ⊎ (l ≡ b)
   at_most l b h = elim (cases_lt l b) [ inl x ↦ inl x | inr y ↦ inr (omega (arith, h, y)) ]
 
-  -- the first overlap of all
-  pub first_is_new : (a b : ℕ) → Overlaps lane xs a b → ((k l : ℕ) → l < b → ¬ Overlaps lane xs k l) → IsFirstOverlapBelow lane xs (b + 1) (Some (a, b))
-  first_is_new a b h none = (
-    h,
-    λ k l below o. elim (at_most l b below) [
-      | inl less ↦ absurd (none k l less o)
-      | inr same ↦ λ p. Precedes-not_self b (subst (λ x. Precedes lane xs x b) same p)
-    ],
-  )
-
-  -- an overlap whose second piece comes before the one known
-  pub first_is_better : (a b n known : ℕ) → Overlaps lane xs a b
-      → Precedes lane xs b known → ((k l : ℕ) → l < b → Overlaps lane xs k l → ¬ Precedes lane xs l known) → IsFirstOverlapBelow lane xs (b + 1) (Some (a, b))
-  first_is_better a b n known h before rest = (
-    h,
-    λ k l below o. elim (at_most l b below) [
-      | inl less ↦ λ p. rest k l less o (Precedes-trans l b known p before)
-      | inr same ↦ λ p. Precedes-not_self b (subst (λ x. Precedes lane xs x b) same p)
-    ],
-  )
-
-  -- one whose second piece comes later
-  pub first_stays : (a b m n : ℕ) → Overlaps lane xs m n
-      → ((k l : ℕ) → l < b → Overlaps lane xs k l → ¬ Precedes lane xs l n) → ¬ Precedes lane xs b n → IsFirstOverlapBelow lane xs (b + 1) (Some (m, n))
-  first_stays a b m n h rest later = (
-    h,
-    λ k l below o. elim (at_most l b below) [
-      | inl less ↦ rest k l less o
-      | inr same ↦ subst (λ x. ¬ Precedes lane xs x n) (sym same) later
-    ],
-  )
-
   -- no overlap among all pieces, and the first of them
   pub apart_without_overlap : ((k l : ℕ) → l < length xs → ¬ Overlaps lane xs k l) → AllPairs (λ p q. lane p ≡ lane q → IsApart p q) xs
   apart_without_overlap none k l d less inside =
@@ -96,20 +64,37 @@ module _ (lane : Piece → ℕ) (xs : List Piece) where
 
   -- the same for what is known so far
   pub known_stays : (best : Option (ℕ × ℕ)) (b m n : ℕ) → best ≡ Some (m, n) → IsFirstOverlapBelow lane xs b best → ¬ Precedes lane xs b n → IsFirstOverlapBelow lane xs (b + 1) best
-  known_stays best b m n e h later = subst (IsFirstOverlapBelow lane xs (b + 1)) (sym e) (of_pair (subst (IsFirstOverlapBelow lane xs b) e h))
+  known_stays best b m n e h later = subst (IsFirstOverlapBelow lane xs (b + 1)) (sym e) (
+    known.0,
+    λ k l below o. elim (at_most l b below) [
+      | inl less ↦ known.1 k l less o
+      | inr same ↦ subst (λ x. ¬ Precedes lane xs x n) (sym same) later
+    ],
+  )
     where
-      of_pair : IsFirstOverlapBelow lane xs b (Some (m, n)) → IsFirstOverlapBelow lane xs (b + 1) (Some (m, n))
-      of_pair (o, rest) = first_stays m b m n o rest later
+      known : IsFirstOverlapBelow lane xs b (Some (m, n))
+      known = subst (IsFirstOverlapBelow lane xs b) e h
 
+  -- an overlap whose second piece comes before the one known
   pub new_is_better : (best : Option (ℕ × ℕ)) (a b m n : ℕ) → best ≡ Some (m, n)
       → IsFirstOverlapBelow lane xs b best → Overlaps lane xs a b → Precedes lane xs b n → IsFirstOverlapBelow lane xs (b + 1) (Some (a, b))
-  new_is_better best a b m n e h o before = of_pair (subst (IsFirstOverlapBelow lane xs b) e h)
-    where
-      of_pair : IsFirstOverlapBelow lane xs b (Some (m, n)) → IsFirstOverlapBelow lane xs (b + 1) (Some (a, b))
-      of_pair (was, rest) = first_is_better a b m n o before rest
+  new_is_better best a b m n e h o before = (
+    o,
+    λ k l below other. elim (at_most l b below) [
+      | inl less ↦ λ p. (subst (IsFirstOverlapBelow lane xs b) e h).1 k l less other (Precedes-trans l b n p before)
+      | inr same ↦ λ p. Precedes-not_self b (subst (λ x. Precedes lane xs x b) same p)
+    ],
+  )
 
+  -- the first overlap of all
   pub new_is_first : (best : Option (ℕ × ℕ)) (a b : ℕ) → best ≡ None → IsFirstOverlapBelow lane xs b best → Overlaps lane xs a b → IsFirstOverlapBelow lane xs (b + 1) (Some (a, b))
-  new_is_first best a b e h o = first_is_new a b o (subst (IsFirstOverlapBelow lane xs b) e h)
+  new_is_first best a b e h o = (
+    o,
+    λ k l below other. elim (at_most l b below) [
+      | inl less ↦ absurd (subst (IsFirstOverlapBelow lane xs b) e h k l less other)
+      | inr same ↦ λ p. Precedes-not_self b (subst (λ x. Precedes lane xs x b) same p)
+    ],
+  )
 
   pub nothing_new : (best : Option (ℕ × ℕ)) (b : ℕ) → ((k : ℕ) → ¬ Overlaps lane xs k b) → IsFirstOverlapBelow lane xs b best → IsFirstOverlapBelow lane xs (b + 1) best
   nothing_new None b none h = λ k l below o. elim (at_most l b below) [ inl less ↦ h k l less o | inr same ↦ none k (subst (Overlaps lane xs k) same o) ]

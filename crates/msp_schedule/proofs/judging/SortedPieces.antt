@@ -1,5 +1,5 @@
 -- What is found in pieces that are sorted by job holds of them in the order in which they were given.
-use Rattle.std.proofs.Common.{◌≡◌, ℕ, ◌<◌, ◌≤◌, inl, inr, List, length, All, IsPermutation, Option, Some, None, ℤ, refl, sym, subst, arith}
+use Rattle.std.proofs.Common.{◌≡◌, ℕ, ◌<◌, inl, inr, List, length, All, IsPermutation, Option, Some, None, ℤ, refl, sym, subst, arith}
 use Rattle.std.specs.Prelude.{IfSome}
 use Rattle.std.proofs.lemmas.List.Sorted.{All-permutation, length_permutation, IsPermutation-sym}
 use Rattle.msp_instance.specs.declared.Instance.{Instance}
@@ -27,14 +27,11 @@ module _ (xs ys zs : List Piece) (h : IsPermutation xs ys) (e : zs ≡ ys) where
   pub of_sorted : (P : Piece → Type 0) → All P xs → All P zs
   of_sorted P = All-permutation P xs zs forth
 
-  few_sorted : (n : ℕ) → length xs ≤ n → length zs ≤ n
-  few_sorted n l = omega (arith, length_permutation xs zs forth, l)
-
   pub measured_sorted : (i : Instance) → AreMeasurable i xs → AreMeasurable i zs
   measured_sorted i h = record {
     inner = h.inner;
     checked = h.checked;
-    few = few_sorted _ h.few;
+    few = omega (arith, length_permutation xs zs forth, h.few);
     place = of_sorted (HasPlace i) h.place;
     moments = of_sorted (λ p. IsMoment p.from × IsMoment p.to) h.moments;
   }

@@ -75,48 +75,30 @@ beyond_by Uniform e i j o m shape op = omega (arith, shape.0, op)
 beyond_by Unrelated e i j o m shape op = omega (arith, shape.0, op, m)
 beyond_by _ e i j o m shape op = op.0
 
--- the need of an operation is there, and says how much work it is
-pub operation_inside : (i : Instance) (j o : ℕ) → kind_of i.class.env ≢ Unrelated → Inner i → j < length i.jobs → HasOperation (kind_of i.class.env) i j o → o < length (job_at i j).needs
-operation_inside i j o n inner job op = beyond_by (kind_of i.class.env) i.class.env i j o inner.conditions.machines.0 (inner.conditions.jobs j no_job job).needs.shape op
-
+-- how much work an operation is
 whole_work_by : (k : EnvKind) (i : Instance) (j o : ℕ) → k ≢ Unrelated → whole_work k i j o ≡ (need_at i j o).time
 whole_work_by Unrelated i j o n = absurd (n refl)
 whole_work_by _ i j o n = refl
 
 -- what a cut operation gets, and a whole one
+abbrev Cut : Instance → ℤ → List Piece → ℕ → ℕ → Type 0
+Cut i unit xs j o = total (map (work_of (kind_of i.class.env) i) (pieces_among xs j o)) ≡ unit *ℤ pos (whole_work (kind_of i.class.env) i j o)
+
+abbrev Whole : Instance → ℤ → List Piece → ℕ → ℕ → Type 0
+Whole i unit xs j o = (p : Piece) × (pieces_among xs j o ≡ p ∷ []) × IsWholeWork (kind_of i.class.env) i unit p
+
 pub gets_cut : (i : Instance) (unit u : ℤ) (xs : List Piece) (j o : ℕ) (sum n : ℤ) (t : ℕ) (takes : Bool)
     → i.class.cut ≡ true → kind_of i.class.env ≢ Unrelated → u ≡ unit → n ≡ sum → t ≡ (need_at i j o).time →
     sum ≡ total (map (work_of (kind_of i.class.env) i) (pieces_among xs j o)) → IsTrue takes ↔ (n ≡ u *ℤ pos t) → IsTrue takes ↔ GetsWorkAmong i unit xs j o
 gets_cut i unit u xs j o sum n t takes cut other eu en et es h =
-    subst (λ b. IsTrue takes ↔ MatchBool b Cut Whole) (sym cut)
+    subst (λ b. IsTrue takes ↔ MatchBool b (Cut i unit xs j o) (Whole i unit xs j o)) (sym cut)
     (subst₂ (λ x y. IsTrue takes ↔ (x ≡ y)) (en ∙ es) (ap₂ (λ x k. x *ℤ pos k) eu (et ∙ sym (whole_work_by (kind_of i.class.env) i j o other))) h)
-  where
-    Cut : Type 0
-    Cut = total (map (work_of (kind_of i.class.env) i) (pieces_among xs j o)) ≡ unit *ℤ pos (whole_work (kind_of i.class.env) i j o)
-
-    Whole : Type 0
-    Whole = (p : Piece) × (pieces_among xs j o ≡ p ∷ []) × IsWholeWork (kind_of i.class.env) i unit p
 
 pub gets_whole : (i : Instance) (unit : ℤ) (xs : List Piece) (j o : ℕ) (p : Piece) (whole : Bool) → i.class.cut ≡ false
     → pieces_among xs j o ≡ p ∷ [] → IsTrue whole ↔ IsWholeWork (kind_of i.class.env) i unit p → IsTrue whole ↔ GetsWorkAmong i unit xs j o
 gets_whole i unit xs j o p whole cut sole (to, from) =
-    subst (λ b. IsTrue whole ↔ MatchBool b Cut Whole) (sym cut) (λ h. (p, sole, to h), λ w. from (subst (IsWholeWork (kind_of i.class.env) i unit) (same (sym w.1 ∙ sole)) w.2))
-  where
-    Cut : Type 0
-    Cut = total (map (work_of (kind_of i.class.env) i) (pieces_among xs j o)) ≡ unit *ℤ pos (whole_work (kind_of i.class.env) i j o)
-
-    Whole : Type 0
-    Whole = (q : Piece) × (pieces_among xs j o ≡ q ∷ []) × IsWholeWork (kind_of i.class.env) i unit q
-
-    same : {q : Piece} → q ∷ [] ≡ p ∷ [] → q ≡ p
-    same e = ap (λ l. get_or l 0 p) e
-
-pub gets_none : (i : Instance) (unit : ℤ) (xs : List Piece) (j o : ℕ) → i.class.cut ≡ false → ((p : Piece) → ¬ (pieces_among xs j o ≡ p ∷ [])) → ¬ GetsWorkAmong i unit xs j o
-gets_none i unit xs j o cut none h = none (own h).0 (own h).1
-  where
-    own : GetsWorkAmong i unit xs j o → (q : Piece) × (pieces_among xs j o ≡ q ∷ []) × IsWholeWork (kind_of i.class.env) i unit q
-    own g = subst (λ b. MatchBool b (total (map (work_of (kind_of i.class.env) i) (pieces_among xs j o)) ≡ unit *ℤ pos (whole_work (kind_of i.class.env) i j o))
-        ((q : Piece) × (pieces_among xs j o ≡ q ∷ []) × IsWholeWork (kind_of i.class.env) i unit q)) cut g
+    subst (λ b. IsTrue whole ↔ MatchBool b (Cut i unit xs j o) (Whole i unit xs j o)) (sym cut)
+    (λ h. (p, sole, to h), λ w. from (subst (IsWholeWork (kind_of i.class.env) i unit) (ap (λ l. get_or l 0 p) (sym w.1 ∙ sole)) w.2))
 
 -- ---- the first operation that lacks work
 pub not_lacking : (i : Instance) (u : ℤ) (xs : List Piece) (j o : ℕ) → IsWorked i u xs j o → ¬ LacksWorkAmong i u xs j o

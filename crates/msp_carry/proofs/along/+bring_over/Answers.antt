@@ -14,18 +14,12 @@ down-requires-clause-applies t c = (first_step c.args.inst.now c.row-item.result
 pub bring_over-requires : goal.bring_over-requires
 bring_over-requires t c =
     let first = first_step c.args.inst.now c.row-item.result c.args.rows.now c.requires.chain.0 c.in-len1-up.len_at_least c.row-item.is c.requires.chain.1 in
-    let lower = c.in_ok-lower-in-len1-up.lower in
     let led = c.in_ok-lower-in-len1-up.ensures.led in
-    let same = carried_on first c.in_ok-lower-in-len1-up.ensures.same in (
-      subst (λ n. length (behind c.args.rows.now) < n) c.decreases first.shorter,
-      (
-        led.inner,
-        (
-          (c.requires.chain.0, first.rest lower led),
-          (subst (λ x. IsSolution x c.args.last) same c.requires.solution, (subst (λ x. IsSized x c.args.last.schedule) same c.requires.sized, c.requires.ends)),
-        ),
-      ),
-    )
+    let same = carried_on first c.in_ok-lower-in-len1-up.ensures.same in
+    let less = subst (λ n. length (behind c.args.rows.now) < n) c.decreases first.shorter in
+    let solution = subst (λ x. IsSolution x c.args.last) same c.requires.solution in
+    let sized = subst (λ x. IsSized x c.args.last.schedule) same c.requires.sized in
+    (less, (led.inner, ((c.requires.chain.0, first.rest c.in_ok-lower-in-len1-up.lower led), (solution, (sized, c.requires.ends)))))
 
 pub back-requires-clause-carries : goal.back-requires-clause-carries
 back-requires-clause-carries t c = (first_step c.args.inst.now c.row-item.result c.args.rows.now c.requires.chain.0 c.in-len1-up.len_at_least c.row-item.is c.requires.chain.1).usable

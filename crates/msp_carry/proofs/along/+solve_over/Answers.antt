@@ -16,11 +16,10 @@ down-requires-clause-applies g t c = (first_step c.args.inst.now c.row-item.resu
 pub solve_over-requires : goal.solve_over-requires
 solve_over-requires g t c κs within =
     let first = first_step c.args.inst.now c.row-item.result c.args.rows.now _ c.in-len1-up.len_at_least c.row-item.is c.requires.chain in
-    let lower = c.in_ok-lower-in-len1-up.lower in
-    let led = c.in_ok-lower-in-len1-up.ensures.led in (
-      subst (λ n. length (behind c.args.rows.now) < n) c.decreases first.shorter,
-      (within, (led.inner, (first.rest lower led, subst (λ x. g.S.Solver.can_solve c.args.solver.now x) (carried_on first c.in_ok-lower-in-len1-up.ensures.same) c.requires.fits))),
-    )
+    let led = c.in_ok-lower-in-len1-up.ensures.led in
+    let less = subst (λ n. length (behind c.args.rows.now) < n) c.decreases first.shorter in
+    let fits = subst (λ x. g.S.Solver.can_solve c.args.solver.now x) (carried_on first c.in_ok-lower-in-len1-up.ensures.same) c.requires.fits in
+    (less, (within, (led.inner, (first.rest c.in_ok-lower-in-len1-up.lower led, fits))))
 
 pub back-requires-clause-carries : goal.back-requires-clause-carries
 back-requires-clause-carries g t c = (first_step c.args.inst.now c.row-item.result c.args.rows.now _ c.in-len1-up.len_at_least c.row-item.is c.requires.chain).usable

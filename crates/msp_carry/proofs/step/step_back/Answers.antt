@@ -6,18 +6,6 @@ use Rattle.msp_route.proofs.Composed.{IfOk-best}
 use Rattle.msp_carry.proofs.StepFacts.{IfOk-brought}
 use Rattle.msp_carry.proofs.step.step_back.Goals as goal
 
-pub back-requires-clause-inner : goal.back-requires-clause-inner
-back-requires-clause-inner g c = c.requires.inner
-
-pub back-requires-clause-applies : goal.back-requires-clause-applies
-back-requires-clause-applies g c = c.requires.applies
-
-pub back-requires-clause-solution : goal.back-requires-clause-solution
-back-requires-clause-solution g c = c.requires.solution
-
-pub back-requires-clause-bounded : goal.back-requires-clause-bounded
-back-requires-clause-bounded g c = c.requires.bounded
-
 pub returns : goal.returns
 returns g c =
     let reduction = c.args.reduction.now in

@@ -4,8 +4,9 @@ use Rattle.msp_cert.proofs.Facts.{AreSmallSpeeds, small_speeds}
 use Rattle.msp_cert.proofs.Decided.{group_is_worth}
 use Rattle.msp_cert.proofs.Fastest.{first_some}
 use Rattle.msp_cert.proofs.group.group_worth.Goals as goal
+use Rattle.msp_cert.proofs.group.group_worth.Goals.{After-as_slice}
 
-small : (c : goal.After-as_slice) → AreSmallSpeeds c.as_slice.result.now
+small : (c : After-as_slice) → AreSmallSpeeds c.as_slice.result.now
 small c = subst AreSmallSpeeds (sym c.as_slice.ensures.value) (small_speeds c.args.inst.now _ c.requires.class (c.if-not-is_group.ensures.0 refl).speeds c.in_ok-speeds.ensures.all)
 
 pub first_together-speed-requires-clause-few : goal.first_together-speed-requires-clause-few
@@ -16,7 +17,7 @@ first_together-speed-requires-clause-slow c = (small c).slow
 
 pub over-requires-clause-some : goal.over-requires-clause-some
 over-requires-clause-some c =
-    let s = subst AreSmallSpeeds (sym c.as_slice.ensures.value) (small_speeds c.args.inst.now _ c.requires.class (c.if-not-is_group.ensures.0 refl).speeds c.in_ok-speeds.ensures.all) in
+    let s = small (goal.at.over-requires-clause-some c).After-as_slice in
     subst (λ x. 1 ≤ x) (sym c.first_together-speed.ensures.value) (first_some _ (length c.args.jobs.now) (c.if-not-is_group.ensures.0 refl).some s.some s.fast)
 
 pub returns-clause-worth : goal.returns-clause-worth

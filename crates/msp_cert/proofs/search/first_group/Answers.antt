@@ -4,6 +4,7 @@ use Rattle.msp_cert.specs.declared.Proof.TheVariants.{Group}
 use Rattle.msp_cert.specs.Search.{HasValue}
 use Rattle.msp_cert.proofs.Tried.{AreTogether, one_more, some_speed, longest_worth, all_longest}
 use Rattle.msp_cert.proofs.search.first_group.Goals as goal
+use Rattle.msp_cert.proofs.search.first_group.Goals.{After-own_speed-speed}
 
 pub overflow_add-time : goal.overflow_add-time
 overflow_add-time c =
@@ -14,7 +15,7 @@ overflow_add-time c =
 pub overflow_cast-k : goal.overflow_cast-k
 overflow_cast-k c = omega (arith, c.loop-k-test.true, all_longest c.args.inst.now c.args.longest.now c.requires.longest, c.requires.class.conditions.few)
 
-sums : (c : goal.After-own_speed-speed)
+sums : (c : After-own_speed-speed)
     → AreTogether c.args.inst.now c.args.longest.now c.args.speeds.now (c.loop-k.k + 1) (c.loop-k.time + c.time_of-time.result) (c.loop-k.speed + c.own_speed-speed.result)
 sums c = one_more c.args.inst.now c.args.longest.now c.args.speeds.now c.loop-k.k c.loop-k.time c.loop-k.speed
     _ _ _ c.requires.class c.requires.asked c.requires.all c.loop-k-test.true refl c.time_of-time.ensures c.own_speed-speed.ensures c.loop-k.invariant.together
@@ -30,11 +31,8 @@ over-requires-clause-some c = some_speed c.args.inst.now c.args.longest.now c.ar
 
 pub returns-then-equals : goal.returns-then-equals
 returns-then-equals c =
-    let sum : AreTogether c.args.inst.now c.args.longest.now c.args.speeds.now (c.loop-k.k + 1) (c.loop-k.time + c.time_of-time.result) (c.loop-k.speed + c.own_speed-speed.result) =
-    one_more c.args.inst.now c.args.longest.now c.args.speeds.now c.loop-k.k c.loop-k.time c.loop-k.speed _ _ _ c.requires.class
-    c.requires.asked c.requires.all c.loop-k-test.true refl c.time_of-time.ensures c.own_speed-speed.ensures c.loop-k.invariant.together in
-    let worth = longest_worth c.args.inst.now c.args.longest.now c.args.speeds.now c.loop-k.k
-    _ _ c.over.result c.requires.longest c.requires.asked c.requires.all c.requires.falls c.loop-k-test.true sum c.over.ensures.num c.over.ensures.den in (
+    let worth = longest_worth c.args.inst.now c.args.longest.now c.args.speeds.now c.loop-k.k _ _ c.over.result c.requires.longest c.requires.asked
+    c.requires.all c.requires.falls c.loop-k-test.true (sums (goal.at.returns-then-equals c).After-own_speed-speed) c.over.ensures.num c.over.ensures.den in (
       omega (arith, c.loop-k-test.true, all_longest c.args.inst.now c.args.longest.now c.requires.longest),
       (c.if-equals.ensures c.args.inst.now (Group (take (c.loop-k.k + 1) c.args.longest.now)) worth).0 refl,
       c.loop-k.invariant.before,
@@ -42,9 +40,7 @@ returns-then-equals c =
 
 pub loop-k-preserved : goal.loop-k-preserved
 loop-k-preserved c =
-    let sum : AreTogether c.args.inst.now c.args.longest.now c.args.speeds.now (c.loop-k.k + 1) (c.loop-k.time + c.time_of-time.result) (c.loop-k.speed + c.own_speed-speed.result) =
-    one_more c.args.inst.now c.args.longest.now c.args.speeds.now c.loop-k.k c.loop-k.time c.loop-k.speed _ _ _ c.requires.class
-    c.requires.asked c.requires.all c.loop-k-test.true refl c.time_of-time.ensures c.own_speed-speed.ensures c.loop-k.invariant.together in
+    let sum = sums (goal.at.loop-k-preserved c).After-own_speed-speed in
     let worth = longest_worth c.args.inst.now c.args.longest.now c.args.speeds.now c.loop-k.k
     _ _ c.over.result c.requires.longest c.requires.asked c.requires.all c.requires.falls c.loop-k-test.true sum c.over.ensures.num c.over.ensures.den in
     record {

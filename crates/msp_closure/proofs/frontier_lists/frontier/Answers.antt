@@ -2,18 +2,6 @@
 use Rattle.msp_closure.proofs.StandingLemmas.{known_easy, known_hard, known_low, known_high}
 use Rattle.msp_closure.proofs.frontier_lists.frontier.Goals as goal
 
-pub returns-clause-easy : goal.returns-clause-easy
-returns-clause-easy c = c.in_ok-lists.ensures.easy
-
-pub returns-clause-hard : goal.returns-clause-hard
-returns-clause-hard c = c.in_ok-lists.ensures.hard
-
-pub returns-clause-low : goal.returns-clause-low
-returns-clause-low c = c.in_ok-lists.ensures.low
-
-pub returns-clause-high : goal.returns-clause-high
-returns-clause-high c = c.in_ok-lists.ensures.high
-
 pub returns-clause-known : goal.returns-clause-known
 returns-clause-known c = λ es are. record {
   easy = known_easy es c.args.labels.now are c.in_ok-lists.lists.easy c.in_ok-lists.ensures.easy;

@@ -11,6 +11,6 @@ use Rattle.msp_closure.proofs.labels.label.Goals as goal
 pub returns : goal.returns
 returns c =
     let same : c.labels.inside.marks ≡ c.args.labels.now = c.labels.view_is in
-    let P : List Mark → Type 0 = λ xs. slice_get xs (rank_of c.args.c) ≡ Some c.at.result in
-    subst P same (slice_get_read c.labels.inside.marks CLASSES (rank_of c.args.c) c.at.result (sym c.at.ensures.len) (rank_of-below c.args.c)
+    subst (λ (xs : List Mark). slice_get xs (rank_of c.args.c) ≡ Some c.at.result) same
+    (slice_get_read c.labels.inside.marks CLASSES (rank_of c.args.c) c.at.result (sym c.at.ensures.len) (rank_of-below c.args.c)
     (sym (c.at.ensures.value c.at.result)))

@@ -29,6 +29,3 @@ returns-clause-way c = subst₂ (λ rows starts. IfOk c.way_within.result (λ fo
 
 pub returns-clause-none : goal.returns-clause-none
 returns-clause-none c = none_between carries c.args.routes.now c.args.to c.way_within.result (returns-clause-way c)
-
-pub returns-clause-few : goal.returns-clause-few
-returns-clause-few c = c.way_within.ensures.few

@@ -24,6 +24,3 @@ returns-clause-none c = subst (λ from. IfOk c.route.result (λ found. IsNone fo
 
 pub returns-clause-way : goal.returns-clause-way
 returns-clause-way c = subst (λ from. IfOk c.route.result (λ found. IsWay carries (c.args.to ∷ []) (from ∷ []) found)) c.in_ok-routes.ensures c.route.ensures.way
-
-pub returns-clause-few : goal.returns-clause-few
-returns-clause-few c = c.route.ensures.few

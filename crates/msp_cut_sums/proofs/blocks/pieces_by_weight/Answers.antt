@@ -1,7 +1,7 @@
 use Rattle.std.proofs.Common.{length, ap, ap₂, ◌∙◌, arith}
 use Rattle.std.proofs.lemmas.Result.{IfOk-weaker}
 use Rattle.msp_pieces.proofs.feasible.OfClass.{IsOfClass-from}
-use Rattle.msp_cut_sums.specs.Sums.{cut_weights_class, weight_at}
+use Rattle.msp_cut_sums.specs.Sums.{cut_weights_class}
 use Rattle.msp_cut_sums.specs.Pieces.{blocked}
 use Rattle.msp_cut_sums.proofs.Falling.{order_many}
 use Rattle.msp_cut_sums.proofs.Instances.{weights_span}
@@ -9,13 +9,8 @@ use Rattle.msp_cut_sums.proofs.blocks.pieces_by_weight.Goals as goal
 
 pub blocked_pieces-requires-clause-few : goal.blocked_pieces-requires-clause-few
 blocked_pieces-requires-clause-few c =
-    let i = c.args.inst.now in
-    omega (
-      arith,
-      ap length c.as_slice.ensures.value,
-      order_many (length i.jobs) (weight_at i) c.in_ok-order.order.items c.in_ok-order.ensures,
-      (IsOfClass-from i cut_weights_class c.requires.class c.requires.inner).few,
-    )
+    let h = IsOfClass-from _ cut_weights_class c.requires.class c.requires.inner in
+    omega (arith, ap length c.as_slice.ensures.value, order_many _ _ _ c.in_ok-order.ensures, h.few)
 
 pub blocked_pieces-requires-clause-short : goal.blocked_pieces-requires-clause-short
 blocked_pieces-requires-clause-short c = omega (arith, c.shared_time.ensures, (weights_span c.args.inst.now (IsOfClass-from c.args.inst.now cut_weights_class c.requires.class c.requires.inner)).1)

@@ -1,6 +1,5 @@
 use Rattle.std.proofs.Common.{length, ap, ap₂, ◌∙◌, arith}
 use Rattle.std.proofs.lemmas.Result.{IfOk-weaker}
-use Rattle.msp_cut_sums.specs.Sums.{weight_at}
 use Rattle.msp_cut_sums.specs.Pieces.{squared}
 use Rattle.msp_cut_sums.proofs.Falling.{order_many}
 use Rattle.msp_cut_sums.proofs.Instances.{IsEvenShop-from}
@@ -8,9 +7,8 @@ use Rattle.msp_cut_sums.proofs.squares.pieces_by_weight.Goals as goal
 
 pub squared_pieces-requires-clause-few : goal.squared_pieces-requires-clause-few
 squared_pieces-requires-clause-few c =
-    let i = c.args.inst.now in
-    omega
-    (arith, ap length c.as_slice.ensures.value, order_many (length i.jobs) (weight_at i) c.in_ok-order.order.items c.in_ok-order.ensures, (IsEvenShop-from i c.requires.class c.requires.inner).few)
+    let h = IsEvenShop-from c.args.inst.now c.requires.class c.requires.inner in
+    omega (arith, ap length c.as_slice.ensures.value, order_many _ _ _ c.in_ok-order.ensures, h.of.few)
 
 pub squared_pieces-requires-clause-short : goal.squared_pieces-requires-clause-short
 squared_pieces-requires-clause-short c = omega (arith, c.shared_time.ensures, (IsEvenShop-from c.args.inst.now c.requires.class c.requires.inner).span.1)

@@ -14,38 +14,26 @@ use Rattle.msp_cut_sums.proofs.stacks.pieces_by_time.Goals as goal
 
 pub times_in-requires : goal.times_in-requires
 times_in-requires c =
-    let i = c.args.inst.now in
-    subst (All (λ j. j < length i.jobs)) (sym c.as_slice.ensures.value) (order_once (length i.jobs) (time_at i) c.in_ok-order.order.items c.in_ok-order.ensures).within
+    subst (All (λ j. j < length c.args.inst.now.jobs)) (sym c.as_slice.ensures.value) (order_once _ _ _ c.in_ok-order.ensures).within
 
 pub ends_of-requires-clause-few : goal.ends_of-requires-clause-few
 ends_of-requires-clause-few c =
-    let i = c.args.inst.now in
-    omega (
-      arith,
-      ap length (c.as_slice-2.ensures.value ∙ c.in_ok-times.ensures),
-      length-map c.as_slice.result.now (time_at i),
-      ap length c.as_slice.ensures.value,
-      order_many (length i.jobs) (time_at i) c.in_ok-order.order.items c.in_ok-order.ensures,
-      (IsOfClass-from i cut_sum_class c.requires.class c.requires.inner).few,
-    )
+    let h = IsOfClass-from _ cut_sum_class c.requires.class c.requires.inner in
+    let many = ap length (c.as_slice-2.ensures.value ∙ c.in_ok-times.ensures) ∙ length-map c.as_slice.result.now (time_at c.args.inst.now) in
+    omega (arith, many, ap length c.as_slice.ensures.value, order_many _ _ _ c.in_ok-order.ensures, h.few)
 
 pub ends_of-requires-clause-short : goal.ends_of-requires-clause-short
 ends_of-requires-clause-short c =
     let i = c.args.inst.now in
     let h = IsOfClass-from i cut_sum_class c.requires.class c.requires.inner in
-    let within = (order_once (length i.jobs) (time_at i) c.in_ok-order.order.items c.in_ok-order.ensures).within in
+    let within = (order_once _ _ _ c.in_ok-order.ensures).within in
     subst (All (λ t. t ≤ GREATEST)) (sym (c.as_slice-2.ensures.value ∙ c.in_ok-times.ensures ∙ ap (map (time_at i)) c.as_slice.ensures.value))
     (All-map (λ t. t ≤ GREATEST) (time_at i) c.in_ok-order.order.items (λ k d l. (sum_times i h _ (within k d l)).1))
 
 pub stacked_pieces-requires-clause-few : goal.stacked_pieces-requires-clause-few
 stacked_pieces-requires-clause-few c =
-    let i = c.args.inst.now in
-    omega (
-      arith,
-      ap length c.as_slice-3.ensures.value,
-      order_many (length i.jobs) (time_at i) c.in_ok-order.order.items c.in_ok-order.ensures,
-      (IsOfClass-from i cut_sum_class c.requires.class c.requires.inner).few,
-    )
+    let h = IsOfClass-from _ cut_sum_class c.requires.class c.requires.inner in
+    omega (arith, ap length c.as_slice-3.ensures.value, order_many _ _ _ c.in_ok-order.ensures, h.few)
 
 pub stacked_pieces-requires-clause-many : goal.stacked_pieces-requires-clause-many
 stacked_pieces-requires-clause-many c =

@@ -9,14 +9,8 @@ use Rattle.msp_grammar.proofs.instance_printer.put_curve_line.Goals as goal
 pub returns : goal.returns
 returns c =
     let v = c.args.curve.now in
-    on_ok
-    c.put-2.result
-    (line_put
-    c.args.out.now.items
-    c.put.new.out.items
-    c.put_curve_fields.new.out.items
-    c.put-2.new.out.items
-    (codes "curve")
+    on_ok _
+    (line_put _ _ _ _ (codes "curve")
     (decimal v.slope ∷ signed_decimal v.base ∷ flat_map step_fields v.steps)
     c.in_ok-put.ensures.added
     c.in_ok-put_curve_fields.ensures)

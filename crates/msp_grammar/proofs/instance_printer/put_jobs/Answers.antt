@@ -6,15 +6,7 @@ use Rattle.msp_grammar.proofs.instance_printer.put_jobs.Goals as goal
 pub jobs-preserved : goal.jobs-preserved
 jobs-preserved c =
     let named : c.jobs.at < length c.args.names.now = omega (arith, c.requires, c.jobs-test.true) in
-    jobs_step
-    c.args.class
-    c.args.names.now
-    c.args.jobs.now
-    c.jobs.at
-    c.index-jobs-at.result
-    c.jobs.out.items
-    c.put_named_job.new.out.items
-    _
+    jobs_step _ _ _ _ _ _ _ _
     named
     c.jobs-test.true
     c.index-jobs-at.is

@@ -1,9 +1,9 @@
 -- The goal of `put_schedule` that is proved by a lemma.
-use Rattle.std.proofs.Common.{List, ◌++◌, ◌∙◌, ap, codes, rules}
+use Rattle.std.proofs.Common.{List, ◌++◌, ◌∙◌, ap, rules}
 use Rattle.std.specs.Int.{w128}
 use Rattle.std.proofs.lemmas.Int.{to_z-of_z}
 use Rattle.msp_pieces.specs.declared.Piece.{Piece}
-use Rattle.msp_grammar.specs.ScheduleText.{schedule_text, fraction_text, cost_line, unit_line, piece_lines}
+use Rattle.msp_grammar.specs.ScheduleText.{schedule_text, unit_line, piece_lines}
 use Rattle.msp_grammar.proofs.PrintLemmas.{on_ok, five_put}
 use Rattle.msp_grammar.proofs.schedule_printer.put_schedule.Goals as goal
 
@@ -11,20 +11,8 @@ pub returns : goal.returns
 unfolding schedule_text
 returns c =
     let unit = to_z-of_z w128 c.args.schedule.now.unit (search rules) in
-    on_ok
-    c.put-2.result
-    (five_put
-    c.args.out.now.items
-    c.put.new.out.items
-    c.put_cost.new.out.items
-    c.put_unit.new.out.items
-    c.put_pieces.new.out.items
-    c.put-2.new.out.items
-    (codes "schedule\n")
-    (cost_line (fraction_text c.args.cost))
-    (unit_line c.args.schedule.now.unit)
-    (piece_lines c.args.names.now c.args.schedule.now.pieces)
-    (codes "end\n")
+    on_ok _
+    (five_put _ _ _ _ _ _ _ _ _ _ _
     c.in_ok-put.ensures.added
     c.in_ok-put_cost.ensures
     (c.in_ok-put_unit.ensures ∙ ap (λ u. c.put_cost.new.out.items ++ unit_line u) unit)

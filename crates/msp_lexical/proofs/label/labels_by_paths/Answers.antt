@@ -1,8 +1,6 @@
-use Rattle.std.proofs.Common.{◌≡◌, ◌<◌, Any, length, slice_index, set, sym, ap, subst, ◌∙◌, arith, rules}
+use Rattle.std.proofs.Common.{◌≡◌, Any, length, slice_index, set, sym, ap, subst, ◌∙◌, arith, rules}
 use Rattle.std.proofs.lemmas.List.{length-set}
-use Rattle.std.proofs.lemmas.List.Elements.{All-contains}
 use Rattle.std.specs.List.{range_with_len}
-use Rattle.msp_class.specs.declared.sizes.TheConstants.{MOST_JOBS}
 use Rattle.msp_instance.specs.Paths.{leads}
 use Rattle.msp_lexical.proofs.Counts.{some_free, counts-start, counts-enough, counts-next}
 use Rattle.msp_lexical.proofs.Labelling.{IsLabelled, IsLabelling-start, AreLabels-end, labelled}
@@ -26,18 +24,9 @@ pub first_free-place-requires-clause-some : goal.first_free-place-requires-claus
 first_free-place-requires-clause-some c =
     let left = c.loop-arcs.left.items in
     let (j, found, none) = some_free c.args.inst.now left c.requires.inner.acyclic (search rules) in
-    subst (Any (λ j. slice_index c.loop-arcs.counts j ≡ 0)) (sym c.as_slice.ensures.value) (
-      found.0,
-      j,
-      found.1,
-      found.2,
-      c.loop-arcs.invariant.counted j (omega (
-        arith,
-        (All-contains (λ j. (j < length c.args.inst.now.jobs) × (slice_index c.loop-arcs.labels j ≡ MOST_JOBS))
-            left j c.loop-arcs.invariant.steps.inside found).0,
-        c.requires.inner.conditions.few,
-      )) ∙ none,
-    )
+    let inside = c.loop-arcs.invariant.steps.inside found.0 j found.1 in
+    let free = c.loop-arcs.invariant.counted j (omega (arith, inside.0, found.2, c.requires.inner.conditions.few)) ∙ none in
+    subst (Any (λ j. slice_index c.loop-arcs.counts j ≡ 0)) (sym c.as_slice.ensures.value) (found.0, j, found.1, found.2, free)
 
 -- one more job has its label
 made : (c : In_ok-reorder) → IsLabelled c.args.inst.now (leads c.args.paths.now) c.loop-arcs.label

@@ -1,5 +1,5 @@
 -- The slots of the pieces, cut into segments.
-use Rattle.std.proofs.Common.{◌<◌, List, length, slice_index, All, sym, subst, arith}
+use Rattle.std.proofs.Common.{◌<◌, length, slice_index, All, sym, subst, arith}
 use Rattle.std.proofs.lemmas.List.Elements.{All-weaker}
 use Rattle.msp_class.specs.declared.sizes.TheConstants.{MOST_JOBS}
 use Rattle.msp_lexical.specs.Slots.{AreTops, IsSeated, IsSeating, first_in, second_in}

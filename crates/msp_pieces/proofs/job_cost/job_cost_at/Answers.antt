@@ -1,4 +1,4 @@
-use Rattle.std.proofs.Common.{◌*ℤ◌, sym, subst₂, arith, rules}
+use Rattle.std.proofs.Common.{◌*ℤ◌, sym, subst₂, arith, rules, ℤ, FitsSigned, to_z, of_z}
 use Rattle.std.proofs.lemmas.Int.{ints, to_z-of_z}
 use Rattle.std.specs.Int.{w64, w128}
 use Rattle.msp_instance.specs.Conditions.{LiesWithin}
@@ -8,27 +8,22 @@ use Rattle.msp_pieces.proofs.job_cost.job_cost_at.Goals as goal
 pub returns-in-Lmax-clause-size : goal.returns-in-Lmax-clause-size
 returns-in-Lmax-clause-size c = let s = c.lateness_at.ensures.size in (omega (arith, ints), omega (arith, ints))
 
+-- the product of the unit and the due date is small, at the numbers as they are passed
+due_small : (unit due : ℤ) → FitsSigned w128 unit → FitsSigned w64 due
+    → LiesWithin greatest_scaled (unit *ℤ due) → LiesWithin greatest_scaled (to_z w128 (of_z w128 unit) *ℤ to_z w64 (of_z w64 due))
+due_small unit due u d h = subst₂ (λ x y. LiesWithin greatest_scaled (x *ℤ y)) (sym (to_z-of_z w128 unit u)) (sym (to_z-of_z w64 due d)) h
+
 pub lateness_at-requires-clause-small : goal.lateness_at-requires-clause-small
-lateness_at-requires-clause-small c =
-    subst₂ (λ x y. LiesWithin greatest_scaled (x *ℤ y)) (sym (to_z-of_z w128 c.args.unit c.ranges.unit))
-    (sym (to_z-of_z w64 c.args.job.now.due (search rules))) c.requires.small.due
+lateness_at-requires-clause-small c = due_small c.args.unit c.args.job.now.due c.ranges.unit (search rules) c.requires.small.due
 
 pub late_at-requires-clause-small : goal.late_at-requires-clause-small
-late_at-requires-clause-small c =
-    subst₂ (λ x y. LiesWithin greatest_scaled (x *ℤ y)) (sym (to_z-of_z w128 c.args.unit c.ranges.unit))
-    (sym (to_z-of_z w64 c.args.job.now.due (search rules))) c.requires.small.due
+late_at-requires-clause-small c = due_small c.args.unit c.args.job.now.due c.ranges.unit (search rules) c.requires.small.due
 
 pub late_at-requires-in-SumWU-clause-small : goal.late_at-requires-in-SumWU-clause-small
-late_at-requires-in-SumWU-clause-small c =
-    subst₂ (λ x y. LiesWithin greatest_scaled (x *ℤ y)) (sym (to_z-of_z w128 c.args.unit c.ranges.unit))
-    (sym (to_z-of_z w64 c.args.job.now.due (search rules))) c.requires.small.due
+late_at-requires-in-SumWU-clause-small c = due_small c.args.unit c.args.job.now.due c.ranges.unit (search rules) c.requires.small.due
 
 pub tardiness_at-requires-clause-small : goal.tardiness_at-requires-clause-small
-tardiness_at-requires-clause-small c =
-    subst₂ (λ x y. LiesWithin greatest_scaled (x *ℤ y)) (sym (to_z-of_z w128 c.args.unit c.ranges.unit))
-    (sym (to_z-of_z w64 c.args.job.now.due (search rules))) c.requires.small.due
+tardiness_at-requires-clause-small c = due_small c.args.unit c.args.job.now.due c.ranges.unit (search rules) c.requires.small.due
 
 pub tardiness_at-requires-in-SumWT-clause-small : goal.tardiness_at-requires-in-SumWT-clause-small
-tardiness_at-requires-in-SumWT-clause-small c =
-    subst₂ (λ x y. LiesWithin greatest_scaled (x *ℤ y)) (sym (to_z-of_z w128 c.args.unit c.ranges.unit))
-    (sym (to_z-of_z w64 c.args.job.now.due (search rules))) c.requires.small.due
+tardiness_at-requires-in-SumWT-clause-small c = due_small c.args.unit c.args.job.now.due c.ranges.unit (search rules) c.requires.small.due

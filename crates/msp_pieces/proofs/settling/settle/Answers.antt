@@ -1,4 +1,4 @@
-use Rattle.std.proofs.Common.{◌≡◌, ℤ, rules, sym, ap, subst, ◌∙◌, AllPairs, IsPermutation, map, to_z, of_z, FitsSigned}
+use Rattle.std.proofs.Common.{rules, sym, ap, subst, ◌∙◌, AllPairs, IsPermutation, map, to_z, of_z}
 use Rattle.std.specs.Int.{w128}
 use Rattle.std.proofs.lemmas.Int.{to_z-of_z}
 use Rattle.msp_pieces.specs.Divisor.{part_of, divided}
@@ -12,9 +12,6 @@ divide_all-requires-clause-some c = divisor_positive _ _ _ c.requires.unit c.com
 pub part-s-requires-clause-some : goal.part-s-requires-clause-some
 part-s-requires-clause-some c = divisor_positive _ _ _ c.requires.unit c.common_divisor-divisor.ensures
 
-fits : (x : ℤ) → FitsSigned w128 x → to_z w128 (of_z w128 x) ≡ x
-fits x f = to_z-of_z w128 x f
-
 settling : (c : goal.After-drop-s) → IsSettling c.args.s.now (record { unit = to_z w128 (of_z w128 c.part-s.result); pieces = c.from_vec.result }) c.common_divisor-divisor.result
 settling c =
     let g = c.common_divisor-divisor.result in
@@ -22,7 +19,7 @@ settling c =
       some_unit = c.requires.unit;
       spans = c.requires.span;
       common = c.common_divisor-divisor.ensures;
-      unit_is = fits c.part-s.result (search rules) ∙ c.part-s.ensures ∙ ap (part_of g) (fits c.args.s.now.unit (search rules));
+      unit_is = to_z-of_z w128 c.part-s.result (search rules) ∙ c.part-s.ensures ∙ ap (part_of g) (to_z-of_z w128 c.args.s.now.unit (search rules));
       moved = subst (λ l. IsPermutation l c.from_vec.result) (c.divide_all.ensures ∙ ap (map (divided g)) c.take_all-pieces.ensures.all)
           (subst (IsPermutation c.divide_all.new.pieces.items) (sym c.from_vec.ensures) c.sort_pieces.ensures.permutation);
       sorted = subst (AllPairs IsReportedFirst) (sym c.from_vec.ensures) c.sort_pieces.ensures.sorted;

@@ -8,8 +8,7 @@ loop-place-init c = subst₂ (HasClimbed c.args.inst.now c.args.order.now c.args
     (sym c.in_ok-stairs.ensures) (sym c.new-pieces.ensures) (HasClimbed-none c.args.inst.now c.args.order.now c.args.limits.now)
 
 pub lay-requires-clause-some : goal.lay-requires-clause-some
-lay-requires-clause-some c = some_stairs c.args.inst.now c.args.order.now c.requires.ready c.args.limits.now c.loop-place.place c.loop-place.stairs.items
-    c.loop-place.stairs.items c.loop-place.pieces c.loop-place.pieces c.loop-place-test.true c.loop-place.invariant c.task_at-task.result c.task_at-task.ensures
+lay-requires-clause-some c = some_stairs c.args.inst.now c.args.order.now c.requires.ready c.loop-place.invariant
 
 pub returns-then-not-branch : goal.returns-then-not-branch
 returns-then-not-branch c = laid_off c.args.inst.now c.args.order.now c.requires.ready c.args.limits.now c.loop-place.place c.loop-place.stairs.items c.lay.new.stairs.items

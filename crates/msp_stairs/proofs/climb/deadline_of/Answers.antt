@@ -14,5 +14,6 @@ capped_at-requires c = ≤ℤ_trans (moment_small c.from.result c.from-2.result 
     (c.from-2.ensures ∙ date_kept c.args.due c.requires.date) c.requires.few c.requires.date c.requires.late) (pos-le (omega arith))
 
 pub returns : goal.returns
-returns c = c.capped_at.ensures ∙ ap (λ v. nat_abs (int_max (pos 0) (capped c.args.limits.now.end v))) (moment_held c.from.result c.from-2.result c.args.limits.now.late c.args.machines c.args.due c.from.ensures
+returns c = c.capped_at.ensures ∙ ap (λ v. nat_abs (int_max (pos 0) (capped c.args.limits.now.end v)))
+    (moment_held c.from.result c.from-2.result c.args.limits.now.late c.args.machines c.args.due c.from.ensures
     (c.from-2.ensures ∙ date_kept c.args.due c.requires.date) c.requires.few c.requires.date c.requires.late)

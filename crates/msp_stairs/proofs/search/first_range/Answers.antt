@@ -3,7 +3,7 @@ use Rattle.msp_class.specs.declared.sizes.TheConstants.{GREATEST}
 use Rattle.msp_instance.specs.Instance.{job_at, no_need}
 use Rattle.msp_instance.specs.Conditions.{LiesWithin}
 use Rattle.msp_stairs.proofs.Tasks.{job_read, date_read, date_kept, date_held}
-use Rattle.msp_stairs.proofs.Bounds.{h, some_order, few_order, first_inside, order_inside, time_short, range_is}
+use Rattle.msp_stairs.proofs.Bounds.{h, some_order, few_order, first_inside, once, time_some, range_is}
 use Rattle.msp_stairs.proofs.search.first_range.Goals as goal
 use Rattle.msp_stairs.proofs.search.first_range.Goals.{After-index-as_slice-order}
 
@@ -17,7 +17,7 @@ pub total_time-all-requires-clause-few : goal.total_time-all-requires-clause-few
 total_time-all-requires-clause-few c = few_order c.args.inst.now c.args.order.now c.requires.ready
 
 pub total_time-all-requires-clause-jobs : goal.total_time-all-requires-clause-jobs
-total_time-all-requires-clause-jobs c = order_inside c.args.inst.now c.args.order.now c.requires.ready
+total_time-all-requires-clause-jobs c = (once c.args.inst.now c.args.order.now c.requires.ready).within
 
 -- the first job, and its due date
 read : (c : After-index-as_slice-order) → c.index-as_slice-order.result ≡ job_at c.args.inst.now (get_or c.args.order.now 0 0)
@@ -30,13 +30,12 @@ due c = date_read c.args.inst.now (h c.args.inst.now c.args.order.now c.requires
 
 pub over_machines-requires-clause-time : goal.over_machines-requires-clause-time
 over_machines-requires-clause-time c =
+    let i = c.args.inst.now in
     let order = c.args.order.now in
     let job = read (goal.at.over_machines-requires-clause-time c).After-index-as_slice-order in
-    omega (
-      arith,
-      c.first_time-alone.ensures ∙ ap (λ ns. (get_or ns 0 no_need).time) c.as_slice-2.ensures ∙ ap (λ j. (get_or j.needs 0 no_need).time) job,
-      time_short c.args.inst.now order c.requires.ready (get_or order 0 0) (first_inside c.args.inst.now order c.requires.ready),
-    )
+    let alone = c.first_time-alone.ensures ∙ ap (λ ns. (get_or ns 0 no_need).time) c.as_slice-2.ensures
+    ∙ ap (λ j. (get_or j.needs 0 no_need).time) job in
+    omega (arith, alone, (time_some i (h i order c.requires.ready) (get_or order 0 0) (first_inside i order c.requires.ready)).1)
 
 pub over_machines-requires-clause-date : goal.over_machines-requires-clause-date
 over_machines-requires-clause-date c = date_held c.index-as_slice-order.result.due (due (goal.at.over_machines-requires-clause-date c).After-index-as_slice-order)

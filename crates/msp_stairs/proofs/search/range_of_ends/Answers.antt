@@ -1,12 +1,12 @@
 use Rattle.std.proofs.Common.{pos, ◌-ℤ◌, ◌*ℤ◌, ap, ◌∙◌}
-use Rattle.msp_stairs.proofs.Bounds.{few_order, order_inside, range_of_ends as range_is}
+use Rattle.msp_stairs.proofs.Bounds.{once, few_order, range_of_ends as range_is}
 use Rattle.msp_stairs.proofs.search.range_of_ends.Goals as goal
 
 pub total_time-all-requires-clause-few : goal.total_time-all-requires-clause-few
 total_time-all-requires-clause-few c = few_order c.args.inst.now c.args.order.now c.requires.ready
 
 pub total_time-all-requires-clause-jobs : goal.total_time-all-requires-clause-jobs
-total_time-all-requires-clause-jobs c = order_inside c.args.inst.now c.args.order.now c.requires.ready
+total_time-all-requires-clause-jobs c = (once c.args.inst.now c.args.order.now c.requires.ready).within
 
 pub returns : goal.returns
 returns c =

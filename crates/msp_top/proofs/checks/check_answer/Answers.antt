@@ -2,16 +2,15 @@
 use Rattle.std.proofs.Common.{length, ap, arith}
 use Rattle.std.proofs.lemmas.List.{length-drop}
 use Rattle.msp_top.specs.declared.answers.TheConstants.{CHECK_LIMIT}
-use Rattle.msp_top.specs.Answers.{Answers}
 use Rattle.msp_top.specs.Checks.{CheckIsRight, misread_front}
-use Rattle.msp_top.proofs.Exits.{exits}
+use Rattle.msp_top.proofs.Exits.{failed}
 use Rattle.msp_top.proofs.CheckAnswers.{front_inside, front_line, front_right, rest_part}
-use Rattle.msp_top.proofs.SolveAnswers.{fault_right}
+use Rattle.msp_top.proofs.SolveAnswers.{fault_first}
 use Rattle.msp_top.proofs.checks.check_answer.Goals as goal
 
 pub returns-in_err-front : goal.returns-in_err-front
-returns-in_err-front c = exits _ (Answers (CheckIsRight c.args.input.now)) c.from_residual.result c.from_residual.ensures.1
-    (λ why e. fault_right (CheckIsRight c.args.input.now) c.in_err-front.field-0.0 why (λ other. misread_front c.in_err-front.field-0.0 other c.in_err-front.ensures.fault) e)
+returns-in_err-front c = rw (failed _ c.from_residual.ensures.1)
+    (fault_first (CheckIsRight c.args.input.now) _ (λ other. misread_front _ other c.in_err-front.ensures.fault))
 
 pub slice_bounds-check_rest-count : goal.slice_bounds-check_rest-count
 slice_bounds-check_rest-count c = omega (arith, front_inside c.args.input.now c.in_ok-front.front c.in_ok-front.ensures.text)

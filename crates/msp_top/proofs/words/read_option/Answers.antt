@@ -1,9 +1,8 @@
 -- The goals of `read_option` that are proved by lemmas.
-use Rattle.std.proofs.Common.{◌∙◌, sym, string_bytes, map, Ok, rules}
+use Rattle.std.proofs.Common.{◌∙◌, sym, string_bytes, Ok, Err, rules}
 use Rattle.std.proofs.lemmas.Slice.Eq.{bytes_eq-Decides}
-use Rattle.msp_top.specs.Words.{ReadsOption}
-use Rattle.msp_top.proofs.Exits.{exits}
-use Rattle.msp_top.proofs.WordLemmas.{reads_at_part, refuses_at_part}
+use Rattle.msp_top.proofs.Exits.{failed}
+use Rattle.msp_top.proofs.WordLemmas.{reads_at_part}
 use Rattle.msp_top.proofs.words.read_option.Goals as goal
 
 pub returns-then-eq : goal.returns-then-eq
@@ -13,7 +12,7 @@ returns-then-eq c =
     ((bytes_eq-Decides _ _).0 (sym c.eq.ensures ∙ c.if-eq.true)) c.in_ok-read_name.ensures.read
 
 pub returns-in_err-read_name : goal.returns-in_err-read_name
-returns-in_err-read_name c = exits _ (ReadsOption (map string_bytes c.args.words.now)) c.from_residual.result c.from_residual.ensures.1
-    (λ why e. refuses_at_part string_bytes c.args.words.now c.index-words-0.result c.index-words-1.result _ _ c.in_err-read_name.field-0.0 why
+returns-in_err-read_name c = rw (failed _ c.from_residual.ensures.1) (
+    reads_at_part string_bytes c.args.words.now c.index-words-0.result c.index-words-1.result _ _ (Err c.in_err-read_name.field-0.0)
     (search rules) c.index-words-0.is c.index-words-1.is c.as_str.ensures.value c.as_str-then-eq.ensures.value
-    ((bytes_eq-Decides _ _).0 (sym c.eq.ensures ∙ c.if-eq.true)) c.in_err-read_name.ensures.read e)
+    ((bytes_eq-Decides _ _).0 (sym c.eq.ensures ∙ c.if-eq.true)) c.in_err-read_name.ensures.read)

@@ -32,9 +32,6 @@ pub need_of-work-requires-clause-time : goal.need_of-work-requires-clause-time
 need_of-work-requires-clause-time c = subst (λ ts. at ts c.args.job ≤ GREATEST)
     (sym c.as_slice.ensures.value) (time_small c.args.task.now c.requires.task c.args.job (inside (goal.at.need_of-work-requires-clause-time c).After-as_slice-speeds))
 
-pub need_of-work-requires-clause-unit : goal.need_of-work-requires-clause-unit
-need_of-work-requires-clause-unit c = c.requires.taped.1.within.small
-
 pub lay_here-requires-clause-job : goal.lay_here-requires-clause-job
 lay_here-requires-clause-job c = omega (arith, inside (goal.at.lay_here-requires-clause-job c).After-as_slice-speeds, c.requires.task.few_jobs)
 

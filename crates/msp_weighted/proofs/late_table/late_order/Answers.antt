@@ -1,8 +1,9 @@
-use Rattle.std.proofs.Common.{ℕ, ◌+◌, ◌<◌, List, length, All, sym, ap, ◌∙◌, subst, arith, sum_by}
+use Rattle.std.proofs.Common.{◌≡◌, ℕ, ◌+◌, ◌<◌, ◌≤◌, List, length, All, sym, ap, ◌∙◌, subst, arith, sum_by}
+use Rattle.std.specs.Prelude.{slice_index}
 use Rattle.std.proofs.lemmas.Result.{IfOk-weaker}
 use Rattle.msp_weighted.specs.Late.{time_of}
-use Rattle.msp_weighted.specs.Values.{values_of, IsChosen, IsTableOrder}
-use Rattle.msp_weighted.proofs.TableOrder.{IsRead, order_count, order_within, some_value, table_order, filled_at, best_at}
+use Rattle.msp_weighted.specs.Values.{values_of, IsFilled, IsChosen, IsTableOrder}
+use Rattle.msp_weighted.proofs.TableOrder.{IsRead, order_count, order_within, some_value, table_order}
 use Rattle.msp_weighted.proofs.late_table.late_order.Goals as goal
 use Rattle.msp_weighted.proofs.late_table.late_order.Goals.{After-deref-3}
 
@@ -21,14 +22,14 @@ chosen-requires-clause-jobs c = subst (All (λ j. j < length c.args.inst.now.job
 read : (c : After-deref-3) → IsRead c.args.inst.now c.in_ok-order.order.items c.total_of-total.result c.best_moment-moment.result c.in_ok-table.table.values.items c.in_ok-table.table.flags.items
 read c =
     let width = c.total_of-total.result + 1 in
-    let best = best_at c.deref-2.result.now c.in_ok-table.table.values.items width
-    c.best_moment-moment.result c.deref-2.ensures.value c.in_ok-table.ensures.width c.best_moment-moment.ensures.inside c.best_moment-moment.ensures.best in
+    let many : length c.deref-2.result.now ≡ width = ap length c.deref-2.ensures.value ∙ c.in_ok-table.ensures.width in
     record {
       is = c.total_of-total.ensures ∙ ap (sum_by time_of) c.as_slice.ensures;
-      filled = filled_at c.args.inst.now width c.deref.result.now c.in_ok-order.order.items c.in_ok-table.table.values.items
-          c.in_ok-table.table.flags.items c.deref.ensures.value c.in_ok-table.ensures.filled;
-      inside = best.0;
-      best = best.1;
+      filled = subst (λ js. IsFilled c.args.inst.now js width (length js) c.in_ok-table.table.values.items c.in_ok-table.table.flags.items)
+          c.deref.ensures.value c.in_ok-table.ensures.filled;
+      inside = omega (arith, c.best_moment-moment.ensures.inside, many);
+      best = λ t l. subst (λ xs. slice_index xs t ≤ slice_index xs c.best_moment-moment.result) c.deref-2.ensures.value
+          (c.best_moment-moment.ensures.best t (omega (arith, l, many)));
     }
 
 pub chosen-requires-clause-some : goal.chosen-requires-clause-some

@@ -1,8 +1,9 @@
-use Rattle.std.proofs.Common.{◌*◌, ◌<◌, length, get_or, rules, ap, ◌∙◌, arith}
+use Rattle.std.proofs.Common.{◌<◌, length, get_or, rules, ap, ◌∙◌, arith}
 use Rattle.std.proofs.lemmas.Int.{to_z-of_z}
 use Rattle.std.specs.Int.{w64}
 use Rattle.msp_route.proofs.JobReads.{read_job, time_read}
-use Rattle.msp_weighted.proofs.FilledFacts.{filled-start, filled_small, filled_read, weights_light, row_room, put_width}
+use Rattle.msp_instance.proofs.BitLemmas.{row_inside}
+use Rattle.msp_weighted.proofs.FilledFacts.{filled-start, filled_small, filled_read, weights_light, put_width}
 use Rattle.msp_weighted.proofs.table.put_jobs.Goals as goal
 
 pub loop-k-init : goal.loop-k-init
@@ -23,8 +24,8 @@ put_job-requires-clause-clear c = λ m l. c.loop-k.invariant.filled.clear m (ome
 
 pub put_job-requires-clause-room : goal.put_job-requires-clause-room
 put_job-requires-clause-room c =
-    let room = row_room c.loop-k.k (length c.args.order.now) (length c.args.values.now) (64 * length c.args.flags.now) c.loop-k-test.true c.requires.room in
-    omega (arith, room, c.loop-k.auto.values, c.loop-k.auto.flags)
+    let row = row_inside (length c.args.values.now) (length c.args.order.now) c.loop-k.k c.loop-k-test.true in
+    omega (arith, row, c.requires.room, c.loop-k.auto.values, c.loop-k.auto.flags)
 
 pub put_job-requires-clause-blocks : goal.put_job-requires-clause-blocks
 put_job-requires-clause-blocks c = omega (arith, c.loop-k.invariant.room, c.loop-k.auto.values)

@@ -1,9 +1,7 @@
 -- The goals of `identity` that are proved by lemmas.
-use Rattle.std.proofs.Common.{arith, ◌≡◌, ℕ, List, true, length, ap, sym, ◌∙◌, subst}
+use Rattle.std.proofs.Common.{arith, ◌≡◌, length, ap, sym, ◌∙◌}
 use Rattle.std.proofs.lemmas.List.{take_at}
-use Rattle.msp_class.specs.declared.class.Class.{Class}
 use Rattle.msp_class.proofs.RankLemmas.{rank_of-below}
-use Rattle.msp_closure.specs.Relation.{relates}
 use Rattle.msp_closure.proofs.RelationLemmas.{none_related, itself_next, alone_next}
 use Rattle.msp_closure.proofs.relation.Relation.identity.Goals as goal
 
@@ -18,11 +16,9 @@ pub loop-n-preserved : goal.loop-n-preserved
 loop-n-preserved c =
     let before : c.deref_mut.result.now ≡ c.loop-n.words.items = c.deref_mut.ensures.value in
     let len : length c.relate.new.words ≡ length c.loop-n.words.items = c.relate.auto.words ∙ ap length before in
-    let P : List ℕ → Type 0 = λ ws. (a b : Class) → relates ws a b ≡ true → a ≡ b in
-    let Q : List ℕ → Type 0 = λ ws. (a : Class) → relates ws a a ≡ true in
     rw (take_at c.relate.new.words _ c.loop-n.words.len (len ∙ sym c.loop-n.words.ok.0)) (
       len ∙ c.loop-n.invariant.0,
-      alone_next c.deref_mut.result.now c.relate.new.words c.class_at-c.result (subst P (sym before) c.loop-n.invariant.1) c.relate.ensures.others,
+      alone_next c.deref_mut.result.now c.relate.new.words c.class_at-c.result (rw before c.loop-n.invariant.1) c.relate.ensures.others,
       itself_next c.deref_mut.result.now c.relate.new.words c.loop-n.n c.class_at-c.result c.class_at-c.ensures
           (rw before c.loop-n.invariant.2) c.relate.ensures.related c.relate.ensures.kept,
     )

@@ -1,6 +1,6 @@
 -- The goals of `pieces_at` that are proved by lemmas.
 use Rattle.std.proofs.Common.{refl}
-use Rattle.std.proofs.lemmas.Result.{err_from_is_err_and}
+use Rattle.msp_file.proofs.instances.AnswerLemmas.{failed}
 use Rattle.msp_grammar.proofs.reading.Lines.{leaves_all, leaves_next, leaves_last, leaves_fault}
 use Rattle.msp_file.proofs.schedule.read.pieces_at.Goals as goal
 
@@ -15,5 +15,4 @@ returns c = let step = rw c.if-branch.false at c.in_ok-piece_step.ensures.after 
 
 pub returns-in_err-piece_step : goal.returns-in_err-piece_step
 returns-in_err-piece_step c =
-    let p = err_from_is_err_and c.from_residual.result c.from_residual.ensures.1 in
-    rw (p.1, p.2) (leaves_fault _ _ _ _ _ c.in_err-piece_step.field-0.0 c.in_err-piece_step.ensures.after c.lines.invariant)
+    rw (failed _ c.from_residual.ensures.1) (leaves_fault _ _ _ _ _ c.in_err-piece_step.field-0.0 c.in_err-piece_step.ensures.after c.lines.invariant)

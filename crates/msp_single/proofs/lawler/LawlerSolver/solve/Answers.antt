@@ -16,11 +16,13 @@ solution_in_order-requires-clause-short c = (made c).short
 
 pub returns-clause-order : goal.returns-clause-order
 returns-clause-order c =
-    jobs_in_order (IsLawlerOrder c.args.inst.now) c.args.inst.now c.deref.result.now c.solution_in_order.result (in_order (goal.at.returns-clause-order c).After-deref) c.solution_in_order.ensures.schedule
+    jobs_in_order (IsLawlerOrder c.args.inst.now) c.args.inst.now c.deref.result.now c.solution_in_order.result
+    (in_order (goal.at.returns-clause-order c).After-deref) c.solution_in_order.ensures.schedule
 
 pub solution_in_order-requires-clause-feasible : goal.solution_in_order-requires-clause-feasible
 solution_in_order-requires-clause-feasible c = (made c).best.feasible
 
 pub returns-clause-best : goal.returns-clause-best
 returns-clause-best c =
-    best_in_order c.args.inst.now c.deref.result.now c.solution_in_order.result (made (goal.at.returns-clause-best c).After-deref).best c.solution_in_order.ensures.schedule c.solution_in_order.ensures.cost
+    best_in_order c.args.inst.now c.deref.result.now c.solution_in_order.result
+    (made (goal.at.returns-clause-best c).After-deref).best c.solution_in_order.ensures.schedule c.solution_in_order.ensures.cost

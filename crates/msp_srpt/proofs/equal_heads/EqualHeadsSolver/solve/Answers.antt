@@ -1,6 +1,6 @@
 use Rattle.std.proofs.Common.{sym, subst}
-use Rattle.msp_srpt.specs.EqualHeads.{RunByHeads, EndsFirst}
-use Rattle.msp_srpt.proofs.HeadBest.{IsHeadsAnswer-read}
+use Rattle.msp_srpt.specs.EqualHeads.{EndsFirst}
+use Rattle.msp_srpt.proofs.HeadEnds.{IsHeadsAnswer-read}
 use Rattle.msp_srpt.proofs.equal_heads.EqualHeadsSolver.solve.Goals as goal
 
 pub best_solution-requires-clause-best : goal.best_solution-requires-clause-best

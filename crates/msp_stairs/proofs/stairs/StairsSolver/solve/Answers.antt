@@ -3,7 +3,7 @@ use Rattle.std.specs.Prelude.{MatchOption}
 use Rattle.msp_stairs.specs.Steps.{IsTooLate, IsClimbed}
 use Rattle.msp_stairs.proofs.Tasks.{held}
 use Rattle.msp_stairs.specs.Bounds.{IsReady}
-use Rattle.msp_stairs.proofs.Bounds.{IsSolved, IsReady-shown, never_climbed, solved}
+use Rattle.msp_stairs.proofs.Soonest.{IsSolved, IsReady-shown, never_climbed, solved}
 use Rattle.msp_stairs.proofs.stairs.StairsSolver.solve.Goals as goal
 use Rattle.msp_stairs.proofs.stairs.StairsSolver.solve.Goals.{After-as_slice-2, After-from-unit}
 
@@ -16,7 +16,8 @@ made c =
     let i = c.args.inst.now in
     let order = c.as_slice-2.result.now in
     let limits = c.in_ok-limits.limits in
-    solved i order (IsReady-shown i c.in_ok-order.order.items order c.requires.class c.requires.inner c.in_ok-order.ensures.all c.in_ok-order.ensures.sorted c.as_slice-2.ensures.value) limits c.in_ok-limits.ensures c.in-Some.pieces
+    solved i order (IsReady-shown i c.in_ok-order.order.items order c.requires.class c.requires.inner c.in_ok-order.ensures.all
+    c.in_ok-order.ensures.sorted c.as_slice-2.ensures.value) limits c.in_ok-limits.ensures c.in-Some.pieces
     (subst (λ r. MatchOption r (IsTooLate i order limits) (IsClimbed i order limits)) c.in-Some.is c.in_ok-pieces.ensures) c.from-unit.result c.from-unit.ensures
 
 pub least_limits-requires : goal.least_limits-requires

@@ -4,7 +4,7 @@ use Rattle.msp_route.proofs.PlainJobs.{fair_needs, short_needs}
 use Rattle.msp_weighted.specs.Late.{IsLateOrder}
 use Rattle.msp_weighted.specs.Values.{IsTableOrder}
 use Rattle.msp_weighted.proofs.LateCost.{IsLateInstance-from_class}
-use Rattle.msp_weighted.proofs.LateBest.{IsBestRow-late, IsLateOrder-made}
+use Rattle.msp_weighted.proofs.LateBest.{late_row, late_order}
 use Rattle.msp_weighted.proofs.late_table.LateTableSolver.solve.Goals as goal
 use Rattle.msp_weighted.proofs.late_table.LateTableSolver.solve.Goals.{After-deref}
 
@@ -12,7 +12,7 @@ in_order : (c : After-deref) → IsTableOrder c.args.inst.now c.deref.result.now
 in_order c = subst (IsTableOrder c.args.inst.now) (sym c.deref.ensures.value) c.in_ok-order.ensures
 
 made : (c : After-deref) → IsBestRow c.args.inst.now c.deref.result.now
-made c = IsBestRow-late c.args.inst.now c.requires.class c.requires.inner c.deref.result.now (in_order c)
+made c = late_row c.args.inst.now (IsLateInstance-from_class c.args.inst.now c.requires.class c.requires.inner) c.deref.result.now (in_order c)
 
 pub late_order-requires-clause-few : goal.late_order-requires-clause-few
 late_order-requires-clause-few c = c.requires.inner.conditions.few
@@ -34,8 +34,10 @@ solution_in_order-requires-clause-feasible c = (made c).best.feasible
 
 pub returns-clause-order : goal.returns-clause-order
 returns-clause-order c = jobs_in_order (IsLateOrder c.args.inst.now) c.args.inst.now c.deref.result.now c.solution_in_order.result
-    (IsLateOrder-made c.args.inst.now c.requires.class c.requires.inner _ (in_order (goal.at.returns-clause-order c).After-deref)) c.solution_in_order.ensures.schedule
+    (late_order c.args.inst.now (IsLateInstance-from_class c.args.inst.now c.requires.class c.requires.inner) _
+    (in_order (goal.at.returns-clause-order c).After-deref)) c.solution_in_order.ensures.schedule
 
 pub returns-clause-best : goal.returns-clause-best
 returns-clause-best c =
-    best_in_order c.args.inst.now c.deref.result.now c.solution_in_order.result (made (goal.at.returns-clause-best c).After-deref).best c.solution_in_order.ensures.schedule c.solution_in_order.ensures.cost
+    best_in_order c.args.inst.now c.deref.result.now c.solution_in_order.result
+    (made (goal.at.returns-clause-best c).After-deref).best c.solution_in_order.ensures.schedule c.solution_in_order.ensures.cost
