@@ -1,8 +1,9 @@
 -- Where the chain leads.
-use Rattle.std.proofs.Common.{◌<◌, length, sym, subst}
+use Rattle.std.proofs.Common.{◌≡◌, ◌<◌, length, sym, ap, subst, IfOk}
 use Rattle.msp_table.specs.Rows.{carries}
 use Rattle.msp_table.specs.Chains.{Leads, stay}
-use Rattle.msp_carry.proofs.ChainSteps.{behind, first_step, no_rows, IfOk-leads}
+use Rattle.msp_carry.specs.Carried.{carried}
+use Rattle.msp_carry.proofs.ChainSteps.{behind, first_step, no_rows, carried_on, IfOk-leads}
 use Rattle.msp_carry.proofs.along.+carry_on.Goals as goal
 
 pub carry_on-requires : goal.carry_on-requires
@@ -25,3 +26,11 @@ down-requires-clause-carries t c = (first_step c.args.inst c.row-item.result c.a
 
 pub down-requires-clause-applies : goal.down-requires-clause-applies
 down-requires-clause-applies t c = (first_step c.args.inst c.row-item.result c.args.rows.now c.requires.chain.0 c.in-len1-up.len_at_least c.row-item.is c.requires.chain.1).applies
+
+pub returns-in-empty-clause-same : goal.returns-in-empty-clause-same
+returns-in-empty-clause-same t c = ap (λ rows. carried rows c.args.inst) (sym (no_rows c.args.rows.now c.in-empty.len_below))
+
+pub returns-in_ok-lower-in-len1-up-clause-same : goal.returns-in_ok-lower-in-len1-up-clause-same
+returns-in_ok-lower-in-len1-up-clause-same t c =
+    let first = first_step c.args.inst c.row-item.result c.args.rows.now c.requires.chain.0 c.in-len1-up.len_at_least c.row-item.is c.requires.chain.1 in
+    subst (λ x. IfOk c.carry_on.result (λ j. j ≡ x)) (sym (carried_on first c.in_ok-lower-in-len1-up.ensures.same)) c.carry_on.ensures.same
