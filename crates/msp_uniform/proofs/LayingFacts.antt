@@ -1,6 +1,6 @@
 -- A job is laid over one segment after another.
-use Rattle.std.proofs.Common.{◌≡◌, ℕ, zero, suc, ◌+◌, ◌*◌, ◌-◌, ◌/◌, ◌<◌, ◌≤◌, ◌⊎◌, min, inl, inr, Bool, false, true, List, [], ◌∷◌, ◌++◌, ◌∙◌, length, All, refl, sym, ap}
-use Rattle.std.proofs.Common.{append-nil, append_assoc, subst, subst₂, arith}
+use Rattle.std.proofs.Common.{◌≡◌, ℕ, zero, suc, ◌+◌, ◌*◌, ◌-◌, ◌/◌, ◌<◌, ◌≤◌, ◌⊎◌, min, inl, inr, Bool, false, true, List, [], ◌∷◌, ◌++◌, ◌∙◌, length, drop, All, refl, sym, ap}
+use Rattle.std.proofs.Common.{append-nil, append_assoc, length-drop, subst, subst₂, arith}
 use Rattle.std.specs.Int.{◌∣◌}
 use Rattle.std.proofs.Math.Nat.{div-mul_cancel}
 use Rattle.std.proofs.lemmas.List.{length-append, nil_from_length}
@@ -245,6 +245,13 @@ module _ (speed : ℕ → ℕ) (job r : ℕ) where
         early_is = h.early_is;
       }
 
+      -- where no segment is late, nothing is left to gain
+      pub IsLaying-none : (late late' : List Segment)
+          → late ≡ late' → late' ≡ drop 1 late → IsLaying speed job r whole left xs early0 early late → IsLaidHere speed job r whole early0 xs early late'
+      IsLaying-none late late' e f h =
+          let none = nil_from_length h.others (omega (arith, ap length h.late_is, length-append h.seconds h.others, ap length e, ap length f, length-drop 1 late)) in
+          subst (IsLaidHere speed job r whole early0 xs early) e (IsLaying-end late (subst (CanGain (rate_at speed r) left) none h.more) h)
+
 -- ---- a job over all segments
 module _ (speed : ℕ → ℕ) (job r whole : ℕ) where
   pub AreLaidUpTo-start : (xs fs ss : List Segment) → fs ≡ [] → ss ≡ [] → CanGain (gain_at true speed r) whole xs → AreLaidUpTo speed job r whole whole xs xs fs ss
@@ -256,6 +263,13 @@ module _ (speed : ℕ → ℕ) (job r whole : ℕ) where
   }
 
   module _ (left : ℕ) (xs fs ss : List Segment) where
+    pub AreLaidUpTo-end : (ahead ahead' : List Segment)
+        → ahead ≡ ahead' → ahead' ≡ drop 1 ahead → AreLaidUpTo speed job r whole left xs ahead fs ss → AreLaid true speed job r whole 0 xs fs ss
+    AreLaidUpTo-end ahead ahead' e f h =
+        let none = nil_from_length ahead (omega (arith, ap length e, ap length f, length-drop 1 ahead)) in
+        let over : left ≡ 0 = subst (CanGain (gain_at true speed r) left) none h.more in
+        subst₂ (λ l ys. AreLaid true speed job r whole l ys fs ss) over (sym (h.all ∙ ap (λ l. h.done ++ l) none ∙ append-nil h.done)) h.laid
+
     module _ (x : Segment) (ahead ahead0 : List Segment) (next : ahead0 ≡ x ∷ ahead) (h : AreLaidUpTo speed job r whole left xs ahead0 fs ss) where
       are_next : xs ≡ h.done ++ (x ∷ ahead)
       are_next = h.all ∙ ap (λ l. h.done ++ l) next

@@ -4,7 +4,7 @@ use Rattle.std.proofs.Common.{refl, sym, ap, subst, ◌∙◌, add-one, arith}
 use Rattle.std.specs.Int.{◌∣◌}
 use Rattle.std.proofs.Math.Nat.{le_trans, one-le-mul, mul-le-mul_left, dvd-mul_left, dvd-mul_right_of_dvd}
 use Rattle.std.proofs.lemmas.List.{length-append, drop_all}
-use Rattle.std.proofs.lemmas.List.Elements.{All-append, All-head, All-weaker, length_all_zip}
+use Rattle.std.proofs.lemmas.List.Elements.{All-nil, All-append, All-head, All-weaker, length_all_zip}
 use Rattle.msp_class.proofs.Sums.{sum_by-append, sum_by-cons}
 use Rattle.msp_uniform.specs.declared.unit.TheConstants.{GREATEST_PRODUCT}
 use Rattle.msp_uniform.specs.declared.segments.Segment.{Segment}
@@ -186,3 +186,11 @@ module _ (t : Task) (jobs : List ℕ) (k d : ℕ) (turned : Bool) (unit h : ℕ)
       by : (h : ℕ) → IsReached t (drop k jobs) unit h xs → unit * at t.times.items (get_or jobs k d) ≤ amount (rate_at (at t.speeds.items) (h - 1)) xs → AreShort t (drop k jobs) unit h xs
       by zero q s = absurd (omega (arith, q.places))
       by (suc g) q s = longest_first t.speeds.items (length t.times.items) (at t.times.items) (drop k jobs) unit q.end g xs (get_or jobs k d) (drop (suc k) jobs) _ (drop-cons jobs k d l) q.plan s
+
+-- no job is left
+pub IsReached-all : (t : Task) (jobs : List ℕ) (k unit h : ℕ) (xs : List Segment) → length jobs ≤ k → IsReached t (drop k jobs) unit h xs → IsReached t (drop (length jobs) jobs) unit h xs
+IsReached-all t jobs k unit h xs l = subst (λ js. IsReached t js unit h xs) (drop_all k jobs l ∙ sym (drop_all (length jobs) jobs (omega arith)))
+
+pub AreShort-all : (t : Task) (jobs : List ℕ) (unit h : ℕ) (xs : List Segment) → AreShort t (drop (length jobs) jobs) unit h xs
+AreShort-all t jobs unit h xs = subst (λ js. AreShort t js unit h xs) (sym (drop_all (length jobs) jobs (omega arith)))
+    (All-nil (λ j. unit * at t.times.items j ≤ amount (rate_at (at t.speeds.items) (h - 1)) xs))

@@ -1,6 +1,6 @@
 use Rattle.std.proofs.Common.{◌≡◌, ◌≤◌, false, length, arith}
 use Rattle.msp_uniform.specs.Segments.{HasPlaces, greatest_length}
-use Rattle.msp_uniform.proofs.LayingFacts.{IsLaying-start, laying_next, laying_gains, laying_fewer, IsLaying-next, IsLaying-end}
+use Rattle.msp_uniform.proofs.LayingFacts.{IsLaying-start, laying_next, laying_gains, laying_fewer, IsLaying-next, IsLaying-none, IsLaying-end}
 use Rattle.msp_uniform.proofs.laying.lay.Goals as goal
 
 pub late-init : goal.late-init
@@ -25,6 +25,9 @@ late-smaller c = laying_fewer _ _ _ _ _ _ _ _ _ _ _ c.in-Some.ensures.items (ome
 
 pub late-preserved : goal.late-preserved
 late-preserved c = IsLaying-next _ _ _ _ _ _ _ _ _ _ _ c.in-Some.ensures.items (omega (arith, c.late-test.true)) c.late.invariant _ _ _ c.in_ok-left-in-Some.ensures
+
+pub returns-in-None : goal.returns-in-None
+returns-in-None c = IsLaying-none _ _ _ _ _ _ _ _ _ _ c.in-None.ensures.items c.in-None.ensures.rest c.late.invariant
 
 pub returns : goal.returns
 returns c = IsLaying-end _ _ _ _ _ _ _ _ _ (omega (arith, c.late-test.false)) c.late.invariant

@@ -1,6 +1,6 @@
 use Rattle.std.proofs.Common.{◌≡◌, ◌≤◌, true, ap, length, arith}
 use Rattle.msp_uniform.specs.Segments.{HasPlaces, greatest_length}
-use Rattle.msp_uniform.proofs.LayingFacts.{AreLaidUpTo-start, laid_next, laid_gains, AreLaidUpTo-next}
+use Rattle.msp_uniform.proofs.LayingFacts.{AreLaidUpTo-start, laid_next, laid_gains, AreLaidUpTo-next, AreLaidUpTo-end}
 use Rattle.msp_uniform.proofs.laying.lay_over_all.Goals as goal
 
 pub segments-init : goal.segments-init
@@ -23,3 +23,6 @@ segments-smaller c = let next = ap length c.in-Some.ensures.items in omega (arit
 
 pub segments-preserved : goal.segments-preserved
 segments-preserved c = AreLaidUpTo-next _ _ _ _ _ _ _ _ _ _ _ c.in-Some.ensures.items c.segments.invariant _ _ _ c.in_ok-left.ensures
+
+pub returns : goal.returns
+returns c = AreLaidUpTo-end _ _ _ _ _ _ _ _ _ _ c.in_default.ensures.items c.in_default.ensures.rest c.segments.invariant
