@@ -1,5 +1,5 @@
 -- One item more: what the class has then, and when the item fits.
-use Rattle.std.proofs.Common.{◌≡◌, ◌∙◌, refl, sym, ap, subst, Bool, true, false, cond, ◌||◌, ◌⊎◌, inl, inr, Option, Some, None}
+use Rattle.std.proofs.Common.{◌≡◌, ◌∙◌, refl, sym, ap, ap₂, subst, Bool, true, false, cond, ◌||◌, ◌⊎◌, inl, inr, Option, Some, None}
 use Rattle.msp_class.specs.declared.class.Class.{Class}
 use Rattle.msp_class.specs.declared.class.Env.{Env}
 use Rattle.msp_class.specs.declared.class.Env.TheVariants as e
@@ -148,13 +148,19 @@ fits_order s r p h = rw h (r, refl)
 fits_times : (s : Class) (r : Class) (p : Times) → p ≡ t.General → (d : Class) × (elim p as (λ _. Option Class) [ t.General ↦ Some r | _ ↦ None ] ≡ Some d)
 fits_times s r p h = rw h (r, refl)
 
+is_short-plain : (y : Env) → is_short y ≡ true → (plain_env y ≡ e.J2) ⊎ (plain_env y ≡ e.J)
+is_short-plain e.J2Short h = inl refl
+is_short-plain e.JShort h = inr refl
+is_short-plain _ h = cc
+
+not_short-plain : (x : Env) → is_short x ≡ false → x ≡ plain_env x
+not_short-plain e.J2Short h = cc
+not_short-plain e.JShort h = cc
+not_short-plain _ h = refl
+
 short_of : (x y : Env) (r q : Class) → plain_env x ≡ plain_env y
     → is_short y ≡ true → is_short x ≡ false → (d : Class) × (elim x as (λ _. Option Class) [ e.J2 ↦ Some r | e.J ↦ Some q | _ ↦ None ] ≡ Some d)
-short_of e.J2 y r q h k m = (r, refl)
-short_of e.J y r q h k m = (q, refl)
-short_of x e.J2Short r q h k m = cc
-short_of x e.JShort r q h k m = cc
-short_of _ _ r q h k m = cc
+short_of x y r q h k m = elim (is_short-plain y k) [ inl p ↦ rw (not_short-plain x m ∙ h ∙ p) (r, refl) | inr p ↦ rw (not_short-plain x m ∙ h ∙ p) (q, refl) ]
 
 -- an item of the class that `s` lacks fits
 pub fits_within : (s c : Class) (x : Item) → Within s c → has_item c x ≡ true → has_item s x ≡ false → Fits s x
@@ -195,23 +201,20 @@ env_back e.J2Short = refl
 env_back e.JShort = refl
 env_back _ = refl
 
+order_same : (p q : Order)
+    → order_eq p o.Chains ≡ order_eq q o.Chains → order_eq p o.Intree ≡ order_eq q o.Intree → order_eq p o.Outtree ≡ order_eq q o.Outtree → order_eq p o.Prec ≡ order_eq q o.Prec → p ≡ q
+order_same p q a b c d =
+    let same : order_from (order_eq p o.Chains) (order_eq p o.Intree) (order_eq p o.Outtree) (order_eq p o.Prec)
+    ≡ order_from (order_eq q o.Chains) (order_eq q o.Intree) (order_eq q o.Outtree) (order_eq q o.Prec) = λ j. order_from (a j) (b j) (c j) (d j) in
+    sym (order_back p) ∙ same ∙ order_back q
+
 class_eq : (s c : Class) → s.env ≡ c.env → s.cut ≡ c.cut → s.order ≡ c.order → s.heads ≡ c.heads → s.times ≡ c.times → s.crit ≡ c.crit → s ≡ c
 class_eq s c a b d f g h = λ j. record { env = a j; cut = b j; order = d j; heads = f j; times = g j; crit = h j }
 
 -- a class is given by its plain environment, its items and its criterion
 pub class_same : (s c : Class) → ((y : Item) → has_item c y ≡ has_item s y) → plain_env s.env ≡ plain_env c.env → s.crit ≡ c.crit → s ≡ c
 class_same s c h m k =
-    let chains : order_eq c.order o.Chains ≡ order_eq s.order o.Chains = h i.Chains in
-    let intree : order_eq c.order o.Intree ≡ order_eq s.order o.Intree = h i.Intree in
-    let outtree : order_eq c.order o.Outtree ≡ order_eq s.order o.Outtree = h i.Outtree in
-    let prec : order_eq c.order o.Prec ≡ order_eq s.order o.Prec = h i.Prec in
-    let short : is_short c.env ≡ is_short s.env = h i.Short in
-    let unit : times_eq c.times t.Unit ≡ times_eq s.times t.Unit = h i.Unit in
-    let equal : times_eq c.times t.Equal ≡ times_eq s.times t.Equal = h i.Equal in
-    let os = order_back s.order in
-    let oc = order_back c.order in
-    let es = env_back s.env in
-    let ec = env_back c.env in
-    let ts = times_back s.times in
-    let tc = times_back c.times in
-    class_eq s c (cc) (sym (h i.Cut)) (cc) (sym (h i.Heads)) (cc) k
+    let env = sym (env_back s.env) ∙ ap₂ env_from (sym (h i.Short)) m ∙ env_back c.env in
+    let times = sym (times_back s.times) ∙ ap₂ times_from (sym (h i.Unit)) (sym (h i.Equal)) ∙ times_back c.times in
+    let order = order_same s.order c.order (sym (h i.Chains)) (sym (h i.Intree)) (sym (h i.Outtree)) (sym (h i.Prec)) in
+    class_eq s c env (sym (h i.Cut)) order (sym (h i.Heads)) times k
