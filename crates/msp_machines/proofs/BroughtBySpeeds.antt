@@ -1,13 +1,16 @@
 -- What is brought back from unrelated machines to uniform ones.
-use Rattle.std.proofs.Common.{◌≡◌, ℕ, ◌≤◌, false, ℤ, pos, negsuc, ◌*ℤ◌, ◌≤ℤ◌, ◌<ℤ◌, sym, ap, subst, ◌∙◌, arith}
+use Rattle.std.proofs.Common.{◌≡◌, ℕ, ◌≤◌, List, length, All, false, ℤ, pos, negsuc, ◌*ℤ◌, ◌≤ℤ◌, ◌<ℤ◌, sym, ap, subst, ◌∙◌, arith}
 use Rattle.std.proofs.lemmas.Bool.{false≢true}
 use Rattle.std.proofs.lemmas.Int.{ints}
 use Rattle.std.proofs.lemmas.Nat.{mul-le}
 use Rattle.std.proofs.lemmas.List.Sorted.{IsPermutation-refl}
 use Rattle.std.specs.List.Sorted.{IsPermutation}
 use Rattle.msp_class.proofs.IntegerRing.{pos-le, le-pos}
-use Rattle.msp_class.specs.declared.sizes.TheConstants.{GREATEST_MULTIPLE}
+use Rattle.msp_class.specs.declared.sizes.TheConstants.{GREATEST_MULTIPLE, GREATEST_SPEED, MOST_MACHINES}
+use Rattle.msp_class.specs.declared.environments.EnvKind.TheVariants.{Uniform}
+use Rattle.msp_class.specs.Env.{kind_of}
 use Rattle.msp_instance.specs.declared.Instance.{Instance}
+use Rattle.msp_instance.specs.Conditions.{HasSpeeds, Inner}
 use Rattle.msp_pieces.specs.declared.limits.TheConstants.{GREATEST_CARRIED_UNIT}
 use Rattle.msp_pieces.specs.declared.Schedule.{Schedule}
 use Rattle.msp_pieces.specs.declared.Solution.{Solution}
@@ -22,6 +25,21 @@ use Rattle.msp_route.proofs.Kept.{raises, KeepsBounds-unraised}
 use Rattle.msp_route.specs.Rates.{least_common_multiple, speed_rate}
 use Rattle.msp_machines.specs.Unrelated.{shrunk_schedule}
 use Rattle.msp_machines.specs.laws.Stretched.{IsLedBySpeeds}
+
+-- the speeds and the schedule, as the code reads them
+module _ (i : Instance) (inner : Inner i) (from : kind_of i.class.env ≡ Uniform) (speeds : List ℕ) (are : speeds ≡ i.speeds) where
+  has_speeds : HasSpeeds Uniform i.machines speeds
+  has_speeds = subst (HasSpeeds Uniform i.machines) (sym are) (subst (λ k. HasSpeeds k i.machines i.speeds) from inner.conditions.speeds)
+
+  pub speeds_within : All (λ s. (1 ≤ s) × (s ≤ GREATEST_SPEED)) speeds
+  speeds_within = has_speeds.1
+
+  pub speeds_few : length speeds ≤ MOST_MACHINES
+  speeds_few = omega (arith, has_speeds.0, inner.conditions.machines.1)
+
+pub shrunk_is : (i : Instance) (t s : Schedule) (n : ℕ) (speeds : List ℕ)
+    → s ≡ shrunk_schedule n t → n ≡ least_common_multiple speeds → speeds ≡ i.speeds → s ≡ shrunk_schedule (least_common_multiple i.speeds) t
+shrunk_is i t s n speeds e f g = e ∙ ap (λ k. shrunk_schedule k t) (f ∙ ap least_common_multiple g)
 
 unit_fits : (u : ℤ) (n : ℕ) → pos 1 ≤ℤ u → u ≤ℤ GREATEST_CARRIED_UNIT → 1 ≤ n → n ≤ GREATEST_MULTIPLE → IsUnit (u *ℤ pos n)
 unit_fits (negsuc u) n h k some small = absurd (omega (arith, ints))
