@@ -34,14 +34,16 @@ turns_in [] = 0
 turns_in (k ∷ ks) = turns_in ks + one_if (turns_dates k)
 
 -- from the makespan, which has one to spare, to the greatest lateness, which has none
+turned_when : (a c : Class) (h r m : Bool) → eqb (crit_number a.crit) 0 ≡ r
+    → (if (h && (r && true)) && m then Some (record a { order = turned a.order; heads = false; crit = Lmax }) else None) ≡ Some c → (spare a ≡ 1) × (spare c ≡ 0)
+unfolding spare
+turned_when a c true true true is g =
+    let same : record a { order = turned a.order; heads = false; crit = Lmax } ≡ c = cc in (ap one_if is, subst (λ x. spare x ≡ 0) same refl)
+turned_when a c _ _ _ is g = absurd (cc)
+
 turned_from : (a c : Class) → goes_of 47 a ≡ Some c → (spare a ≡ 1) × (spare c ≡ 0)
-unfolding goes_of table spare
-turned_from a c e = by (eqb (flag_number a.heads) 1) (eqb (crit_number a.crit) 0) (is_mirror a.env) refl e
-  where
-    by : (h r m : Bool) → eqb (crit_number a.crit) 0 ≡ r
-        → (if (h && (r && true)) && m then Some (record a { order = turned a.order; heads = false; crit = Lmax }) else None) ≡ Some c → (spare a ≡ 1) × (spare c ≡ 0)
-    by true true true is g = let same : record a { order = turned a.order; heads = false; crit = Lmax } ≡ c = cc in (ap one_if is, subst (λ x. spare x ≡ 0) same refl)
-    by _ _ _ is g = absurd (cc)
+unfolding goes_of table
+turned_from a c e = turned_when a c (eqb (flag_number a.heads) 1) (eqb (crit_number a.crit) 0) (is_mirror a.env) refl e
 
 -- at most every second row turns dates, and the first
 turns_in-few : (usable : ℕ → Bool) (a b : Class) (ks : List ℕ) → Leads usable a ks b → 2 * turns_in ks ≤ length ks + spare a
