@@ -1,14 +1,32 @@
-use Rattle.std.proofs.Common.{rules, All, to_z, of_z, ap, sym, subst}
-use Rattle.std.specs.Prelude.{IfSome, ◌↔◌}
+use Rattle.std.proofs.Common.{rules, All, to_z, of_z, ap, ◌∙◌, sym, subst}
+use Rattle.std.specs.Prelude.{IfSome, MatchOption, ◌↔◌}
 use Rattle.std.specs.Int.{w64, w128}
+use Rattle.std.proofs.lemmas.Bool.{false≢true}
 use Rattle.msp_instance.specs.Conditions.{InClass, LiesWithin}
 use Rattle.msp_instance.proofs.Limits.{Inner-from_class}
 use Rattle.msp_threshold.specs.Squeezed.{greatest_bound, HasTime, IsSqueezed, CanMeet, CanBeFree}
 use Rattle.msp_threshold.proofs.Bounds.{some_value, free_by_cost, zero_test, narrow_is}
 use Rattle.msp_threshold.proofs.search.LateJobsQuestion.ask.Goals as goal
 
+pub squeezed-requires-clause-bound : goal.squeezed-requires-clause-bound
+squeezed-requires-clause-bound g c = subst (LiesWithin greatest_bound) (sym (narrow_is c.args.bound c.requires.bound)) c.requires.bound
+
+pub returns-in-None : goal.returns-in-None
+returns-in-None g c =
+    let i = c.args.self.now.inst.now in
+    let b = to_z w64 (of_z w64 (to_z w128 (of_z w128 c.args.bound))) in
+    let none = subst (λ o. MatchOption o (CanMeet i b → ⊥) (λ l. CanBeFree l ↔ CanMeet i b)) c.in-None.is c.in_ok-squeezed.ensures.law in
+    ((λ e. absurd (false≢true e)), (λ m. absurd (none (subst (CanMeet i) (sym (narrow_is c.args.bound c.requires.bound)) m))))
+
 pub solve-requires-clause-inner : goal.solve-requires-clause-inner
 solve-requires-clause-inner g c = Inner-from_class c.in-Some.lower (subst (λ o. IfSome o InClass) c.in-Some.is c.in_ok-squeezed.ensures.inside)
+
+pub solve-requires-clause-class : goal.solve-requires-clause-class
+solve-requires-clause-class g c =
+    let i = c.args.self.now.inst.now in
+    let b = to_z w64 (of_z w64 (to_z w128 (of_z w128 c.args.bound))) in
+    let squeezed = some_value (All (HasTime b) i.jobs → ⊥) (IsSqueezed i b) c.in_ok-squeezed.field-0 c.in-Some.lower c.in-Some.is c.in_ok-squeezed.ensures.value in
+    ap (λ l. l.class) squeezed.value ∙ sym c.requires.asked.solves
 
 pub solve-requires-clause-fits : goal.solve-requires-clause-fits
 solve-requires-clause-fits g c =
