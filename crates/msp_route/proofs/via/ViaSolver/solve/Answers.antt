@@ -19,16 +19,12 @@ pub down-requires-clause-applies : goal.down-requires-clause-applies
 down-requires-clause-applies g c = applies _ _ _ _ c.requires.class c.args.self.now.leads
 
 pub solve-requires-clause-inner : goal.solve-requires-clause-inner
-solve-requires-clause-inner g c =
-    let applied = applies _ _ _ _ c.requires.class c.args.self.now.leads in
-    let led = g.met.R.Reduction.lower_is c.args.self.now.first c.args.inst.now c.requires.inner applied in
-    subst Inner (sym c.in_ok-lower.ensures) led.inner
+solve-requires-clause-inner g c = subst Inner (sym c.in_ok-lower.ensures)
+    (g.met.R.Reduction.lower_is c.args.self.now.first c.args.inst.now c.requires.inner (applies _ _ _ _ c.requires.class c.args.self.now.leads)).inner
 
 pub solve-requires-clause-class : goal.solve-requires-clause-class
-solve-requires-clause-class g c =
-    let applied = applies _ _ _ _ c.requires.class c.args.self.now.leads in
-    let led = g.met.R.Reduction.lower_is c.args.self.now.first c.args.inst.now c.requires.inner applied in
-    ap (λ j. j.class) c.in_ok-lower.ensures ∙ led_class _ _ _ _ _ c.requires.class c.args.self.now.leads led.class
+solve-requires-clause-class g c = ap (λ j. j.class) c.in_ok-lower.ensures ∙ led_class _ _ _ _ _ c.requires.class c.args.self.now.leads
+    (g.met.R.Reduction.lower_is c.args.self.now.first c.args.inst.now c.requires.inner (applies _ _ _ _ c.requires.class c.args.self.now.leads)).class
 
 pub solve-requires-clause-fits : goal.solve-requires-clause-fits
 solve-requires-clause-fits g c = subst (g.S.Solver.can_solve c.args.self.now.second) (sym c.in_ok-lower.ensures) c.requires.fits
