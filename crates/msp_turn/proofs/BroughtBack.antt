@@ -96,8 +96,9 @@ unit_read j t D one f b e =
     let fits : FitsSigned w128 t.unit = omega (arith, ints, f.unit, most) in
     e ∙ ap nat_abs (to_z-of_z w128 t.unit fits)
 
--- what the code finds: the order lists all jobs, in it they are feasible, and so they are brought back
+-- what the code finds: the unit is small, the order lists all jobs, in it they are feasible, and so they are brought back
 pub record IsFoundLine (row : ℕ) (i j : Instance) (upper t : Schedule) (D : ℕ) (order : List ℕ) : Type 0 where
+  pub unit : pos D ≤ℤ GREATEST_UNIT
   pub all : IsPermutation (range_with_len 0 (length i.jobs)) order
   pub feasible : Feasible i (lined_up i D order)
   pub brought : (s : Solution) → IsLinedUp i D order s → IsBrought row i j upper t s
@@ -124,6 +125,7 @@ module _ (row : ℕ) (i j : Instance) (t upper : Schedule)
 
   pub found_line : IsFoundLine row i j upper t D order
   found_line = record {
+    unit = small_unit row i j t upper D order lines one other same inner lower f b unit_is found_all line_is law;
     all = found_all;
     feasible = subst (Feasible i) line_is (law f).0;
     brought = brought_line row i j t upper D order lines one other same inner lower f b unit_is found_all line_is law;

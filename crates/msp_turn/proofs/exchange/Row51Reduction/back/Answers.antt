@@ -22,6 +22,9 @@ line_up-requires-clause-machine c = (exchange_51 c.args.inst.now c.requires.inne
 pub line_up-requires-clause-all : goal.line_up-requires-clause-all
 line_up-requires-clause-all c = (found c).all
 
+pub line_up-requires-clause-unit : goal.line_up-requires-clause-unit
+line_up-requires-clause-unit c = (found c).unit
+
 pub line_up-requires-clause-feasible : goal.line_up-requires-clause-feasible
 line_up-requires-clause-feasible c = (found c).feasible
 

@@ -21,6 +21,9 @@ found c =
 pub line_up-requires-clause-machine : goal.line_up-requires-clause-machine
 line_up-requires-clause-machine c = (Recuts-50 c.args.inst.now c.requires.applies).env
 
+pub line_up-requires-clause-unit : goal.line_up-requires-clause-unit
+line_up-requires-clause-unit c = (found c).unit
+
 pub line_up-requires-clause-feasible : goal.line_up-requires-clause-feasible
 line_up-requires-clause-feasible c = (found c).feasible
 
