@@ -1,14 +1,13 @@
 -- How many jobs have at least a level, level by level, and what the levels of all jobs are worth with each tail.
-use Rattle.std.proofs.Common.{◌≡◌, ℕ, zero, suc, ◌+◌, ◌-◌, ◌/◌, ◌<◌, ◌≤◌, inl, inr, Bool, cond, List, length, get_or, set, take, count_by, Some, All, pos, refl}
+use Rattle.std.proofs.Common.{◌≡◌, ℕ, zero, suc, ◌+◌, ◌-◌, ◌/◌, ◌<◌, ◌≤◌, Bool, cond, List, length, get_or, take, count_by, Some, All, pos, refl}
 use Rattle.std.proofs.Common.{sym, ap, subst, ◌∙◌, arith}
 use Rattle.std.specs.Prelude.{Any, nat_le, ◌==◌}
-use Rattle.std.proofs.lemmas.Bool.{eq-eqb, ne_eqb}
 use Rattle.std.proofs.lemmas.Bool.Decides.{nat_tests}
-use Rattle.std.proofs.lemmas.List.{get_or_default, get_or-set_same, get_or-set_other, length-set, length-take-le}
+use Rattle.std.proofs.lemmas.List.{get_or_default, length-take-le}
 use Rattle.std.proofs.lemmas.List.Elements.{All-contains}
 use Rattle.msp_class.specs.declared.sizes.TheConstants.{MOST_JOBS}
 use Rattle.msp_class.specs.Sums.{total_below}
-use Rattle.msp_class.proofs.Sums.{sum_by-agree, sum_by-add, sum_by-constant, sum_by-some, sum_by-mono, sum_by-take_more, cond-le, cond-yes, cond-no, total_below-range}
+use Rattle.msp_class.proofs.Sums.{sum_by-agree, sum_by-add, sum_by-constant, sum_by-some, sum_by-mono, cond-le, total_below-range}
 use Rattle.msp_instance.specs.declared.Instance.{Instance}
 use Rattle.msp_instance.specs.Conditions.{InClass, IsSequence, GoesForward}
 use Rattle.msp_pieces.specs.declared.Frac.{Frac}
@@ -20,7 +19,6 @@ use Rattle.msp_cert.specs.declared.Proof.TheVariants.{Levels}
 use Rattle.msp_cert.specs.Certificates.{HasUnitJobs, of_job}
 use Rattle.msp_cert.specs.Search.{AreAllLevels}
 use Rattle.msp_cert.specs.Worth.{IsWorth}
-use Rattle.msp_class.proofs.Cases.{same_or_not}
 use Rattle.msp_cert.proofs.Decided.{levels_are_worth}
 
 -- ---- how many have at least a level
@@ -53,32 +51,11 @@ pub record AreCounted (level : List ℕ) (k : ℕ) (counts : List ℕ) : Type 0 
   pub wide : length counts ≡ MOST_JOBS
   pub each : (t : ℕ) → t < MOST_JOBS → get_or counts t 0 ≡ count_by (λ l. l == t) (take k level)
 
-pub none_counted : (level counts : List ℕ) → length counts ≡ MOST_JOBS → ((t : ℕ) → t < MOST_JOBS → get_or counts t 0 ≡ 0) → AreCounted level 0 counts
-none_counted level counts wide none = record { wide = wide; each = λ t l. none t l }
-
 at_most_all : (t : ℕ) (xs : List ℕ) → count_by (λ l. l == t) xs ≤ length xs
 at_most_all t xs = omega (arith, sum_by-mono (λ x. cond (x == t) 1 0) (λ _. 1) xs (λ k d l. cond-le (get_or xs k d == t) 1), sum_by-constant 1 xs)
 
 pub counted_few : (level counts : List ℕ) (k t : ℕ) → AreCounted level k counts → k ≤ length level → t < MOST_JOBS → get_or counts t 0 ≤ k
 counted_few level counts k t h l b = omega (arith, h.each t b, at_most_all t (take k level), length-take-le k level l)
-
-pub count_one : (level counts : List ℕ) (k value : ℕ) → k < length level → get_or level k 0 < MOST_JOBS
-    → value ≡ get_or counts (get_or level k 0) 0 + 1 → AreCounted level k counts → AreCounted level (k + 1) (set counts (get_or level k 0) value)
-count_one level counts k value l small is h = record { wide = length-set counts (get_or level k 0) value ∙ h.wide; each = each }
-  where
-    more : (t : ℕ) → count_by (λ l. l == t) (take (k + 1) level) ≡ count_by (λ l. l == t) (take k level) + cond (get_or level k 0 == t) 1 0
-    more t = sum_by-take_more (λ x. cond (x == t) 1 0) level k 0 l
-
-    each : (t : ℕ) → t < MOST_JOBS → get_or (set counts (get_or level k 0) value) t 0 ≡ count_by (λ l. l == t) (take (k + 1) level)
-    each t b = elim (same_or_not (get_or level k 0) t) [
-      | inl e ↦
-          let new = get_or-set_same counts (get_or level k 0) value 0 (omega (arith, small, h.wide)) in
-          let same = ap (λ x. get_or (set counts (get_or level k 0) value) x 0) e in
-          omega (arith, more t, cond-yes 1 (eq-eqb (get_or level k 0) t e), h.each t b, ap (λ x. get_or counts x 0) e, same, new, is)
-      | inr ne ↦
-          let other = get_or-set_other counts (get_or level k 0) t value 0 (λ e. ne (sym e)) in
-          omega (arith, more t, cond-no 1 (ne_eqb (get_or level k 0) t ne), h.each t b, other)
-    ]
 
 -- ---- no level is as great as the number of jobs
 beyond : (i : Instance) (order : List ℕ) → IsSequence i order → All (GoesForward order) i.arcs
