@@ -1,5 +1,5 @@
 -- The costs of the jobs, one by one.
-use Rattle.std.proofs.Common.{◌≡◌, ℕ, zero, suc, ◌+◌, ◌*◌, ◌<◌, ◌≤◌, List, [], ◌∷◌, length, get_or, take, fold, ℤ, pos, ◌+ℤ◌, refl, sym, ap, ◌∙◌, subst, arith, zero-add, slice_index_or}
+use Rattle.std.proofs.Common.{◌≡◌, ℕ, zero, suc, ◌+◌, ◌*◌, ◌<◌, ◌≤◌, List, [], ◌∷◌, length, get_or, take, fold, ℤ, pos, ◌+ℤ◌, refl, sym, ap, ◌∙◌, subst, subst₂, All, arith, zero-add, slice_index_or}
 use Rattle.std.specs.Int.{int_max}
 use Rattle.std.proofs.lemmas.List.Sums.{fold_more}
 use Rattle.std.proofs.lemmas.List.{take_all}
@@ -9,7 +9,7 @@ use Rattle.msp_instance.specs.declared.Job.{Job}
 use Rattle.msp_instance.specs.Conditions.{LiesWithin}
 use Rattle.msp_pieces.specs.Cost.{job_cost, job_costs, greatest}
 use Rattle.msp_pieces.specs.Feasible.{total}
-use Rattle.msp_pieces.specs.Within.{greatest_cost, IsMoment}
+use Rattle.msp_pieces.specs.Within.{HasSmallCost, greatest_cost, IsMoment}
 
 pub length-job_costs : (crit : Crit) (unit : ℤ) (end : ℕ → ℤ) (a : ℕ) (jobs : List Job) → length (job_costs crit unit end a jobs) ≡ length jobs
 length-job_costs crit unit end a [] = refl
@@ -109,6 +109,9 @@ ReachesTo-first crit unit ends jobs j end x new some is at e small e' =
 
 pub passed_moment : (x y : ℤ) → x ≡ y → IsMoment y → IsMoment x
 passed_moment x y e h = subst IsMoment (sym e) h
+
+pub passed_cost : (u unit : ℤ) (jobs : List Job) (k : ℕ) (j : Job) → u ≡ unit → k < length jobs → j ≡ get_or jobs k j → All (HasSmallCost unit) jobs → HasSmallCost u j
+passed_cost u unit jobs k j e h is small = subst₂ HasSmallCost (sym e) (sym is) (small k j h)
 
 pub passed_max : (new r top x y : ℤ) → r ≡ int_max top y → y ≡ x → new ≡ r → new ≡ int_max top x
 passed_max new r top x y e f g = g ∙ e ∙ ap (int_max top) f

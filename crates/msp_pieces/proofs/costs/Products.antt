@@ -1,11 +1,12 @@
 -- The product of two numbers as a call passes them, where the product of the numbers is small.
-use Rattle.std.proofs.Common.{◌≡◌, ℕ, ◌*◌, ◌<◌, ◌≤◌, Bool, ℤ, pos, negsuc, ◌*ℤ◌, int_lt, unsigned_abs, sym, subst, subst₂, arith, lit≤}
+use Rattle.std.proofs.Common.{◌≡◌, ℕ, ◌*◌, ◌<◌, ◌≤◌, Bool, ℤ, pos, negsuc, ◌*ℤ◌, int_lt, unsigned_abs, sym, subst, subst₂, lt_of_le_of_lt, arith, lit≤, lit<}
 use Rattle.std.proofs.lemmas.Int.{ints}
+use Rattle.std.proofs.lemmas.Nat.{mul-le}
 use Rattle.msp_class.specs.declared.sizes.TheConstants.{GREATEST, GREATEST_SPEED}
 use Rattle.msp_class.proofs.IntegerRing.{*ℤ_comm}
 use Rattle.msp_instance.specs.Conditions.{LiesWithin}
 use Rattle.msp_pieces.specs.Within.{i128_limit, IsMoment, greatest_cost, greatest_lateness, greatest_slope_cost, greatest_length, greatest_work}
-use Rattle.msp_pieces.specs.declared.limits.TheConstants.{GREATEST_MOMENT}
+use Rattle.msp_pieces.specs.declared.limits.TheConstants.{GREATEST_MOMENT, GREATEST_COMPARED_NUMERATOR, GREATEST_COMPARED_DENOMINATOR}
 use Rattle.msp_pieces.proofs.costs.Small.{product_within}
 
 sizes_small : (x y : ℤ) (k : ℕ) → LiesWithin k (x *ℤ y) → unsigned_abs x * unsigned_abs y ≤ k
@@ -15,6 +16,11 @@ sizes_small _ _ k h = omega (arith, ints, h)
 
 pub product_fits : {a b x y : ℤ} (k : ℕ) → a ≡ x → b ≡ y → LiesWithin k (x *ℤ y) → k < i128_limit → unsigned_abs a * unsigned_abs b < i128_limit
 product_fits {a} {b} {x} {y} k e f h l = subst₂ (λ u v. unsigned_abs u * unsigned_abs v < i128_limit) (sym e) (sym f) (let s = sizes_small x y k h in omega (arith, s, l))
+
+-- the numerator of one fraction times the denominator of another
+pub compared_fits : {a b x y : ℤ} → a ≡ x → b ≡ y → unsigned_abs x ≤ GREATEST_COMPARED_NUMERATOR
+    → unsigned_abs y ≤ GREATEST_COMPARED_DENOMINATOR → unsigned_abs a * unsigned_abs b < i128_limit
+compared_fits {a} {b} {x} {y} e f h k = subst₂ (λ u v. unsigned_abs u * unsigned_abs v < i128_limit) (sym e) (sym f) (lt_of_le_of_lt (mul-le _ _ _ _ h k) (lit< tt))
 
 pub product_is : {r a b x y : ℤ} → r ≡ a *ℤ b → a ≡ x → b ≡ y → r ≡ x *ℤ y
 product_is {r} r_is e f = subst₂ (λ u v. r ≡ u *ℤ v) e f r_is

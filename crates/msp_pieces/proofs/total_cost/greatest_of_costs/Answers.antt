@@ -1,7 +1,7 @@
 use Rattle.std.proofs.Common.{arith, rules}
 use Rattle.std.proofs.lemmas.Int.{to_z-of_z}
 use Rattle.std.specs.Int.{w128}
-use Rattle.msp_pieces.proofs.costs.Costs.{ReachesTo-first, ReachesTo-step, ReachesTo-all, passed_moment, passed_max}
+use Rattle.msp_pieces.proofs.costs.Costs.{ReachesTo-first, ReachesTo-step, ReachesTo-all, passed_moment, passed_cost, passed_max}
 use Rattle.msp_pieces.proofs.total_cost.greatest_of_costs.Goals as goal
 
 pub loop-k-init : goal.loop-k-init
@@ -10,6 +10,14 @@ loop-k-init c = (
   ReachesTo-first _ _ _ c.args.jobs.now c.index-jobs-0.result _ c.job_cost_at-top.result _ c.requires.some c.index-jobs-0.is
       (to_z-of_z w128 _ (search rules)) c.job_cost_at-top.ensures.value c.job_cost_at-top.ensures.size (to_z-of_z w128 _ (search rules)),
 )
+
+pub job_cost_at-top-requires-clause-small : goal.job_cost_at-top-requires-clause-small
+job_cost_at-top-requires-clause-small c =
+    passed_cost _ _ c.args.jobs.now 0 c.index-jobs-0.result (to_z-of_z w128 c.args.unit c.ranges.unit) c.requires.some c.index-jobs-0.is c.requires.small
+
+pub job_cost_at-requires-clause-small : goal.job_cost_at-requires-clause-small
+job_cost_at-requires-clause-small c =
+    passed_cost _ _ c.args.jobs.now c.loop-k.k c.index-jobs-k.result (to_z-of_z w128 c.args.unit c.ranges.unit) c.loop-k-test.true c.index-jobs-k.is c.requires.small
 
 pub job_cost_at-requires-clause-moment : goal.job_cost_at-requires-clause-moment
 job_cost_at-requires-clause-moment c =
