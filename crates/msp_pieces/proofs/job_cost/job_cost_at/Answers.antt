@@ -1,6 +1,6 @@
-use Rattle.std.proofs.Common.{◌≡◌, ◌≤◌, ℕ, ◌+ℤ◌, ◌-ℤ◌, ◌*ℤ◌, pos, int_lt, if◌then◌else◌, All, ap, sum_by, ◌∙◌, sym, subst, subst₂, arith, rules, ℤ, FitsSigned, to_z, of_z}
+use Rattle.std.proofs.Common.{◌≡◌, ◌≤◌, ℕ, ◌+ℤ◌, ◌*ℤ◌, pos, All, ap, sum_by, ◌∙◌, sym, subst, subst₂, arith, rules, ℤ, FitsSigned, to_z, of_z}
 use Rattle.std.proofs.lemmas.Int.{ints, to_z-of_z}
-use Rattle.std.specs.Int.{w64, w128, int_max}
+use Rattle.std.specs.Int.{w64, w128}
 use Rattle.msp_instance.specs.Conditions.{LiesWithin}
 use Rattle.msp_pieces.specs.Within.{greatest_scaled, greatest_level}
 use Rattle.msp_pieces.specs.Cost.{job_cost}
@@ -40,36 +40,9 @@ curve_cost-requires-clause-base c =
     subst (λ u. (adds : ℕ) → adds ≤ sum_by (λ s. s.add) curve.steps → LiesWithin greatest_level (u *ℤ (curve.base +ℤ pos adds)))
     (sym (to_z-of_z w128 c.args.unit c.ranges.unit)) c.requires.small.base
 
--- what a call says of the numbers as they are passed, it says of the numbers
-told : (P : ℤ → ℤ → ℤ → Type 0) {unit due end : ℤ} → FitsSigned w128 unit → FitsSigned w64 due → FitsSigned w128 end
-    → P (to_z w128 (of_z w128 unit)) (to_z w64 (of_z w64 due)) (to_z w128 (of_z w128 end)) → P unit due end
-told P {unit} {due} {end} u d e h =
-    subst₂ (λ x y. P x y end) (to_z-of_z w128 unit u) (to_z-of_z w64 due d) (subst (P (to_z w128 (of_z w128 unit)) (to_z w64 (of_z w64 due))) (to_z-of_z w128 end e) h)
-
 pub returns-in-Fmax-clause-value : goal.returns-in-Fmax-clause-value
 returns-in-Fmax-clause-value c =
     let job = c.args.job.now in
     to_z-of_z w128 c.curve_cost.result (search rules)
     ∙ subst₂ (λ u e. c.curve_cost.result ≡ job_cost Fmax u job e) (to_z-of_z w128 c.args.unit c.ranges.unit) (to_z-of_z w128 c.args.end c.ranges.end) c.curve_cost.ensures.value
     ∙ ap (λ k. job_cost k c.args.unit job c.args.end) (sym c.in-Fmax.is)
-
-pub returns-in-Lmax-clause-value : goal.returns-in-Lmax-clause-value
-returns-in-Lmax-clause-value c =
-    let job = c.args.job.now in
-    to_z-of_z w128 c.lateness_at.result (search rules)
-    ∙ told (λ u d e. c.lateness_at.result ≡ e -ℤ (u *ℤ d)) {due = job.due} c.ranges.unit (search rules) c.ranges.end c.lateness_at.ensures.value
-    ∙ ap (λ k. job_cost k c.args.unit job c.args.end) (sym c.in-Lmax.is)
-
-pub returns-in-SumU-clause-value : goal.returns-in-SumU-clause-value
-returns-in-SumU-clause-value c =
-    let job = c.args.job.now in
-    to_z-of_z w128 c.late_at.result (search rules)
-    ∙ told (λ u d e. c.late_at.result ≡ (if int_lt (u *ℤ d) e then u else pos 0)) {due = job.due} c.ranges.unit (search rules) c.ranges.end c.late_at.ensures.value
-    ∙ ap (λ k. job_cost k c.args.unit job c.args.end) (sym c.in-SumU.is)
-
-pub returns-in-SumT-clause-value : goal.returns-in-SumT-clause-value
-returns-in-SumT-clause-value c =
-    let job = c.args.job.now in
-    to_z-of_z w128 c.tardiness_at.result (search rules)
-    ∙ told (λ u d e. c.tardiness_at.result ≡ int_max (pos 0) (e -ℤ (u *ℤ d))) {due = job.due} c.ranges.unit (search rules) c.ranges.end c.tardiness_at.ensures.value
-    ∙ ap (λ k. job_cost k c.args.unit job c.args.end) (sym c.in-SumT.is)
