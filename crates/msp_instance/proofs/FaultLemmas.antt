@@ -76,7 +76,9 @@ test_answers i (Err f) meets part first = (λ e. absurd (false≢true e), λ m. 
 pub fault_handed_on : {A : Type 0} (i : Instance) (r : Result A ClassFault) (f : ClassFault)
     → IsErrAnd r (λ d. d ≡ f) → IsFirstFault i f → (IsOk r ↔ MeetsConditions text_limits i) × IfErr r (IsFirstFault i)
 fault_handed_on i (Ok x) f e h = absurd e
-fault_handed_on {A} i (Err d) f e h = let first : IsFirstFault i d = subst (IsFirstFault i) (sym e) h in (test_answers {A = A} {P = MeetsConditions text_limits i} i (Err d) (λ m. m) tt first, first)
+fault_handed_on {A} i (Err d) f e h =
+    let first : IsFirstFault i d = subst (IsFirstFault i) (sym e) h in
+    (test_answers {A = A} {P = MeetsConditions text_limits i} i (Err d) (λ m. m) tt first, first)
 
 sooner_or_same : (s t : Turn) → (IsSooner s t ⊎ IsSooner t s) ⊎ ((s.part ≡ t.part) × (s.number ≡ t.number) × (s.step ≡ t.step))
 sooner_or_same s t = elim (cases_order s.part t.part) [

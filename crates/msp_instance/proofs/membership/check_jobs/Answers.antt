@@ -6,7 +6,8 @@ use Rattle.msp_instance.proofs.FaultLemmas.{fault_handed_on}
 use Rattle.msp_instance.proofs.membership.check_jobs.Goals as goal
 
 pub loop-job-preserved : goal.loop-job-preserved
-loop-job-preserved c = below_more (λ k. IsJobOf text_limits c.args.inst.now (job_at c.args.inst.now k)) c.loop-job.job c.loop-job.invariant c.in_ok-check_job.ensures.ok
+loop-job-preserved c =
+    below_more (λ k. IsJobOf text_limits c.args.inst.now (job_at c.args.inst.now k)) c.loop-job.job c.loop-job.invariant c.in_ok-check_job.ensures.ok
 
 pub returns-in_err-check_job-clause-fault : goal.returns-in_err-check_job-clause-fault
 returns-in_err-check_job-clause-fault c = (fault_handed_on _ _ _ c.from_residual.ensures.1 c.in_err-check_job.ensures.fault).1

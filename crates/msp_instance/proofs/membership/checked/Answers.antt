@@ -1,12 +1,6 @@
 use Rattle.msp_instance.proofs.FaultLemmas.{MeetsConditions-from_parts, fault_handed_on, test_answers}
 use Rattle.msp_instance.proofs.membership.checked.Goals as goal
 
-pub check_arcs-requires-clause-jobs : goal.check_arcs-requires-clause-jobs
-check_arcs-requires-clause-jobs c = record { frame = c.in_ok-check_frame.ensures.ok; jobs = c.in_ok-check_jobs.ensures.ok }
-
-pub check_degrees-requires-clause-jobs : goal.check_degrees-requires-clause-jobs
-check_degrees-requires-clause-jobs c = record { frame = c.in_ok-check_frame.ensures.ok; jobs = c.in_ok-check_jobs.ensures.ok }
-
 pub returns-in_err-check_frame-clause-ok : goal.returns-in_err-check_frame-clause-ok
 returns-in_err-check_frame-clause-ok c = (fault_handed_on _ _ _ c.from_residual.ensures.1 c.in_err-check_frame.ensures.fault).0
 

@@ -1,17 +1,11 @@
-use Rattle.std.proofs.Common.{false, slice_index_or, sym, subst, arith}
-use Rattle.msp_instance.specs.Listing.{IsListing}
-use Rattle.msp_instance.proofs.SearchLemmas.{length-flags, IsListing-no_flag, ends_inside, IsSearch-begin, IsSearch-step, IsSearch-smaller, IsSearch-end}
+use Rattle.std.proofs.Common.{arith}
+use Rattle.msp_instance.proofs.SearchLemmas.{length-flags, ends_inside, IsSearch-begin, IsSearch-step, IsSearch-smaller, IsSearch-end}
 use Rattle.msp_instance.proofs.sequence.leads_to_itself.Goals as goal
 
 pub meet-requires-clause-ends : goal.meet-requires-clause-ends
 meet-requires-clause-ends c =
     let whole = length-flags c.args.jobs c.in_ok-flags.flags.items c.as_mut_slice-seen.result.now c.as_mut_slice-seen.ensures.value (c.in_ok-flags.ensures.items_if_clones_equal (λ y q. q)) in
     ends_inside c.args.jobs c.args.sorted.now c.leaving_of.result.now c.args.start _ c.leaving_of.ensures whole c.requires.ends
-
-pub meet-requires-clause-listing : goal.meet-requires-clause-listing
-meet-requires-clause-listing c =
-    IsListing-no_flag c.args.jobs c.in_ok-flags.flags.items c.as_mut_slice-seen.result.now c.new-found.result.items
-    c.as_mut_slice-seen.ensures.value (c.in_ok-flags.ensures.items_if_clones_equal (λ y q. q)) c.new-found.ensures.items
 
 pub loop-done-init : goal.loop-done-init
 loop-done-init c =
@@ -22,10 +16,6 @@ loop-done-init c =
 pub meet-requires-in-loop-done-clause-ends : goal.meet-requires-in-loop-done-clause-ends
 meet-requires-in-loop-done-clause-ends c =
     ends_inside c.args.jobs c.args.sorted.now c.leaving_of-leaving.result.now c.index.result.now _ c.leaving_of-leaving.ensures c.loop-done.invariant.whole c.requires.ends
-
-pub meet-requires-in-loop-done-clause-listing : goal.meet-requires-in-loop-done-clause-listing
-meet-requires-in-loop-done-clause-listing c =
-    subst (λ m. IsListing m (λ k. slice_index_or c.loop-done.seen k false) c.loop-done.found.items) (sym c.loop-done.invariant.whole) c.loop-done.invariant.listing
 
 pub loop-done-smaller : goal.loop-done-smaller
 loop-done-smaller c = IsSearch-smaller c.args.jobs c.args.sorted.now c.args.start c.loop-done.seen c.loop-done.found.items c.loop-done.done c.loop-done.invariant (omega arith)

@@ -1,10 +1,6 @@
-use Rattle.std.proofs.Common.{◌==◌, slice_index, sym, subst, arith}
-use Rattle.msp_instance.specs.Listing.{IsListing}
+use Rattle.std.proofs.Common.{arith}
 use Rattle.msp_instance.proofs.OrderLemmas.{IsPassing-begin, IsPassing-ends, IsPassing-covers, IsPassing-step, IsPassing-smaller, IsLongestOrder-end}
 use Rattle.msp_instance.proofs.sequence.longest_order.Goals as goal
-
-pub entering_counts-requires : goal.entering_counts-requires
-entering_counts-requires c = λ k d t. (c.requires.ends k d t).1
 
 pub loop-done-init : goal.loop-done-init
 loop-done-init c = IsPassing-begin c.args.jobs c.args.sorted.now c.in_ok-entering.entering.items c.as_slice.result.now c.as_mut_slice-counts.result.now
@@ -17,10 +13,6 @@ release-requires-clause-ends c = IsPassing-ends c.args.jobs c.args.sorted.now c.
 pub release-requires-clause-enough : goal.release-requires-clause-enough
 release-requires-clause-enough c = IsPassing-covers c.args.jobs c.args.sorted.now c.loop-done.counts c.loop-done.order.items
     c.loop-done.done c.index.result.now c.leaving_of-leaving.result.now c.loop-done.invariant (omega arith) c.index.ensures c.leaving_of-leaving.ensures
-
-pub release-requires-clause-listing : goal.release-requires-clause-listing
-release-requires-clause-listing c =
-    subst (λ m. IsListing m (λ k. slice_index c.loop-done.counts k == 0) c.loop-done.order.items) (sym c.loop-done.invariant.whole) c.loop-done.invariant.listing
 
 pub loop-done-smaller : goal.loop-done-smaller
 loop-done-smaller c = IsPassing-smaller c.args.jobs c.args.sorted.now c.loop-done.counts c.loop-done.order.items
