@@ -1,10 +1,13 @@
 -- The steps of the loops, at the numbers as the code passes them.
 use Rattle.std.proofs.Common.{◌≡◌, ℕ, ◌+◌, ◌<◌, ◌≤◌, max, List, ◌∷◌, ◌++◌, length, get_or, take, drop, All, AllPairs, sum_by, ℤ, refl, sym, ap, ap₂, subst, subst₂, ◌∙◌, arith}
-use Rattle.std.proofs.Common.{add-one, le_trans, append_assoc, OnOk, Ok, Err, Result}
+use Rattle.std.proofs.Common.{add-one, le_trans, append_assoc, OnOk, Ok, Err, Result, true}
+use Rattle.std.specs.Result.{is_err}
 use Rattle.std.specs.List.{remove}
 use Rattle.std.proofs.lemmas.List.{take-take, drop_all, length-drop, get_or-drop, drop_more, take-append-drop, length-take, get_or-take, get_or_default}
 use Rattle.std.proofs.lemmas.List.Edits.{remove-append_left}
+use Rattle.std.proofs.lemmas.List.Elements.{All-take}
 use Rattle.std.proofs.lemmas.List.Sums.{sum_by-cons, sum_by-append, sum_by_more}
+use Rattle.msp_class.specs.declared.sizes.TheConstants.{MOST_JOBS}
 use Rattle.msp_instance.specs.declared.Instance.{Instance}
 use Rattle.msp_pieces.specs.declared.Piece.{Piece}
 use Rattle.msp_pieces.specs.Blocks.{cost_at}
@@ -69,6 +72,28 @@ module _ (head time : ℕ → ℕ) (old : List Piece) (job begin end : ℕ) (oth
 pub on_ok_then : {A E : Type 0} {P Q : Type 0} (r : Result A E) → (P → Q) → OnOk r P → OnOk r Q
 on_ok_then (Ok a) f h = f h
 on_ok_then (Err x) f h = tt
+
+pub refused : {A E : Type 0} (r : Result A E) → is_err r ≡ true → (e : E) × (r ≡ Err e)
+refused (Ok a) e = absurd (cc)
+refused (Err x) e = (x, refl)
+
+-- ---- what is asked of the jobs that are left, and of the first ones
+pub left_few : (i : Instance) (head : ℕ → ℕ) (left slice : List ℕ) (ps : List Piece)
+    → IsFilling i head greatest_end left ps → slice ≡ left → length slice ≤ MOST_JOBS
+left_few i head left slice ps f is = omega (arith, ap length is, f.few)
+
+pub record AreFirst (i : Instance) (first : List ℕ) : Type 0 where
+  pub some : 0 < length first
+  pub few : length first ≤ MOST_JOBS
+  pub inside : All (λ j. j < length i.jobs) first
+
+pub AreFirst-cut : {i : Instance} {head time : ℕ → ℕ} {left slice again : List ℕ} {count end : ℕ} {ps : List Piece}
+    → IsFilling i head greatest_end left ps → IsFirstBlock head time slice count end → slice ≡ left → again ≡ left → AreFirst i (take count again)
+AreFirst-cut {i} {head} {left = left} {slice} {again} {count} {ps = ps} f block is is_again = record {
+  some = omega (arith, ap length is, ap length is_again, block.within, block.some, length-take count again);
+  few = omega (arith, left_few i head left again ps f is_again, length-take count again);
+  inside = All-take (λ j. j < length i.jobs) count again (subst (All (λ j. j < length i.jobs)) (sym is_again) f.inside);
+}
 
 -- ---- one job more is placed
 module _ (i : Instance) (one : IsOneInstance i) (heads : List ℕ) (are : AreHeads i heads) (left : List ℕ) (count end : ℕ) where

@@ -1,7 +1,11 @@
-use Rattle.std.proofs.Common.{get_or}
+use Rattle.std.proofs.Common.{get_or, sym, subst}
+use Rattle.msp_heads.specs.Heads.{AreHeads}
 use Rattle.msp_route.proofs.KeyedJobs.{rises_or_stays}
 use Rattle.msp_blocks.proofs.Made.{some_passed, filling_passed}
 use Rattle.msp_blocks.proofs.blocks.by_blocks.Goals as goal
+
+pub place_all-requires-clause-heads : goal.place_all-requires-clause-heads
+place_all-requires-clause-heads c = subst (AreHeads c.args.inst.now) (sym c.as_slice-2.ensures.value) c.in_ok-heads.ensures
 
 pub place_all-requires-clause-some : goal.place_all-requires-clause-some
 place_all-requires-clause-some c = some_passed c.args.inst.now c.requires.machine c.requires.inner

@@ -1,8 +1,10 @@
-use Rattle.std.proofs.Common.{inl, inr, sym, subst, slice_index_or}
+use Rattle.std.proofs.Common.{inl, inr, sym, subst, length, slice_index_or, arith}
+use Rattle.std.proofs.lemmas.List.{nil_from_length}
 use Rattle.msp_class.proofs.IntegerRing.{≤ℤ_refl}
 use Rattle.msp_route.proofs.OneInstances.{IsOneInstance-from}
 use Rattle.msp_blocks.specs.Filling.{IsFilling, IsBound, CostAtMost, greatest_end}
 use Rattle.msp_blocks.proofs.Made.{CostAtMost-none, CostAtMost-more}
+use Rattle.msp_blocks.proofs.Steps.{refused}
 use Rattle.msp_blocks.proofs.filling.place_all.Goals as goal
 
 pub place_next-requires-clause-filling : goal.place_next-requires-clause-filling
@@ -34,4 +36,27 @@ places-preserved c =
         | inr e ↦ subst (λ b. IsBound i c.args.heads.now b.jobs b.cost) (sym e) h.bound
       ];
       costs = h.costs g.result.cost g.ensures.second (CostAtMost-more i c.places.bound.cost g.result.cost _ _ g.ensures.first l.costs);
+    }
+
+pub places-smaller : goal.places-smaller
+places-smaller c = omega (arith, c.in_ok-next.ensures.shorter)
+
+pub returns-in_err-bound : goal.returns-in_err-bound
+returns-in_err-bound c =
+    let no = (refused _ c.from_residual.ensures.0).1 in
+    record { filling = rw no tt; bound = rw no tt; costs = rw no tt }
+
+pub returns-in_err-next : goal.returns-in_err-next
+returns-in_err-next c =
+    let no = (refused _ c.from_residual-in_err-next.ensures.0).1 in
+    record { filling = rw no tt; bound = rw no tt; costs = rw no tt }
+
+pub returns : goal.returns
+returns c =
+    let none = nil_from_length c.places.left.items (omega (arith, c.len.ensures, c.places-test.false)) in
+    let l = c.places.invariant in
+    record {
+      filling = subst (λ js. IsFilling c.args.inst.now (λ j. slice_index_or c.args.heads.now j 0) greatest_end js c.places.pieces) none l.filling;
+      bound = l.bound;
+      costs = subst (λ js. CostAtMost c.args.inst.now c.places.bound.cost js c.places.pieces) none l.costs;
     }
