@@ -1,0 +1,35 @@
+use Rattle.std.proofs.Common.{◌≡◌, ℕ, ◌+◌, ◌-◌, ◌*◌, ◌^◌, ◌<◌, List, [], ◌∷◌, ◌++◌, length, get_or, map, take, ℤ, pos, ◌-ℤ◌, All, FitsSigned, to_z, of_z}
+use Rattle.std.proofs.Common.{sym, ap₂, ◌∙◌, subst, arith}
+use Rattle.std.specs.Int.{w64}
+use Rattle.std.proofs.lemmas.Int.{ints}
+use Rattle.std.proofs.lemmas.List.{map_more}
+use Rattle.msp_class.specs.declared.sizes.TheConstants.{GREATEST}
+use Rattle.msp_instance.specs.declared.Job.{Job}
+use Rattle.msp_instance.specs.Conditions.{LiesWithin}
+use Rattle.msp_total.proofs.job_slots.dues_of.Goals as goal
+
+module _ (jobs : List Job) (span k : ℕ) (j : Job) (less : ℤ) (dues : All (λ j. LiesWithin (2 * GREATEST) j.due) jobs)
+    (small : span < 2 ^ 32) (inside : k < length jobs) (at : j ≡ get_or jobs k j) (is : less ≡ pos (span - 1)) where
+  within : LiesWithin (2 * GREATEST) j.due
+  within = subst (λ (j : Job). LiesWithin (2 * GREATEST) j.due) (sym at) (dues k j inside)
+
+  due_fits : FitsSigned w64 (to_z w64 (of_z w64 j.due) -ℤ to_z w64 (of_z w64 less))
+  due_fits = omega (arith, ints, within.0, within.1)
+
+  due_is : to_z w64 (of_z w64 (to_z w64 (of_z w64 j.due) -ℤ to_z w64 (of_z w64 less))) ≡ (get_or jobs k j).due -ℤ pos (span - 1)
+  due_is = subst (λ (i : Job). to_z w64 (of_z w64 (to_z w64 (of_z w64 j.due) -ℤ to_z w64 (of_z w64 less))) ≡ i.due -ℤ pos (span - 1))
+      at (omega (arith, ints, within.0, within.1))
+
+pub overflow_sub-job : goal.overflow_sub-job
+overflow_sub-job c =
+    due_fits c.args.jobs.now c.args.span c.loop-job.job-index c.job-item.result c.from.result c.requires.dues (c.ranges.span).fits c.loop-job-test.true c.job-item.is c.from.ensures
+
+pub loop-job-preserved : goal.loop-job-preserved
+loop-job-preserved c =
+    let due = λ (j : Job). j.due -ℤ pos (c.args.span - 1) in
+    let k = c.loop-job.job-index in
+    let j = c.job-item.result in
+    c.in_ok-push.ensures.items
+    ∙ ap₂ (λ all d. all ++ d ∷ []) c.loop-job.invariant
+    (due_is c.args.jobs.now c.args.span k j c.from.result c.requires.dues (c.ranges.span).fits c.loop-job-test.true c.job-item.is c.from.ensures)
+    ∙ sym (map_more due c.args.jobs.now k j c.loop-job-test.true)
