@@ -1,12 +1,11 @@
 -- The steps of the loops, at the numbers as the code passes them.
 use Rattle.std.proofs.Common.{◌≡◌, ℕ, ◌+◌, ◌<◌, ◌≤◌, max, List, ◌∷◌, ◌++◌, length, get_or, take, drop, All, AllPairs, sum_by, ℤ, refl, sym, ap, ap₂, subst, subst₂, ◌∙◌, arith}
-use Rattle.std.proofs.Common.{add-one, le_trans, append_assoc, OnOk, Ok, Err, Result, true}
-use Rattle.std.specs.Result.{is_err}
+use Rattle.std.proofs.Common.{add-one, le_trans, append_assoc, OnOk, Ok, Err, Result}
 use Rattle.std.specs.List.{remove}
 use Rattle.std.proofs.lemmas.List.{take-take, drop_all, length-drop, get_or-drop, drop_more, take-append-drop, length-take, get_or-take, get_or_default}
 use Rattle.std.proofs.lemmas.List.Edits.{remove-append_left}
 use Rattle.std.proofs.lemmas.List.Elements.{All-take}
-use Rattle.std.proofs.lemmas.List.Sums.{sum_by-cons, sum_by-append, sum_by_more}
+use Rattle.std.proofs.lemmas.List.Sums.{sum_by-cons, sum_by-append}
 use Rattle.msp_class.specs.declared.sizes.TheConstants.{MOST_JOBS}
 use Rattle.msp_instance.specs.declared.Instance.{Instance}
 use Rattle.msp_pieces.specs.declared.Piece.{Piece}
@@ -18,25 +17,6 @@ use Rattle.msp_route.specs.LastJob.{EndsAt}
 use Rattle.msp_route.proofs.OneInstances.{IsOneInstance, takes_time}
 use Rattle.msp_blocks.proofs.Idle.{done-after, done-mono, done-tight, Follow-append, Follow-from_near}
 use Rattle.msp_blocks.proofs.Fill.{IsOneMore, IsOneMore-made}
-
--- ---- the first block
-module _ (head time : ℕ → ℕ) (jobs : List ℕ) where
-  pub IsFirstBlock-one : (end : ℕ) → 0 < length jobs → end ≡ head (get_or jobs 0 0) + time (get_or jobs 0 0) → IsFirstBlock head time jobs 1 end
-  IsFirstBlock-one end some e = record {
-    some = omega arith;
-    within = omega (arith, some);
-    end_is = omega (arith, e, sum_by_more time jobs 0 0 some);
-    near = λ k l. let first : k ≡ 0 = omega (arith, l) in subst (λ n. head (get_or jobs n 0) ≤ head (get_or jobs 0 0) + sum_by time (take n jobs)) (sym first) (omega arith);
-  }
-
-  pub IsFirstBlock-next : (count end new : ℕ) → count < length jobs → head (get_or jobs count 0) ≤ end
-      → new ≡ end + time (get_or jobs count 0) → IsFirstBlock head time jobs count end → IsFirstBlock head time jobs (count + 1) new
-  IsFirstBlock-next count end new inside early e h = record {
-    some = omega arith;
-    within = omega (arith, inside);
-    end_is = omega (arith, e, h.end_is, sum_by_more time jobs count 0 inside);
-    near = λ k l. grind (arith, h.near k, early, h.end_is);
-  }
 
 -- ---- the gaps
 -- what is put so far, and what is to be put from the moment on
@@ -72,10 +52,6 @@ module _ (head time : ℕ → ℕ) (old : List Piece) (job begin end : ℕ) (oth
 pub on_ok_then : {A E : Type 0} {P Q : Type 0} (r : Result A E) → (P → Q) → OnOk r P → OnOk r Q
 on_ok_then (Ok a) f h = f h
 on_ok_then (Err x) f h = tt
-
-pub refused : {A E : Type 0} (r : Result A E) → is_err r ≡ true → (e : E) × (r ≡ Err e)
-refused (Ok a) e = absurd (cc)
-refused (Err x) e = (x, refl)
 
 -- ---- what is asked of the jobs that are left, and of the first ones
 pub left_few : (i : Instance) (head : ℕ → ℕ) (left slice : List ℕ) (ps : List Piece)

@@ -1,10 +1,9 @@
-use Rattle.std.proofs.Common.{inl, inr, sym, subst, length, slice_index_or, arith}
+use Rattle.std.proofs.Common.{inl, inr, sym, subst, slice_index_or, arith}
 use Rattle.std.proofs.lemmas.List.{nil_from_length}
 use Rattle.msp_class.proofs.IntegerRing.{≤ℤ_refl}
 use Rattle.msp_route.proofs.OneInstances.{IsOneInstance-from}
 use Rattle.msp_blocks.specs.Filling.{IsFilling, IsBound, CostAtMost, greatest_end}
 use Rattle.msp_blocks.proofs.Made.{CostAtMost-none, CostAtMost-more}
-use Rattle.msp_blocks.proofs.Steps.{refused}
 use Rattle.msp_blocks.proofs.filling.place_all.Goals as goal
 
 pub place_next-requires-clause-filling : goal.place_next-requires-clause-filling
@@ -40,16 +39,6 @@ places-preserved c =
 
 pub places-smaller : goal.places-smaller
 places-smaller c = omega (arith, c.in_ok-next.ensures.shorter)
-
-pub returns-in_err-bound : goal.returns-in_err-bound
-returns-in_err-bound c =
-    let no = (refused _ c.from_residual.ensures.0).1 in
-    record { filling = rw no tt; bound = rw no tt; costs = rw no tt }
-
-pub returns-in_err-next : goal.returns-in_err-next
-returns-in_err-next c =
-    let no = (refused _ c.from_residual-in_err-next.ensures.0).1 in
-    record { filling = rw no tt; bound = rw no tt; costs = rw no tt }
 
 pub returns : goal.returns
 returns c =

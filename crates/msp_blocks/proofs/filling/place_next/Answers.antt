@@ -4,7 +4,7 @@ use Rattle.std.proofs.lemmas.List.Elements.{All-take, All-drop}
 use Rattle.msp_route.proofs.OneInstances.{IsOneInstance-from, short_needs}
 use Rattle.msp_blocks.specs.Filling.{greatest_end}
 use Rattle.msp_blocks.proofs.Fill.{IsOneMore}
-use Rattle.msp_blocks.proofs.Steps.{AreFirst-cut, left_few, refused, passed_room, passed_next}
+use Rattle.msp_blocks.proofs.Steps.{AreFirst-cut, left_few, passed_room, passed_next}
 use Rattle.msp_blocks.proofs.filling.place_next.Goals as goal
 use Rattle.msp_blocks.proofs.filling.place_next.Goals.{After-remove}
 
@@ -80,13 +80,3 @@ fill-requires-clause-inside c =
 pub bound_of-requires-clause-inside : goal.bound_of-requires-clause-inside
 bound_of-requires-clause-inside c =
     (AreFirst-cut c.requires.filling c.first_block-block.ensures.block c.as_slice.ensures.value c.as_slice-2.ensures.value).inside c.last_place-place.result 0 c.last_place-place.ensures.place
-
-pub returns-in_err-fill : goal.returns-in_err-fill
-returns-in_err-fill c =
-    let no = (refused _ c.from_residual.ensures.0).1 in
-    record { shorter = rw no tt; filling = rw no tt; bound = rw no tt; costs = rw no tt }
-
-pub returns-in_err-bound : goal.returns-in_err-bound
-returns-in_err-bound c =
-    let no = (refused _ c.from_residual-in_err-bound.ensures.0).1 in
-    record { shorter = rw no tt; filling = rw no tt; bound = rw no tt; costs = rw no tt }
