@@ -1,5 +1,5 @@
 use Rattle.std.proofs.Common.{◌≡◌, ℕ, ◌+◌, ◌-◌, ◌*◌, ◌^◌, ◌<◌, List, [], ◌∷◌, ◌++◌, length, get_or, map, take, ℤ, pos, ◌-ℤ◌, All, FitsSigned, to_z, of_z}
-use Rattle.std.proofs.Common.{sym, ap₂, ◌∙◌, subst, arith}
+use Rattle.std.proofs.Common.{sym, ap, ap₂, ◌∙◌, subst, arith}
 use Rattle.std.specs.Int.{w64}
 use Rattle.std.proofs.lemmas.Int.{ints}
 use Rattle.std.proofs.lemmas.List.{map_more}
@@ -16,9 +16,13 @@ module _ (jobs : List Job) (span k : ℕ) (j : Job) (less : ℤ) (dues : All (λ
   due_fits : FitsSigned w64 (to_z w64 (of_z w64 j.due) -ℤ to_z w64 (of_z w64 less))
   due_fits = omega (arith, ints, within.0, within.1)
 
-  due_is : to_z w64 (of_z w64 (to_z w64 (of_z w64 j.due) -ℤ to_z w64 (of_z w64 less))) ≡ (get_or jobs k j).due -ℤ pos (span - 1)
-  due_is = subst (λ (i : Job). to_z w64 (of_z w64 (to_z w64 (of_z w64 j.due) -ℤ to_z w64 (of_z w64 less))) ≡ i.due -ℤ pos (span - 1))
-      at (omega (arith, ints, within.0, within.1))
+  due_is : to_z w64 (of_z w64 (to_z w64 (of_z w64 j.due) -ℤ to_z w64 (of_z w64 less))) ≡ j.due -ℤ pos (span - 1)
+  due_is = omega (arith, ints, within.0, within.1)
+
+  dues_next : (old new : List ℤ) → new ≡ old ++ to_z w64 (of_z w64 (to_z w64 (of_z w64 j.due) -ℤ to_z w64 (of_z w64 less))) ∷ []
+      → old ≡ map (λ j. j.due -ℤ pos (span - 1)) (take k jobs) → new ≡ map (λ j. j.due -ℤ pos (span - 1)) (take (k + 1) jobs)
+  dues_next old new e so_far = e ∙ ap₂ (λ all d. all ++ d ∷ []) so_far (due_is ∙ ap (λ (j : Job). j.due -ℤ pos (span - 1)) at)
+      ∙ sym (map_more (λ (j : Job). j.due -ℤ pos (span - 1)) jobs k j inside)
 
 pub overflow_sub-job : goal.overflow_sub-job
 overflow_sub-job c =
@@ -26,10 +30,5 @@ overflow_sub-job c =
 
 pub loop-job-preserved : goal.loop-job-preserved
 loop-job-preserved c =
-    let due = λ (j : Job). j.due -ℤ pos (c.args.span - 1) in
-    let k = c.loop-job.job-index in
-    let j = c.job-item.result in
-    c.in_ok-push.ensures.items
-    ∙ ap₂ (λ all d. all ++ d ∷ []) c.loop-job.invariant
-    (due_is c.args.jobs.now c.args.span k j c.from.result c.requires.dues (c.ranges.span).fits c.loop-job-test.true c.job-item.is c.from.ensures)
-    ∙ sym (map_more due c.args.jobs.now k j c.loop-job-test.true)
+    dues_next c.args.jobs.now c.args.span c.loop-job.job-index c.job-item.result c.from.result c.requires.dues (c.ranges.span).fits c.loop-job-test.true c.job-item.is c.from.ensures
+    _ _ c.in_ok-push.ensures.items c.loop-job.invariant
