@@ -1,12 +1,12 @@
 -- The search begins with the new row, and grows by the row of the nearest column.
-use Rattle.std.proofs.Common.{◌≡◌, ◌≢◌, ℕ, ◌+◌, ◌<◌, ◌≤◌, ◌⊎◌, inl, inr, List, [], ◌∷◌, ◌++◌, length, get_or, replicate, All, AllPairs, Contains, IsPermutation, sym, ap, subst, ◌∙◌, arith, refl}
+use Rattle.std.proofs.Common.{◌≡◌, ◌≢◌, ℕ, ℤ, ◌+◌, ◌<◌, ◌≤◌, ◌⊎◌, inl, inr, List, [], ◌∷◌, ◌++◌, length, get_or, replicate, All, AllPairs, Contains, IsPermutation, sym, ap, subst, ◌∙◌, arith, refl}
 use Rattle.std.proofs.Math.Seq.{get_or-append_seam}
 use Rattle.std.proofs.lemmas.List.{get_or-replicate, length-replicate, length-append, get_or_append_left, get_or_default}
 use Rattle.std.proofs.lemmas.List.Elements.{All-contains, All-from_get_or}
 use Rattle.msp_matching.specs.Passing.{at}
 use Rattle.msp_class.proofs.Cases.{same_or_not}
 use Rattle.msp_matching.proofs.Lists.{distinct-permutation}
-use Rattle.msp_assign.specs.Search.{paid, AreAll, IsPlaced, IsGrown, IsLevel, IsSearch, IsNearest, AreNearest, IsRelaxed, greatest_payment}
+use Rattle.msp_assign.specs.Search.{paid, AreAll, IsPlaced, IsGrown, IsLevel, IsSearch, IsNearest, AreNearest, IsRelaxed, IsOpenRow, HasEdges, sizes, greatest_payment}
 use Rattle.std.proofs.lemmas.List.Sorted.{All-permutation, Contains-permutation, IsPermutation-sym}
 use Rattle.msp_assign.proofs.Lists.{contained_or_not, Contains-at, at-Contains, All-from_contained, IsWithout}
 
@@ -248,6 +248,19 @@ module _ (cost : ℕ → ℕ → ℕ) (columns : ℕ) (fall column : List ℕ) w
             ];
         low = λ c l. omega (arith, fewer c l, h.low c l);
       }
+
+-- a row of the search pays at its own column no more than at any
+pub HasEdges-own : (rows columns : ℕ) (cost : ℕ → ℕ → ℤ) (fall column distance «from» left tree : List ℕ) → IsOpenRow rows columns cost fall column
+    → IsSearch (sizes cost) columns fall column distance «from» left tree → (e r depth own : ℕ) → Contains left e → r < length column → at column r ≡ e
+    → depth ≡ at distance e → own ≡ paid (sizes cost) fall r e → HasEdges rows columns cost fall r depth own
+HasEdges-own rows columns cost fall column distance from_ left tree o h e r depth own m lr has far pays = record {
+  costs = o.costs;
+  falls = o.placed.size;
+  low = o.placed.low;
+  inside = omega (arith, lr, o.next);
+  near = subst (λ x. x ≤ greatest_payment) (sym far) (h.low e (All-contains (λ c. c < columns) left e h.inside m));
+  least = λ c l. coe 0 1 (i. sym pays i ≤ paid (sizes cost) fall r c) (subst (λ x. paid (sizes cost) fall r x ≤ paid (sizes cost) fall r c) has ((o.placed.cheapest r lr).cheapest c l));
+}
 
 -- the lists as they are made
 pub IsSearch-made : (cost : ℕ → ℕ → ℕ) (columns : ℕ) (fall column : List ℕ) (most : ℕ) (left left2 distance «from» next next_from tree : List ℕ) → greatest_payment < most

@@ -47,3 +47,9 @@ free_from_owners columns column owner h c e same l none = by (get_or owner e Non
     by : (o : Option ℕ) → get_or owner e None ≡ o → MatchOption o (¬ Contains column e) (λ r. (r < length column) × (at column r ≡ e)) → ¬ Contains column e
     by None q m = m
     by (Some r) q m = absurd (none r (ap (λ x. get_or owner x None) same ∙ q))
+
+-- the row that has a column
+pub owned_from_owners : (columns : ℕ) (column : List ℕ) (owner : List (Option ℕ))
+    → IsOwners columns column owner → (c e r : ℕ) → c ≡ e → e < columns → get_or owner c None ≡ Some r → (r < length column) × (at column r ≡ e)
+owned_from_owners columns column owner h c e r same l is =
+    subst (λ o. MatchOption o (¬ Contains column e) (λ q. (q < length column) × (at column q ≡ e))) (ap (λ x. get_or owner x None) (sym same) ∙ is) (h.each e l)
