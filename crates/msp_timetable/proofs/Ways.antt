@@ -1,5 +1,5 @@
 -- A row that holds nothing at its column gets one where it does, along the way that a search has found.
-use Rattle.std.proofs.Common.{◌≡◌, ℕ, zero, suc, ◌<◌, ◌≤◌, inl, inr, List, length, get_or, IsPermutation, sym, ap, subst, ◌∙◌, arith}
+use Rattle.std.proofs.Common.{◌≡◌, ℕ, zero, suc, ◌+◌, ◌<◌, ◌≤◌, inl, inr, List, length, get_or, IsPermutation, sym, ap, subst, ◌∙◌, arith}
 use Rattle.std.proofs.lemmas.List.{get_or_default}
 use Rattle.std.specs.List.{SwappedAt}
 use Rattle.msp_matching.specs.Passing.{at, IsTree, IsStep, IsPassedOn}
@@ -71,3 +71,11 @@ pub read_turned : (column owner read turned : List ℕ) (row free last : ℕ) �
     → IsPermutation read turned → (last ≡ at owner free) × SwappedAt column turned row last × IsPermutation column turned
 read_turned column owner read turned row free last e l is swapped same =
     (is ∙ get_or_default owner free last 0 l, subst (λ xs. SwappedAt xs turned row last) e swapped, subst (λ xs. IsPermutation xs turned) e same)
+
+-- the rows before k hold stock at their columns, and so does the row at k afterwards
+pub stocks-next : (n : ℕ) (f : ℕ → ℕ → ℕ) (k : ℕ) (column next : List ℕ) → IsBetter n f k column next → k < n
+    → ((r : ℕ) → r < k → 0 < f r (at column r)) → (r : ℕ) → r < k + 1 → 0 < f r (at next r)
+stocks-next n f k column next b lk h r l = elim (same_or_not r k) [
+  | inl e ↦ subst (λ x. 0 < f x (at next x)) (sym e) b.first
+  | inr m ↦ let before : r < k = omega arith in b.others r (omega arith) (h r before)
+]
