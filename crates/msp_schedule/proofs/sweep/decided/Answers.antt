@@ -1,8 +1,13 @@
-use Rattle.std.proofs.Common.{refl, rules, to_z, of_z, sym, subst}
+use Rattle.std.proofs.Common.{◌≡◌, ◌<◌, ◌≤◌, All, List, length, refl, rules, to_z, of_z, sym, ap, subst, arith}
 use Rattle.std.specs.Prelude.{IfSome}
 use Rattle.std.proofs.lemmas.Int.{to_z-of_z}
 use Rattle.std.specs.Int.{w128}
-use Rattle.msp_pieces.specs.Within.{AreSmallReleases, AreSmallTimes}
+use Rattle.msp_class.specs.declared.class.Order.{Order}
+use Rattle.msp_class.specs.declared.class.Order.TheVariants.{Free}
+use Rattle.msp_class.specs.declared.sizes.TheConstants.{MOST_JOBS, MOST_ARCS, MOST_PIECES}
+use Rattle.msp_instance.specs.declared.Arc.{Arc}
+use Rattle.msp_instance.specs.Conditions.{HasArcs}
+use Rattle.msp_pieces.specs.Within.{IsMoment, AreSmallReleases, AreSmallTimes}
 use Rattle.msp_schedule.specs.Works.{IsFirstUnworked}
 use Rattle.msp_schedule.specs.Breaks.{IsFirstOverlap, IsFirstOutOfRoute, HasRoutes}
 use Rattle.msp_pieces.proofs.costs.Small.{small_releases, small_times}
@@ -60,3 +65,35 @@ returns-in-None c = none_broken c.as_slice-pieces.ensures (c.in_default.ensures.
     (c.in_ok-first.ensures.none (none_is _ c.in_default-2.is)) (c.in_ok-first-2.ensures.none (none_is _ c.in_default-3.is)) (to_z-of_z w128 c.args.s.now.unit (search rules))
     (c.in_default-first_early.ensures.none refl) c.as_slice.ensures (c.in_default-swept_arc.ensures.none refl) (c.in_ok-job.ensures.none (none_is _ c.in_default-4.is))
     (c.in_ok-job-2.ensures.none (none_is _ c.in-None.is)) c.requires.within
+
+few_arcs : (o : Order) (arcs : List Arc) → HasArcs o arcs → length arcs ≤ MOST_ARCS
+few_arcs Free arcs h = omega (arith, ap length h)
+few_arcs _ arcs h = h
+
+pub first_early-requires-clause-jobs : goal.first_early-requires-clause-jobs
+first_early-requires-clause-jobs c = λ k d l. (c.in_default-first_misplaced.ensures.none refl k d l).job
+
+pub swept_arc-requires : goal.swept_arc-requires
+swept_arc-requires c = record {
+  few = subst (λ arcs. length arcs ≤ MOST_ARCS) (sym c.as_slice.ensures) (few_arcs c.args.inst.now.class.order c.args.inst.now.arcs c.requires.inner.conditions.arcs);
+  ends = subst (All (λ a. (a.before < MOST_JOBS) × (a.after < MOST_JOBS))) (sym c.as_slice.ensures)
+      (λ k d l. let e = c.requires.inner.conditions.ends k d l in (omega (arith, e.0, c.requires.inner.conditions.few), omega (arith, e.1, c.requires.inner.conditions.few)));
+  jobs = λ k d l. omega (arith, (c.in_default-first_misplaced.ensures.none refl k d l).job, c.requires.inner.conditions.few);
+  moments = subst (All (λ p. IsMoment p.from × IsMoment p.to)) (sym c.as_slice-pieces.ensures) c.requires.within.moments;
+}
+
+pub swept_route-requires : goal.swept_route-requires
+swept_route-requires c = record {
+  inner = c.requires.inner;
+  places = c.in_default-first_misplaced.ensures.none refl;
+  moments = subst (All (λ p. IsMoment p.from × IsMoment p.to)) (sym c.as_slice-pieces.ensures) c.requires.within.moments;
+}
+
+pub swept_work-requires-clause-measured : goal.swept_work-requires-clause-measured
+swept_work-requires-clause-measured c = record {
+  inner = c.requires.inner;
+  checked = c.requires.decided;
+  few = subst (λ pieces. length pieces ≤ MOST_PIECES) (sym c.as_slice-pieces.ensures) c.requires.within.few;
+  place = c.in_default-first_misplaced.ensures.none refl;
+  moments = subst (All (λ p. IsMoment p.from × IsMoment p.to)) (sym c.as_slice-pieces.ensures) c.requires.within.moments;
+}
