@@ -1,4 +1,5 @@
 pub mod Lists
+pub mod Filling
 pub mod Owners
 pub mod Bounds
 pub mod Relaxed

@@ -1,12 +1,12 @@
 -- After a search the prices move, and the columns are passed on: one row more has a column where it pays least.
-use Rattle.std.proofs.Common.{◌≡◌, ◌≢◌, ℕ, zero, suc, ◌+◌, ◌-◌, ◌<◌, ◌≤◌, inl, inr, ℤ, List, [], ◌∷◌, ◌++◌, length, get_or, Contains, sym, ap, subst, ◌∙◌, arith}
+use Rattle.std.proofs.Common.{◌≡◌, ◌≢◌, ℕ, zero, suc, ◌+◌, ◌-◌, ◌<◌, ◌≤◌, inl, inr, ℤ, List, [], ◌∷◌, ◌++◌, length, get_or, All, AllPairs, Contains, sym, ap, subst, ◌∙◌, arith}
 use Rattle.std.proofs.lemmas.List.{length-append, get_or_default}
 use Rattle.std.proofs.lemmas.List.Elements.{All-append, All-cons, All-nil, All-contains, Contains-append_left, Contains-get_or}
 use Rattle.std.proofs.lemmas.List.Quantifiers.{all_pairs_push}
 use Rattle.std.proofs.lemmas.List.Sorted.{All-permutation, Contains-permutation, length_permutation}
 use Rattle.msp_matching.specs.Passing.{at, IsTree, IsStep, IsPassedOn}
 use Rattle.msp_matching.proofs.Lists.{same_place, distinct-permutation}
-use Rattle.msp_assign.specs.Search.{HasCharges, greatest_charge, sizes, IsCheapest, IsPlaced, IsLevel, IsSearch, IsNearest, IsLowered, IsOneMore}
+use Rattle.msp_assign.specs.Search.{HasCharges, greatest_charge, greatest_payment, sizes, IsCheapest, IsPlaced, IsLevel, IsSearch, IsNearest, IsLowered, IsOneMore}
 use Rattle.msp_assign.proofs.Lists.{contained_or_not, Contains-at}
 use Rattle.msp_assign.proofs.Growth.{IsClosest, IsClosest-at}
 use Rattle.msp_assign.proofs.Bounds.{sizes-at_most}
@@ -107,11 +107,40 @@ module _ (cost : ℕ → ℕ → ℕ) (columns : ℕ) (fall column : List ℕ) (
     pub IsOneMore-moved : IsOneMore columns column next after free
     IsOneMore-moved = record { same = q.same; inside = in_view; free_before = unused; unfallen = (still free in_view unused).1 }
 
+-- what lowering the prices asks
+pub record IsLowerable (columns far : ℕ) (distance column tree : List ℕ) : Type 0 where
+  pub some : 1 ≤ length tree
+  pub rows : (k : ℕ) → 1 ≤ k → k < length tree → at tree k < length column
+  pub once : (j k : ℕ) → j < k → k < length tree → at tree j ≢ at tree k
+  pub apart : AllPairs (λ c d. c ≢ d) column
+  pub inside : All (λ c. c < columns) column
+  pub sizes : length distance ≡ columns
+  pub near : far ≤ greatest_payment
+
 -- what the row's step gives
 pub record IsStepped (cost : ℕ → ℕ → ℕ) (columns : ℕ) (next column after : List ℕ) (free : ℕ) : Type 0 where
   pub placed : IsPlaced cost columns next after
   pub longer : length after ≡ length column + 1
   pub taken : IsOneMore columns column next after free
+
+-- what lowering the prices asks, as the lists are read
+pub IsLowerable-row : (cost : ℕ → ℕ → ℕ) (columns : ℕ) (fall column column2 column3 distance distance2 «from» left tree tree2 : List ℕ) (k free far : ℕ)
+    → column2 ≡ column → column3 ≡ column → distance2 ≡ distance → tree2 ≡ tree → free ≡ get_or left k free → far ≡ get_or distance free far
+    → IsPlaced cost columns fall column → IsSearch cost columns fall column2 distance «from» left tree → IsNearest distance left k → IsLowerable (length fall) far distance2 column3 tree2
+IsLowerable-row cost columns fall column column2 column3 distance distance2 from_ left tree tree2 k free far ec ec3 ed et es ef p h near =
+    let g = rw ec at h in
+    let inside_left : k < length left = omega (arith, near.inside) in
+    let inside : free < columns = omega (arith, es ∙ get_or_default left k free 0 inside_left, g.inside k 0 inside_left) in
+    let low = g.low free inside in
+    rw (ed, ec3, et, p.size) record {
+      some = g.grown.some;
+      rows = g.grown.rows;
+      once = g.grown.apart;
+      apart = p.apart;
+      inside = p.inside;
+      sizes = g.distances;
+      near = omega (arith, ef ∙ get_or_default distance free far 0 (omega (arith, g.distances, inside)), low);
+    }
 
 -- the tree over which the columns are passed on, as the lists are read
 pub IsTree-row : (cost : ℕ → ℕ → ℕ) (columns : ℕ) (fall column column2 pushed distance «from» from2 left tree tree2 : List ℕ) (k free : ℕ)

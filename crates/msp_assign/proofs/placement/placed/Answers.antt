@@ -1,6 +1,6 @@
 use Rattle.std.proofs.Common.{◌≡◌, ◌<◌, rules, arith, length, ◌∙◌}
 use Rattle.msp_matching.proofs.Lists.{whole_slice}
-use Rattle.msp_assign.proofs.Placements.{IsPlacing-start, IsPlacing-next, HasCharges-placing, free-placing}
+use Rattle.msp_assign.proofs.Placements.{IsPlacing-start, IsPlacing-next, HasCharges-placing, free-placing, IsPlacement-end}
 use Rattle.msp_assign.proofs.placement.placed.Goals as goal
 
 pub rows-init : goal.rows-init
@@ -11,6 +11,9 @@ rows-init g c =
 
 pub place_row-requires-clause-costs : goal.place_row-requires-clause-costs
 place_row-requires-clause-costs g c = HasCharges-placing _ _ _ _ _ _ _ _ (g.met.L.Lines.whole c.args.costs.now) c.requires.costs c.rows.invariant _ c.as_slice.ensures.value
+
+pub place_row-requires-clause-placed : goal.place_row-requires-clause-placed
+place_row-requires-clause-placed g c = rw (c.as_mut_slice.ensures.value, c.as_slice.ensures.value) c.rows.invariant.placed
 
 pub place_row-requires-clause-free : goal.place_row-requires-clause-free
 place_row-requires-clause-free g c =
@@ -24,3 +27,6 @@ rows-preserved g c =
     _ c.place_row.new.falls _ _ _ _ _ _ c.as_slice.ensures.value
     (whole_slice c.rows.falls.len (length c.place_row.new.falls) c.place_row.new.falls c.rows.falls.items (c.place_row.auto.falls ∙ c.as_mut_slice.ensures.len))
     c.length.ensures c.in_ok-taken.ensures.placed c.in_ok-taken.ensures.longer c.in_ok-taken.ensures.taken c.in_ok-bring_next.ensures
+
+pub returns : goal.returns
+returns g c = IsPlacement-end _ _ _ _ _ _ _ _ c.rows-rows.ensures (λ l. omega (arith, l, c.rows-test.false)) c.rows.invariant
