@@ -9,9 +9,9 @@ TO = $(DESTDIR)$(PREFIX)
 RELEASED := released/msp$(if $(filter aarch64,$(shell uname -m)),-aarch64)
 PROGRAM ?= $(if $(shell command -v rt 2>/dev/null),$(OUT)/msp,$(RELEASED))
 PROCESSORS := $(shell getconf _NPROCESSORS_ONLN 2>/dev/null || echo 1)
-# Crates proved at once: two for each processor, so that those on the longest ways begin when they can (tools/rules), but a gigabyte and a half each.
+# Crates proved at once: five for two processors, so that those on the longest ways begin when they can (tools/rules), but a gigabyte and a half each.
 ROOM := $(shell awk '/^MemAvailable/ { most = int($$2 / 1500000); print (most < 1 ? 1 : most) }' /proc/meminfo 2>/dev/null || echo 1)
-AT_ONCE ?= $(shell printf '%s\n' $$((2 * $(PROCESSORS))) $(ROOM) | sort -n | head -n 1)
+AT_ONCE ?= $(shell printf '%s\n' $$((5 * $(PROCESSORS) / 2)) $(ROOM) | sort -n | head -n 1)
 
 .PHONY: program check install clean help atlas dist release ports
 .DELETE_ON_ERROR:
