@@ -1,5 +1,6 @@
 -- The goals of `read_all` that are proved by lemmas.
-use Rattle.std.proofs.Common.{ℕ, arith, ◌++◌, take}
+use Rattle.std.proofs.Common.{ℕ, ◌≤◌, arith, ◌++◌, ◌∙◌, length, take, drop, sym, ap, subst}
+use Rattle.std.proofs.Math.Seq.{take-append-le}
 use Rattle.std.proofs.lemmas.List.{length-take, length-append}
 use Rattle.std.proofs.lemmas.Result.{err_from_is_err_and}
 use Rattle.msp_io.proofs.Moved.{and_none}
@@ -43,3 +44,17 @@ pub returns-in-Ok-eq0-clause-all : goal.returns-in-Ok-eq0-clause-all
 returns-in-Ok-eq0-clause-all g c =
     and_none (g.S.Source.finished c.args.source.now c.read_once.new.source) c.pieces.bytes.items
     (g.met.S.Source.lawful.joined_end c.args.source.now c.pieces.source c.read_once.new.source _ _ c.pieces.invariant.taken (c.in-Ok-eq0.ensures.end (omega (arith, c.in-Ok-eq0.field-0-test))))
+
+pub pieces-preserved : goal.pieces-preserved
+pieces-preserved g c =
+    let piece = c.read_once.new.piece in
+    let short : c.in-Ok.count ≤ length piece = omega (arith, c.in-Ok.ensures.count, length-append {A = ℕ}, length-take {A = ℕ}) in
+    let items = c.in_ok-extend_from_slice-in-Ok.ensures.items
+        ∙ ap (λ l. c.pieces.bytes.items ++ l) (take-append-le c.in-Ok.count piece (drop c.min-most.result c.pieces.chunk) short) in
+    record {
+      within = omega (arith, c.pieces.invariant.within, c.in_ok-extend_from_slice-in-Ok.ensures.len, c.if-count-free.false, c.len.ensures, length-take {A = ℕ});
+      taken = subst (g.S.Source.gave c.args.source.now c.read_once.new.source) (sym items)
+          (g.met.S.Source.lawful.joined c.args.source.now c.pieces.source c.read_once.new.source _ _ c.pieces.invariant.taken
+              (c.in-Ok.ensures.given (omega (arith, c.in-Ok.count-test))));
+      counts = omega (arith, c.pieces.invariant.counts, c.in-Ok.ensures.faults);
+    }
