@@ -50,11 +50,11 @@ pieces-preserved g c =
     let piece = c.read_once.new.piece in
     let short : c.in-Ok.count ≤ length piece = omega (arith, c.in-Ok.ensures.count, length-append {A = ℕ}, length-take {A = ℕ}) in
     let items = c.in_ok-extend_from_slice-in-Ok.ensures.items
-        ∙ ap (λ l. c.pieces.bytes.items ++ l) (take-append-le c.in-Ok.count piece (drop c.min-most.result c.pieces.chunk) short) in
+    ∙ ap (λ l. c.pieces.bytes.items ++ l) (take-append-le c.in-Ok.count piece (drop c.min-most.result c.pieces.chunk) short) in
     record {
       within = omega (arith, c.pieces.invariant.within, c.in_ok-extend_from_slice-in-Ok.ensures.len, c.if-count-free.false, c.len.ensures, length-take {A = ℕ});
       taken = subst (g.S.Source.gave c.args.source.now c.read_once.new.source) (sym items)
           (g.met.S.Source.lawful.joined c.args.source.now c.pieces.source c.read_once.new.source _ _ c.pieces.invariant.taken
-              (c.in-Ok.ensures.given (omega (arith, c.in-Ok.count-test))));
+          (c.in-Ok.ensures.given (omega (arith, c.in-Ok.count-test))));
       counts = omega (arith, c.pieces.invariant.counts, c.in-Ok.ensures.faults);
     }
