@@ -1,7 +1,8 @@
-use Rattle.std.proofs.Common.{◌≡◌, ℕ, ◌+◌, ◌<◌, ◌≤◌, List, length, All, sym, ap, ◌∙◌, subst, arith, sum_by}
+use Rattle.std.proofs.Common.{◌≡◌, ℕ, ◌+◌, ◌*◌, ◌<◌, ◌≤◌, List, length, All, sym, ap, ◌∙◌, subst, subst₂, arith, sum_by}
 use Rattle.std.specs.Prelude.{slice_index}
 use Rattle.std.proofs.lemmas.Result.{IfOk-weaker}
 use Rattle.msp_weighted.specs.Late.{time_of}
+use Rattle.msp_weighted.specs.Steps.{AreFlags}
 use Rattle.msp_weighted.specs.Values.{values_of, IsFilled, IsChosen, IsTableOrder}
 use Rattle.msp_weighted.proofs.TableOrder.{IsRead, order_count, order_within, some_value, table_order}
 use Rattle.msp_weighted.proofs.late_table.late_order.Goals as goal
@@ -18,6 +19,17 @@ chosen-requires-clause-few c = omega (arith, c.requires.few, order_count c.args.
 
 pub chosen-requires-clause-jobs : goal.chosen-requires-clause-jobs
 chosen-requires-clause-jobs c = subst (All (λ j. j < length c.args.inst.now.jobs)) (sym c.deref-3.ensures.value) (order_within c.args.inst.now c.in_ok-order.order.items c.in_ok-order.ensures.all)
+
+pub chosen-requires-clause-flags : goal.chosen-requires-clause-flags
+chosen-requires-clause-flags c = subst₂ (λ js fs. AreFlags c.args.inst.now js (c.total_of-total.result + 1) fs)
+    (c.deref.ensures.value ∙ sym c.deref-3.ensures.value) (sym c.deref-4.ensures.value) c.in_ok-table.ensures.filled.flagged
+
+pub chosen-requires-clause-room : goal.chosen-requires-clause-room
+chosen-requires-clause-room c = subst₂ (λ (js fs : List ℕ). length js * (c.total_of-total.result + 1) ≤ 64 * length fs)
+    (c.deref.ensures.value ∙ sym c.deref-3.ensures.value) (sym c.deref-4.ensures.value) c.in_ok-table.ensures.room
+
+pub chosen-requires-clause-inside : goal.chosen-requires-clause-inside
+chosen-requires-clause-inside c = omega (arith, c.best_moment-moment.ensures.inside, ap length c.deref-2.ensures.value ∙ c.in_ok-table.ensures.width)
 
 read : (c : After-deref-3) → IsRead c.args.inst.now c.in_ok-order.order.items c.total_of-total.result c.best_moment-moment.result c.in_ok-table.table.values.items c.in_ok-table.table.flags.items
 read c =
