@@ -1,10 +1,16 @@
-use Rattle.std.proofs.Common.{◌<◌, length, get_or, rules, ap, ◌∙◌, arith}
+use Rattle.std.proofs.Common.{◌≡◌, ℕ, ◌<◌, ◌≤◌, List, length, get_or, All, rules, sym, ap, subst, ◌∙◌, arith}
 use Rattle.std.proofs.lemmas.Int.{to_z-of_z}
 use Rattle.std.specs.Int.{w64}
+use Rattle.msp_class.specs.declared.sizes.TheConstants.{GREATEST}
+use Rattle.msp_instance.specs.Instance.{no_need}
+use Rattle.msp_instance.specs.declared.Job.{Job}
 use Rattle.msp_route.proofs.JobReads.{read_job, time_read}
 use Rattle.msp_instance.proofs.BitLemmas.{row_inside}
 use Rattle.msp_weighted.proofs.FilledFacts.{filled-start, filled_small, filled_read, weights_light, put_width}
 use Rattle.msp_weighted.proofs.table.put_jobs.Goals as goal
+
+at : (P : Job → Type 0) (js ys : List Job) (os : List ℕ) (k : ℕ) (j : Job) → js ≡ ys → All P ys → All (λ o. o < length ys) os → k < length os → j ≡ get_or js (get_or os k 0) j → P j
+at P js ys os k j e all jobs l is = subst P (sym is) (subst (All P) (sym e) all (get_or os k 0) j (subst (λ xs. get_or os k 0 < length xs) (sym e) (jobs k 0 l)))
 
 pub loop-k-init : goal.loop-k-init
 loop-k-init c = record {
@@ -49,3 +55,16 @@ loop-k-preserved c =
       reached = λ t l none. c.put_job.ensures.reached t (omega (arith, l, c.loop-k.auto.values)) none;
       room = omega (arith, c.loop-k.invariant.room, c.put_job.auto.reached);
     }
+
+pub put_job-requires-clause-light : goal.put_job-requires-clause-light
+put_job-requires-clause-light c = at (λ j. j.weight ≤ GREATEST) _ _ _ _ _ c.as_slice-jobs.ensures c.requires.light c.requires.jobs c.loop-k-test.true c.index-jobs-order.is
+
+abbrev HasTime : Job → Type 0
+HasTime j = (0 < length j.needs) × (0 < (get_or j.needs 0 no_need).time)
+
+pub first_time-requires : goal.first_time-requires
+first_time-requires c = (at HasTime _ _ _ _ _ c.as_slice-jobs.ensures c.requires.needs c.requires.jobs c.loop-k-test.true c.index-jobs-order.is).0
+
+pub put_job-requires-clause-time : goal.put_job-requires-clause-time
+put_job-requires-clause-time c =
+    subst (λ t. 0 < t) (sym c.first_time.ensures) (at HasTime _ _ _ _ _ c.as_slice-jobs.ensures c.requires.needs c.requires.jobs c.loop-k-test.true c.index-jobs-order.is).1
