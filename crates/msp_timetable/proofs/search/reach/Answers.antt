@@ -1,9 +1,22 @@
-use Rattle.std.proofs.Common.{rules, ◌≡◌, ◌<◌, subst, sym, ap, ◌∙◌, ◌++◌, ◌∷◌, []}
+use Rattle.std.proofs.Common.{rules, ◌≡◌, ◌<◌, subst, sym, ap, ◌∙◌, ◌++◌, ◌∷◌, [], ℕ, List, length, get_or}
+use Rattle.std.proofs.lemmas.List.{get_or_default}
+use Rattle.msp_matching.specs.Passing.{at}
 use Rattle.std.proofs.lemmas.Bool.{false≢true}
 use Rattle.msp_timetable.specs.Square.{stock}
 use Rattle.msp_timetable.proofs.Lists.{none_held}
 use Rattle.msp_timetable.proofs.Growth.{reads, IsFound-new, IsSearch-new, IsSearch-same}
 use Rattle.msp_timetable.proofs.search.reach.Goals as goal
+
+-- a row that is read from a list is one of the rows
+row_read : {n r k : ℕ} (rows : List ℕ) → k < length rows → r ≡ get_or rows k r → at rows k < n → r < n
+row_read {n} {r} {k} rows inside is small = subst (λ x. x < n) (sym (is ∙ get_or_default rows k r 0 inside)) small
+
+pub has_stock-requires-clause-row : goal.has_stock-requires-clause-row
+has_stock-requires-clause-row c = row_read _ c.requires.here c.index-else-index-square.ensures (c.requires.search.growing.rows _ c.requires.here)
+
+pub has_stock-requires-2-clause-row : goal.has_stock-requires-2-clause-row
+has_stock-requires-2-clause-row c =
+    row_read _ (subst (λ n. c.args.column < n) (sym c.requires.owners.size) c.requires.column) c.index-row.ensures (c.requires.owners.each _ c.requires.column).0
 
 pub returns-then-not-has_stock-2-clause-found : goal.returns-then-not-has_stock-2-clause-found
 returns-then-not-has_stock-2-clause-found c = λ _.

@@ -2,7 +2,7 @@ use Rattle.std.proofs.Common.{◌≡◌, ℕ, ◌+◌, ◌-◌, ◌*◌, ◌^◌
 use Rattle.std.proofs.Common.{sym, ap, ap₂, ◌∙◌, subst, arith}
 use Rattle.std.specs.Int.{w64}
 use Rattle.std.proofs.lemmas.Int.{ints}
-use Rattle.std.proofs.lemmas.List.{map_more}
+use Rattle.std.proofs.lemmas.List.{map_more, take_all}
 use Rattle.msp_class.specs.declared.sizes.TheConstants.{GREATEST}
 use Rattle.msp_instance.specs.declared.Job.{Job}
 use Rattle.msp_instance.specs.Conditions.{LiesWithin}
@@ -32,3 +32,7 @@ pub loop-job-preserved : goal.loop-job-preserved
 loop-job-preserved c =
     dues_next c.args.jobs.now c.args.span c.loop-job.job-index c.job-item.result c.from.result c.requires.dues (c.ranges.span).fits c.loop-job-test.true c.job-item.is c.from.ensures
     _ _ c.in_ok-push.ensures.items c.loop-job.invariant
+
+pub returns : goal.returns
+returns c = c.loop-job.invariant
+    ∙ ap (map (λ (j : Job). j.due -ℤ pos (c.args.span - 1))) (take_all c.loop-job.job-index c.args.jobs.now (omega (arith, c.loop-job-test.false)))
