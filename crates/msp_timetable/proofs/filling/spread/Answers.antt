@@ -6,17 +6,5 @@ pub loop-row-init : goal.loop-row-init
 loop-row-init c = subst (λ xs. IsSpreadBelow c.args.size c.args.matrix.now xs 0) (sym c.as_mut_slice-given.ensures.value)
     (IsSpreadBelow-start _ _ _ c.in_ok-list.ensures.length c.in_ok-list.ensures.zeros c.in_ok-list.ensures.none)
 
-pub spread_row-requires : goal.spread_row-requires
-spread_row-requires c = record {
-  matrix = c.requires.matrix;
-  few_rows = c.requires.few_rows;
-  few_columns = c.requires.few_columns;
-  small = c.requires.small;
-  rows = c.requires.rows;
-  columns = c.requires.columns;
-  row = c.loop-row-test.true;
-  given = c.loop-row.invariant.size;
-}
-
 pub loop-row-preserved : goal.loop-row-preserved
 loop-row-preserved c = IsSpreadBelow-next _ _ _ _ _ c.requires.rows c.requires.columns c.loop-row-test.true c.loop-row.invariant c.spread_row.ensures
