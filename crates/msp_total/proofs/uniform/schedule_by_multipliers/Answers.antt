@@ -1,11 +1,25 @@
-use Rattle.std.proofs.Common.{◌∙◌, sym, subst, rules}
+use Rattle.std.proofs.Common.{◌≤◌, All, ◌∙◌, sym, subst, rules}
 use Rattle.std.proofs.lemmas.Int.{to_z-of_z}
 use Rattle.std.specs.Int.{w128}
+use Rattle.msp_class.specs.declared.sizes.TheConstants.{GREATEST_SPEED}
+use Rattle.msp_instance.specs.Conditions.{HasSmallMultiple}
+use Rattle.msp_total.proofs.UniformFacts.{speeds_some}
 use Rattle.msp_total.specs.Multipliers.{IsByMultipliers}
 use Rattle.msp_total.proofs.UniformAnswer.{steps_small, jobs_few, jobs_short, places_small, answer_read}
 use Rattle.msp_total.proofs.uniform.schedule_by_multipliers.Goals as goal
 use Rattle.msp_pieces.proofs.feasible.OfClass.{IsOfClass-from}
 use Rattle.msp_total.specs.Classes.{uniform_class}
+
+pub multiple_of_all-unit-requires : goal.multiple_of_all-unit-requires
+multiple_of_all-unit-requires c =
+    let h = IsOfClass-from c.args.inst.now uniform_class c.requires.class c.requires.inner in
+    record {
+      speeds = subst (All (λ s. (1 ≤ s) × (s ≤ GREATEST_SPEED))) (sym c.as_slice-speeds.ensures) h.speeds.1;
+      small = subst HasSmallMultiple (sym c.as_slice-speeds.ensures) h.multiple;
+    }
+
+pub steps_of-requires : goal.steps_of-requires
+steps_of-requires c = subst (All (λ s. 1 ≤ s)) (sym c.as_slice-speeds.ensures) (speeds_some c.args.inst.now (IsOfClass-from c.args.inst.now uniform_class c.requires.class c.requires.inner))
 
 pub places_of-requires-clause-jobs : goal.places_of-requires-clause-jobs
 places_of-requires-clause-jobs c =
