@@ -1,10 +1,10 @@
 -- Printed fields and lines.
 use Rattle.std.proofs.Common.{◌≡◌, ℕ, Bool, true, false, ℤ, pos, if◌then◌else◌, List, [], ◌∷◌, ◌++◌, Result, Ok, Err, refl, sym, ap, ◌∙◌, append_assoc, codes, suc, ◌+◌, ◌<◌, length}
-use Rattle.std.proofs.Common.{drop, get_or, add-one, drop-cons}
+use Rattle.std.proofs.Common.{drop, get_or, add-one, drop-cons, map}
 use Rattle.std.specs.Prelude.{OnOk}
 use Rattle.std.specs.Fmt.{signed_decimal}
 use Rattle.std.specs.Ordering.{int_eq}
-use Rattle.std.specs.List.{join_with_byte}
+use Rattle.std.specs.List.{join_with_byte, flat_map}
 use Rattle.std.proofs.lemmas.List.{append-nil}
 use Rattle.std.proofs.lemmas.Bool.Decides.{Decides-int_eq}
 use Rattle.std.proofs.lemmas.List.Concat.{flat_map-append}
@@ -39,6 +39,26 @@ five_put o p q r s t a b c d e f g h i j = more_put o s t (a ++ b ++ c ++ d) e (
 pub span_put : (o p : List ℕ) (x from y to : ℤ) (s l : List ℕ) → x ≡ from → y ≡ to
     → p ≡ o ++ (signed_decimal x ++ (s ++ (signed_decimal y ++ (l ++ [])))) → p ≡ o ++ (signed_decimal from ++ s ++ signed_decimal to ++ l)
 span_put o p x from y to s l h k e = rw (sym h, sym k) (e ∙ simp (append_assoc, append-nil))
+
+-- an item of a list is put, and those after it are still to be put
+abbrev PutsOn : {X : Type 0} → (List X → List ℕ) → (X → List ℕ) → Type 0
+PutsOn {X} text item = (xs : List X) (i : ℕ) (d : X) (o p total : List ℕ)
+    → i < length xs → p ≡ o ++ item (get_or xs i d) → o ++ text (drop i xs) ≡ total → p ++ text (drop (i + 1) xs) ≡ total
+
+puts_on : {X : Type 0} (text : List X → List ℕ) (item : X → List ℕ) → ((x : X) (ys : List X) → text (x ∷ ys) ≡ item x ++ text ys) → PutsOn text item
+puts_on text item law xs i d o p total h f g =
+    let rest = text (drop (i + 1) xs) in
+    let all : text (drop i xs) ≡ item (get_or xs i d) ++ rest = rw (add-one, drop-cons xs i d h) (law (get_or xs i d) (drop (suc i) xs)) in
+    ap (λ y. y ++ rest) f ∙ append_assoc o (item (get_or xs i d)) rest ∙ ap (λ y. o ++ y) (sym all) ∙ g
+
+pub put_lines : {X : Type 0} (f : X → List ℕ) → PutsOn (flat_map f) f
+put_lines f = puts_on (flat_map f) f (λ x ys. refl)
+
+pub put_fields : {X : Type 0} (f : X → List (List ℕ)) → PutsOn (λ (ys : List X). spaced (flat_map f ys)) (λ (x : X). spaced (f x))
+put_fields {X} f = puts_on (λ (ys : List X). spaced (flat_map f ys)) (λ (x : X). spaced (f x)) (λ x ys. spaced-append (f x) (flat_map f ys))
+
+pub put_each : {X : Type 0} (f : X → List ℕ) → PutsOn (λ (ys : List X). spaced (map f ys)) (λ (x : X). spaced (f x ∷ []))
+put_each {X} f = puts_on (λ (ys : List X). spaced (map f ys)) (λ (x : X). spaced (f x ∷ [])) (λ x ys. spaced-append (f x ∷ []) (map f ys))
 
 -- a line is its first field and the others, each behind a space
 pub line-spaced : (w : List ℕ) (ws : List (List ℕ)) → join_with_byte 32 (w ∷ ws) ≡ w ++ spaced ws
