@@ -1,7 +1,7 @@
 -- Loops that put lines: one line more.
-use Rattle.std.proofs.Common.{◌≡◌, ℕ, ◌+◌, ◌<◌, List, [], ◌∷◌, ◌++◌, length, get_or, drop, Some, refl, sym, ap, ◌∙◌, append_assoc}
+use Rattle.std.proofs.Common.{◌≡◌, ℕ, ◌+◌, ◌<◌, ◌≤◌, List, [], ◌∷◌, ◌++◌, length, get_or, drop, Some, None, refl, sym, ap, ◌∙◌, append_assoc}
 use Rattle.std.specs.List.{flat_map}
-use Rattle.std.proofs.lemmas.List.{drop_more}
+use Rattle.std.proofs.lemmas.List.{append-nil, drop_all, drop_more}
 use Rattle.msp_class.specs.declared.class.Class.{Class}
 use Rattle.msp_table.specs.Rows.{goes_of}
 use Rattle.msp_report.specs.ChainText.{row_line, row_lines}
@@ -26,3 +26,14 @@ rows_more whole out after here next rows k row d below at goes put so_far =
   where
     first : goes_of row here ≡ Some next → row_lines here (row ∷ drop (k + 1) rows) ≡ row_line row next ++ row_lines next (drop (k + 1) rows)
     first e = rw e refl
+
+-- where nothing is left to put
+pub all_put : {A : Type 0} (lines : List A → List ℕ) (whole out : List ℕ) (xs : List A) (k : ℕ) → lines [] ≡ [] → length xs ≤ k → out ++ lines (drop k xs) ≡ whole → out ≡ whole
+all_put lines whole out xs k none past so_far = sym (append-nil out) ∙ ap (λ l. out ++ l) (sym (ap lines (drop_all k xs past) ∙ none)) ∙ so_far
+
+pub rows_stop : (whole out : List ℕ) (here : Class) (rows : List ℕ) (k row d : ℕ) → k < length rows → get_or rows k d ≡ row → goes_of row here ≡ None
+    → out ++ row_lines here (drop k rows) ≡ whole → out ≡ whole
+rows_stop whole out here rows k row d below at stops so_far = sym (append-nil out) ∙ ap (λ l. out ++ l) (sym none) ∙ so_far
+  where
+    none : row_lines here (drop k rows) ≡ []
+    none = rw (drop_more rows k d below, at, stops) refl
