@@ -1,13 +1,16 @@
 -- A piece that is its whole operation, by one form for all kinds of machines.
-use Rattle.std.proofs.Common.{◌≡◌, ◌≢◌, ℕ, ◌+◌, inl, inr, ◌<◌, ◌≤◌, Bool, true, false, List, [], ◌∷◌, ℤ, pos, ◌*ℤ◌, length, get_or, map, All, MatchBool, refl, sym, ap, ap₂, subst, subst₂, ◌∙◌, arith}
+use Rattle.std.proofs.Common.{◌≡◌, ◌≢◌, ℕ, ◌+◌, inl, inr, ◌<◌, ◌≤◌, Bool, true, false, not, List, [], ◌∷◌, ℤ, pos, ◌*ℤ◌, length, get_or, map, All, MatchBool, refl, sym, ap, ap₂, subst, subst₂, ◌∙◌, arith}
 use Rattle.std.proofs.lemmas.List.Elements.{All-head, All-filter}
-use Rattle.std.proofs.lemmas.Bool.{cases_lt}
+use Rattle.std.proofs.lemmas.Bool.{cases_lt, false≢true}
+use Rattle.std.proofs.lemmas.List.{get_or_default}
 use Rattle.std.specs.Prelude.{IsTrue, ◌↔◌, ◌==◌, ◌&&◌}
 use Rattle.msp_class.specs.declared.class.Env.{Env}
 use Rattle.msp_class.specs.declared.environments.EnvKind.{EnvKind}
 use Rattle.msp_class.specs.declared.environments.EnvKind.TheVariants.{Identical, Uniform, Unrelated}
 use Rattle.msp_class.specs.Env.{kind_of}
 use Rattle.msp_instance.specs.declared.Instance.{Instance}
+use Rattle.msp_instance.specs.declared.Job.{Job}
+use Rattle.msp_instance.specs.declared.Need.{Need}
 use Rattle.msp_instance.specs.Instance.{no_job, job_at, need_at}
 use Rattle.msp_instance.specs.Conditions.{HasShape, Inner, LiesWithin}
 use Rattle.msp_pieces.specs.declared.Piece.{Piece}
@@ -129,6 +132,21 @@ lacks_least i unit u v xs job ops o e f inside least before = subst (λ x. IsLea
   job = λ k q below. not_lacking i u xs k q (before k q below);
   operation = λ q below. subst (λ x. ¬ LacksWorkAmong i x xs job q) f (least.least q below);
 })
+
+-- what the test of an operation says, at the list and the kind as they are passed, and what the test of its work says
+pub has_work : (i : Instance) (jobs : List Job) (needs : List Need) (k : EnvKind) (j o : ℕ) (d : Job) (has : Bool)
+    → jobs ≡ i.jobs → needs ≡ (get_or jobs j d).needs → k ≡ kind_of i.class.env → j < length i.jobs →
+    ((x : Instance) (y : ℕ) → needs ≡ (job_at x y).needs → IsTrue has ↔ HasOperation k x y o) → IsTrue has ↔ HasOperation (kind_of i.class.env) i j o
+has_work i jobs needs k j o d has ej en ek inside h = subst (λ x. IsTrue has ↔ HasOperation x i j o) ek
+    (h i j (en ∙ ap (λ xs. (get_or xs j d).needs) ej ∙ ap (λ x. x.needs) (sym (get_or_default i.jobs j no_job d inside))))
+
+pub no_work : {A : Type 0} (has : Bool) → has ≡ false → IsTrue has → A
+no_work has e h = absurd (false≢true (sym e ∙ h))
+
+pub lacks_when : (i : Instance) (unit u : ℤ) (xs : List Piece) (j o : ℕ) (gets : Bool) → u ≡ unit → HasOperation (kind_of i.class.env) i j o
+    → IsTrue gets ↔ GetsWorkAmong i u xs j o → not gets ≡ true → LacksWorkAmong i unit xs j o
+lacks_when i unit u xs j o true e op h t = no_work false refl t
+lacks_when i unit u xs j o false e op h t = subst (λ v. LacksWorkAmong i v xs j o) e (op, λ g. no_work false refl (h.1 g))
 
 measured_is : (k : EnvKind) (i : Instance) (p : Piece) → k ≢ Unrelated → measured_by k i p ≡ work_of k i p
 measured_is Unrelated i p n = absurd (n refl)
