@@ -1,10 +1,12 @@
-use Rattle.std.proofs.Common.{◌≡◌, ◌≤◌, ℕ, ◌+ℤ◌, ◌*ℤ◌, pos, All, ap, sum_by, ◌∙◌, sym, subst, subst₂, arith, rules, ℤ, FitsSigned, to_z, of_z}
+use Rattle.std.proofs.Common.{◌≡◌, ◌≤◌, ℕ, ◌+ℤ◌, ◌*ℤ◌, pos, All, ap, sum_by, refl, ◌∙◌, sym, subst, subst₂, arith, rules, ℤ, FitsSigned, to_z, of_z}
 use Rattle.std.proofs.lemmas.Int.{ints, to_z-of_z}
 use Rattle.std.specs.Int.{w64, w128}
+use Rattle.msp_instance.specs.declared.Job.{Job}
 use Rattle.msp_instance.specs.Conditions.{LiesWithin}
 use Rattle.msp_pieces.specs.Within.{greatest_scaled, greatest_level}
 use Rattle.msp_pieces.specs.Cost.{job_cost}
-use Rattle.msp_class.specs.declared.class.Crit.TheVariants.{Fmax}
+use Rattle.msp_class.specs.declared.class.Crit.{Crit}
+use Rattle.msp_class.specs.declared.class.Crit.TheVariants.{Lmax, Fmax, SumWC, SumU, SumWU, SumT, SumWT}
 use Rattle.msp_pieces.proofs.job_cost.job_cost_at.Goals as goal
 
 pub returns-in-Lmax-clause-size : goal.returns-in-Lmax-clause-size
@@ -40,9 +42,49 @@ curve_cost-requires-clause-base c =
     subst (λ u. (adds : ℕ) → adds ≤ sum_by (λ s. s.add) curve.steps → LiesWithin greatest_level (u *ℤ (curve.base +ℤ pos adds)))
     (sym (to_z-of_z w128 c.args.unit c.ranges.unit)) c.requires.small.base
 
+-- a cost at the numbers as they are passed is the job's cost
+abbrev dated : Job → ℤ → Job
+dated j d = record { release = j.release; due = d; weight = j.weight; needs = j.needs; curve = j.curve }
+
+same_cost : {crit : Crit} (k : Crit) {unit u d end e r s : ℤ} (j : Job) → crit ≡ k → u ≡ unit → d ≡ j.due → e ≡ end → s ≡ r
+    → r ≡ job_cost k u (dated j d) e → s ≡ job_cost crit unit j end
+same_cost k {unit} {u} {d} {end} {e} j ck eu ed ee es h =
+    es ∙ h ∙ ap (λ x. job_cost k x (dated j d) e) eu ∙ ap (λ x. job_cost k unit (dated j x) e) ed
+    ∙ ap (λ x. job_cost k unit j x) ee ∙ ap (λ x. job_cost x unit j end) (sym ck)
+
+pub returns-in-Lmax-clause-value : goal.returns-in-Lmax-clause-value
+returns-in-Lmax-clause-value c =
+    same_cost Lmax c.args.job.now c.in-Lmax.is (to_z-of_z w128 c.args.unit c.ranges.unit) (to_z-of_z w64 c.args.job.now.due (search rules))
+    (to_z-of_z w128 c.args.end c.ranges.end) (to_z-of_z w128 c.lateness_at.result (search rules)) c.lateness_at.ensures.value
+
 pub returns-in-Fmax-clause-value : goal.returns-in-Fmax-clause-value
 returns-in-Fmax-clause-value c =
-    let job = c.args.job.now in
-    to_z-of_z w128 c.curve_cost.result (search rules)
-    ∙ subst₂ (λ u e. c.curve_cost.result ≡ job_cost Fmax u job e) (to_z-of_z w128 c.args.unit c.ranges.unit) (to_z-of_z w128 c.args.end c.ranges.end) c.curve_cost.ensures.value
-    ∙ ap (λ k. job_cost k c.args.unit job c.args.end) (sym c.in-Fmax.is)
+    same_cost Fmax c.args.job.now c.in-Fmax.is (to_z-of_z w128 c.args.unit c.ranges.unit) refl
+    (to_z-of_z w128 c.args.end c.ranges.end) (to_z-of_z w128 c.curve_cost.result (search rules)) c.curve_cost.ensures.value
+
+pub returns-in-SumWC-clause-value : goal.returns-in-SumWC-clause-value
+returns-in-SumWC-clause-value c =
+    same_cost SumWC c.args.job.now c.in-SumWC.is (to_z-of_z w128 c.args.unit c.ranges.unit) refl
+    (to_z-of_z w128 c.args.end c.ranges.end) (to_z-of_z w128 c.weighted.result (search rules)) c.weighted.ensures.value
+
+pub returns-in-SumU-clause-value : goal.returns-in-SumU-clause-value
+returns-in-SumU-clause-value c =
+    same_cost SumU c.args.job.now c.in-SumU.is (to_z-of_z w128 c.args.unit c.ranges.unit) (to_z-of_z w64 c.args.job.now.due (search rules))
+    (to_z-of_z w128 c.args.end c.ranges.end) (to_z-of_z w128 c.late_at.result (search rules)) c.late_at.ensures.value
+
+pub returns-in-SumWU-clause-value : goal.returns-in-SumWU-clause-value
+returns-in-SumWU-clause-value c =
+    same_cost SumWU c.args.job.now c.in-SumWU.is (to_z-of_z w128 c.args.unit c.ranges.unit) (to_z-of_z w64 c.args.job.now.due (search rules))
+    (to_z-of_z w128 c.args.end c.ranges.end) (to_z-of_z w128 c.weighted-in-SumWU.result (search rules)) (c.weighted-in-SumWU.ensures.value
+    ∙ ap (λ x. pos c.args.job.now.weight *ℤ x) (to_z-of_z w128 c.late_at-in-SumWU.result (search rules) ∙ c.late_at-in-SumWU.ensures.value))
+
+pub returns-in-SumWT-clause-value : goal.returns-in-SumWT-clause-value
+returns-in-SumWT-clause-value c =
+    same_cost SumWT c.args.job.now c.in-SumWT.is (to_z-of_z w128 c.args.unit c.ranges.unit) (to_z-of_z w64 c.args.job.now.due (search rules))
+    (to_z-of_z w128 c.args.end c.ranges.end) (to_z-of_z w128 c.weighted-in-SumWT.result (search rules)) (c.weighted-in-SumWT.ensures.value
+    ∙ ap (λ x. pos c.args.job.now.weight *ℤ x) (to_z-of_z w128 c.tardiness_at-in-SumWT.result (search rules) ∙ c.tardiness_at-in-SumWT.ensures.value))
+
+pub returns-in-SumT-clause-value : goal.returns-in-SumT-clause-value
+returns-in-SumT-clause-value c =
+    same_cost SumT c.args.job.now c.in-SumT.is (to_z-of_z w128 c.args.unit c.ranges.unit) (to_z-of_z w64 c.args.job.now.due (search rules))
+    (to_z-of_z w128 c.args.end c.ranges.end) (to_z-of_z w128 c.tardiness_at.result (search rules)) c.tardiness_at.ensures.value
