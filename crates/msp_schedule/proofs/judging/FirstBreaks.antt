@@ -1,5 +1,5 @@
 -- Conditions that are kept are not broken, and the first one that is broken is named.
-use Rattle.std.proofs.Common.{◌≡◌, ℕ, zero, suc, ◌+◌, List, ◌<◌, ◌⊎◌, inl, inr, length, get_or, All, AllPairs, pos, ◌*ℤ◌, ◌≤ℤ◌, ◌<ℤ◌, refl, sym, ap, subst, ◌∙◌, arith, Option, Some, None}
+use Rattle.std.proofs.Common.{◌≡◌, ℕ, zero, suc, ◌+◌, List, ◌<◌, ◌⊎◌, inl, inr, length, get_or, All, AllPairs, pos, ◌*ℤ◌, ◌≤ℤ◌, ◌<ℤ◌, refl, sym, ap, subst, subst₂, ◌∙◌, arith, Option, Some, None}
 use Rattle.std.proofs.lemmas.Int.{ints}
 use Rattle.std.proofs.lemmas.Bool.{cases_lt}
 use Rattle.std.specs.Prelude.{IsNone, IfSome, ◌↔◌}
@@ -16,7 +16,7 @@ use Rattle.msp_schedule.specs.declared.breaks.Break.TheVariants.{Span, Place, Ma
 use Rattle.msp_pieces.specs.Piece.{IsApart, piece_at, no_piece}
 use Rattle.msp_pieces.specs.Feasible.{Feasible, FollowsRoute, HasOperation, HasPlace, GetsWork}
 use Rattle.msp_pieces.specs.Within.{Within}
-use Rattle.msp_schedule.specs.Breaks.{no_arc, Overlaps, KeepsArc, KeepsRoute, HasRoutes, IsBroken, IsDecision, IsFirstBreak, turn_of}
+use Rattle.msp_schedule.specs.Breaks.{no_arc, IsLeast, IsLeastOperation, Overlaps, KeepsArc, KeepsRoute, HasRoutes, IsBroken, IsDecision, IsFirstBreak, turn_of}
 
 -- the condition of a turn, and those before it
 abbrev pub Kept : ℕ → Instance → Schedule → Type 0
@@ -136,6 +136,21 @@ module _ (i : Instance) (s : Schedule) where
 
   pub up_to_next : (n : ℕ) → KeepsUpTo n i s → Kept n i s → KeepsUpTo (n + 1) i s
   up_to_next n h x = record { each = λ k l. elim (cases_lt k n) [ inl less ↦ h.each k less | inr more ↦ subst (λ m. Kept m i s) (omega (arith, l, more)) x ] }
+
+-- the jobs so far keep their routes, and the next one; and the first that does not
+pub routes_next : (i : Instance) (xs : List Piece) (job ops : ℕ) → ops ≡ length (job_at i job).needs → All (λ p. p.op < length (job_at i p.job).needs) xs
+    → ((o : ℕ) → o < ops → KeepsRoute xs job o) → ((j o : ℕ) → j < job → KeepsRoute xs j o) → (j o : ℕ) → j < job + 1 → KeepsRoute xs j o
+routes_next i xs job ops es places own before j o below = elim (cases_lt j job) [
+  | inl less ↦ before j o less
+  | inr more ↦ subst (λ k. KeepsRoute xs k o) (omega (arith, below, more)) (elim (cases_lt o ops) [
+    | inl less ↦ own o less
+    | inr beyond ↦ λ k d l m b n ep eq less eo. let inside = subst₂ (λ x y. x < length (job_at i y).needs) eo eq (places m b n) in absurd (omega (arith, inside, beyond, es))
+  ])
+]
+
+pub routes_least : (i : Instance) (xs : List Piece) (job ops o : ℕ) → job < length i.jobs → IsLeast ops (λ q. ¬ KeepsRoute xs job q) o
+    → ((j q : ℕ) → j < job → KeepsRoute xs j q) → IsLeastOperation i (λ k q. ¬ KeepsRoute xs k q) job o
+routes_least i xs job ops o inside least before = record { inside = inside; holds = least.holds; job = λ k q below n. n (before k q below); operation = least.least }
 
 -- the schedule whose pieces are passed as a slice
 abbrev pub with_pieces : Schedule → List Piece → Schedule

@@ -1,14 +1,26 @@
-use Rattle.std.proofs.Common.{refl, rules}
+use Rattle.std.proofs.Common.{ℕ, ◌<◌, refl, sym, subst, arith}
 use Rattle.std.proofs.lemmas.Int.{to_z-of_z}
 use Rattle.std.specs.Int.{w128}
 use Rattle.msp_schedule.proofs.judging.WholeWork.{lacks_least, worked_next}
+use Rattle.msp_pieces.specs.Within.{AreSmallTimes}
+use Rattle.msp_schedule.specs.Works.{IsWorked}
 use Rattle.msp_schedule.proofs.shares.work_in.Goals as goal
 
 pub returns-in-Some-clause-some : goal.returns-in-Some-clause-some
 returns-in-Some-clause-some c =
     lacks_least c.args.inst.now c.args.unit _ _ c.args.pieces.now c.loop-job.job _ c.in-Some.op
-    (to_z-of_z w128 c.args.unit c.ranges.unit) (search rules) (search rules) c.in-Some.ensures.some c.loop-job.invariant
+    (to_z-of_z w128 c.args.unit c.ranges.unit) refl
+    (subst (λ (n : ℕ). c.loop-job.job < n) c.len-job-end.ensures c.loop-job-test.true)
+    c.in-Some.ensures.some c.loop-job.invariant
 
 pub loop-job-preserved : goal.loop-job-preserved
 loop-job-preserved c = worked_next c.args.inst.now _ _ c.args.pieces.now c.loop-job.job c.needs_of.result
-    (search rules) c.requires.measured.inner (search rules) c.needs_of.ensures (c.in_default.ensures.none refl) c.loop-job.invariant
+    refl c.requires.measured.inner
+    (subst (λ (n : ℕ). c.loop-job.job < n) c.len-job-end.ensures c.loop-job-test.true) c.needs_of.ensures (c.in_default.ensures.none refl) c.loop-job.invariant
+
+pub returns-clause-none : goal.returns-clause-none
+returns-clause-none c e j o l = subst (λ u. IsWorked c.args.inst.now u c.args.pieces.now j o) (to_z-of_z w128 c.args.unit c.ranges.unit)
+    (c.loop-job.invariant j o (omega (arith, l, c.len-job-end.ensures, c.loop-job-test.false)))
+
+pub unworked_in-requires-clause-small : goal.unworked_in-requires-clause-small
+unworked_in-requires-clause-small c = subst (AreSmallTimes c.args.inst.now) (sym (to_z-of_z w128 c.args.unit c.ranges.unit)) c.requires.small
