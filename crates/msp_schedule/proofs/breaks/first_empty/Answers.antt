@@ -1,4 +1,4 @@
-use Rattle.std.proofs.Common.{ℕ, ◌<◌, ℤ, ◌<ℤ◌, ◌≤ℤ◌, arith, rules, lt_of_lt_of_le, below_more}
+use Rattle.std.proofs.Common.{ℤ, ◌<ℤ◌, ◌≤ℤ◌, arith, rules, lt_of_lt_of_le, below_more}
 use Rattle.std.proofs.lemmas.Int.{ints}
 use Rattle.std.proofs.lemmas.List.Elements.{All-from_get_or}
 use Rattle.msp_pieces.specs.Piece.{no_piece, piece_at}

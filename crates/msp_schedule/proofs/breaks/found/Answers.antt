@@ -1,9 +1,10 @@
-use Rattle.std.proofs.Common.{refl, rules, sym, subst}
+use Rattle.std.proofs.Common.{All, refl, rules, sym, subst}
 use Rattle.std.proofs.lemmas.Int.{to_z-of_z}
 use Rattle.std.specs.Int.{w128}
-use Rattle.msp_pieces.specs.Within.{AreSmallReleases, AreSmallTimes}
+use Rattle.msp_pieces.specs.Within.{IsMoment, AreSmallReleases, AreSmallTimes}
 use Rattle.msp_pieces.proofs.costs.Small.{small_releases, small_times}
 use Rattle.msp_schedule.proofs.judging.Deciding.{first_span, first_place, first_machine, first_job, first_release, first_arc, first_route, first_work, none_broken}
+use Rattle.msp_schedule.proofs.judging.SweepFacts.{measurable}
 use Rattle.msp_schedule.proofs.breaks.found.Goals as goal
 
 pub returns-in-Some : goal.returns-in-Some
@@ -53,3 +54,17 @@ returns-in-None c = none_broken c.as_slice-pieces.ensures (c.in_default.ensures.
     (c.in_default-first_overlap.ensures.none refl) (c.in_default-first_overlap-2.ensures.none refl) (to_z-of_z w128 c.args.s.now.unit (search rules))
     (c.in_default-first_early.ensures.none refl) c.as_slice.ensures (c.in_default-first_arc.ensures.none refl) (c.in_default-first_out_of_route.ensures.none refl)
     (c.in-None.ensures.none refl) c.requires.within
+
+pub first_early-requires-clause-jobs : goal.first_early-requires-clause-jobs
+first_early-requires-clause-jobs c = λ k d l. (c.in_default-first_misplaced.ensures.none refl k d l).job
+
+pub first_work-requires-clause-measured : goal.first_work-requires-clause-measured
+first_work-requires-clause-measured c = measurable c.args.inst.now c.args.s.now _ c.as_slice-pieces.ensures c.requires.inner c.requires.decided c.requires.within
+    (c.in_default-first_misplaced.ensures.none refl)
+
+pub first_out_of_route-requires : goal.first_out_of_route-requires
+first_out_of_route-requires c = record {
+  inner = c.requires.inner;
+  places = c.in_default-first_misplaced.ensures.none refl;
+  moments = subst (All (λ p. IsMoment p.from × IsMoment p.to)) (sym c.as_slice-pieces.ensures) c.requires.within.moments;
+}

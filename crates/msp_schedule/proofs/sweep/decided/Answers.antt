@@ -4,7 +4,7 @@ use Rattle.std.proofs.lemmas.Int.{to_z-of_z}
 use Rattle.std.specs.Int.{w128}
 use Rattle.msp_class.specs.declared.class.Order.{Order}
 use Rattle.msp_class.specs.declared.class.Order.TheVariants.{Free}
-use Rattle.msp_class.specs.declared.sizes.TheConstants.{MOST_JOBS, MOST_ARCS, MOST_PIECES}
+use Rattle.msp_class.specs.declared.sizes.TheConstants.{MOST_JOBS, MOST_ARCS}
 use Rattle.msp_instance.specs.declared.Arc.{Arc}
 use Rattle.msp_instance.specs.Conditions.{HasArcs}
 use Rattle.msp_pieces.specs.Within.{IsMoment, AreSmallReleases, AreSmallTimes}
@@ -12,7 +12,7 @@ use Rattle.msp_schedule.specs.Works.{IsFirstUnworked}
 use Rattle.msp_schedule.specs.Breaks.{IsFirstOverlap, IsFirstOutOfRoute, HasRoutes}
 use Rattle.msp_pieces.proofs.costs.Small.{small_releases, small_times}
 use Rattle.msp_schedule.proofs.judging.Deciding.{first_span, first_place, first_machine, first_job, first_release, first_arc, first_route, first_work, none_broken}
-use Rattle.msp_schedule.proofs.judging.SweepFacts.{none_is}
+use Rattle.msp_schedule.proofs.judging.SweepFacts.{none_is, measurable}
 use Rattle.msp_schedule.proofs.sweep.decided.Goals as goal
 
 pub returns-in-Some : goal.returns-in-Some
@@ -90,10 +90,5 @@ swept_route-requires c = record {
 }
 
 pub swept_work-requires-clause-measured : goal.swept_work-requires-clause-measured
-swept_work-requires-clause-measured c = record {
-  inner = c.requires.inner;
-  checked = c.requires.decided;
-  few = subst (λ pieces. length pieces ≤ MOST_PIECES) (sym c.as_slice-pieces.ensures) c.requires.within.few;
-  place = c.in_default-first_misplaced.ensures.none refl;
-  moments = subst (All (λ p. IsMoment p.from × IsMoment p.to)) (sym c.as_slice-pieces.ensures) c.requires.within.moments;
-}
+swept_work-requires-clause-measured c = measurable c.args.inst.now c.args.s.now _ c.as_slice-pieces.ensures c.requires.inner c.requires.decided c.requires.within
+    (c.in_default-first_misplaced.ensures.none refl)
