@@ -31,9 +31,7 @@ pub invariant_of-result : goal.invariant_of-result
 invariant_of-result c =
     let d = divided_from _ _ _ _ _ _ _ _ _ (fits c.args.f.num (search rules)) (fits c.args.f.den (search rules)) c.args.f.positive c.unsigned_abs-size.ensures.value
     c.unsigned_abs-whole.ensures.value c.gcd-divisor.ensures.divisor c.quotient.ensures c.with_sign.ensures.positive c.with_sign.ensures.negative in
-    let e = fits c.quotient.result (search rules) in
-    let p = Divides-positive _ _ _ _ _ d in
-    record { positive = omega (arith, ints) }
+    record { positive = subst (λ k. pos 1 ≤ℤ k) (sym (fits c.quotient.result (search rules))) (Divides-positive _ _ _ _ _ d) }
 
 pub returns-clause-same : goal.returns-clause-same
 returns-clause-same c =

@@ -1,8 +1,10 @@
-use Rattle.std.proofs.Common.{◌≡◌, ℕ, ◌≤◌, List, length, take, sum_by, ℤ, ap, ◌∙◌, arith}
+use Rattle.std.proofs.Common.{◌≡◌, ℕ, ◌≤◌, List, length, take, sum_by, ℤ, pos, ◌*ℤ◌, All, sym, subst₂, ap, ◌∙◌, arith}
 use Rattle.std.proofs.lemmas.List.{take_all}
 use Rattle.std.proofs.lemmas.Int.{to_z-of_z}
 use Rattle.std.specs.Int.{w128}
 use Rattle.msp_instance.specs.declared.Step.{Step}
+use Rattle.msp_instance.specs.Conditions.{LiesWithin}
+use Rattle.msp_pieces.specs.Within.{greatest_scaled}
 use Rattle.msp_pieces.specs.Cost.{jump}
 use Rattle.msp_pieces.proofs.job_cost.jumps_at.Goals as goal
 
@@ -17,3 +19,8 @@ returns-clause-value c =
     let same = ap length c.as_slice-step-items.ensures in
     same_jumps _ _ _ _ c.args.curve.now.steps _ (to_z-of_z w128 c.args.unit c.ranges.unit)
     (to_z-of_z w128 c.args.end c.ranges.end) (at_end _ _ c.args.curve.now.steps c.loop-step.step-index _ (omega arith) c.loop-step.invariant.total)
+
+pub jump_at-requires : goal.jump_at-requires
+jump_at-requires c =
+    subst₂ (λ u l. All (λ s. LiesWithin greatest_scaled (u *ℤ pos s.above)) l) (sym (to_z-of_z w128 c.args.unit c.ranges.unit))
+    (sym c.as_slice-step-items.ensures) c.requires.small c.loop-step.step-index _ c.loop-step-test.true
