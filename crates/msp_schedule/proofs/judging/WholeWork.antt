@@ -78,6 +78,10 @@ beyond_by Uniform e i j o m shape op = omega (arith, shape.0, op)
 beyond_by Unrelated e i j o m shape op = omega (arith, shape.0, op, m)
 beyond_by _ e i j o m shape op = op.0
 
+pub operation_inside : (i : Instance) (j o : ℕ) → Inner i → j < length i.jobs → HasOperation (kind_of i.class.env) i j o → o < length (job_at i j).needs
+operation_inside i j o inner inside op =
+    beyond_by (kind_of i.class.env) i.class.env i j o inner.conditions.machines.0 (inner.conditions.jobs j no_job inside).needs.shape op
+
 -- how much work an operation is
 whole_work_by : (k : EnvKind) (i : Instance) (j o : ℕ) → k ≢ Unrelated → whole_work k i j o ≡ (need_at i j o).time
 whole_work_by Unrelated i j o n = absurd (n refl)
@@ -115,7 +119,7 @@ lacks_first i unit u xs j ops o e inside lacks before =
 pub all_worked : (i : Instance) (u : ℤ) (xs : List Piece) (j ops : ℕ)
     → Inner i → j < length i.jobs → ops ≡ length (job_at i j).needs → ((q : ℕ) → q < ops → IsWorked i u xs j q) → (q : ℕ) → IsWorked i u xs j q
 all_worked i u xs j ops inner inside es h q op =
-    h q (subst (λ n. q < n) (sym es) (beyond_by (kind_of i.class.env) i.class.env i j q inner.conditions.machines.0 (inner.conditions.jobs j no_job inside).needs.shape op)) op
+    h q (subst (λ n. q < n) (sym es) (operation_inside i j q inner inside op)) op
 
 pub worked_next : (i : Instance) (u v : ℤ) (xs : List Piece) (job ops : ℕ) → v ≡ u → Inner i → job < length i.jobs → ops ≡ length (job_at i job).needs
     → ((q : ℕ) → q < ops → IsWorked i v xs job q) → ((j o : ℕ) → j < job → IsWorked i u xs j o) → (j o : ℕ) → j < job + 1 → IsWorked i u xs j o

@@ -1,4 +1,4 @@
-use Rattle.std.proofs.Common.{ℕ, ◌<◌, refl, subst, arith}
+use Rattle.std.proofs.Common.{ℕ, ◌<◌, refl, sym, subst, lt_of_lt_of_le}
 use Rattle.msp_schedule.proofs.judging.FirstBreaks.{routes_next, routes_least}
 use Rattle.msp_schedule.proofs.routes.first_route.Goals as goal
 
@@ -11,4 +11,4 @@ returns-in-Some-clause-some c = routes_least c.args.inst.now c.args.pieces.now c
     (subst (λ (n : ℕ). c.loop-job.job < n) c.len-job-end.ensures c.loop-job-test.true) c.in-Some.ensures.some c.loop-job.invariant
 
 pub returns-clause-none : goal.returns-clause-none
-returns-clause-none c e j o l = c.loop-job.invariant j o (omega (arith, l, c.len-job-end.ensures, c.loop-job-test.false))
+returns-clause-none c e j o l = c.loop-job.invariant j o (lt_of_lt_of_le (subst (λ (n : ℕ). j < n) (sym c.len-job-end.ensures) l) c.loop-job-test.false)

@@ -1,4 +1,4 @@
-use Rattle.std.proofs.Common.{ℕ, ◌<◌, refl, sym, subst, arith}
+use Rattle.std.proofs.Common.{ℕ, ◌<◌, refl, sym, subst, lt_of_lt_of_le}
 use Rattle.std.proofs.lemmas.Int.{to_z-of_z}
 use Rattle.std.specs.Int.{w128}
 use Rattle.msp_schedule.proofs.judging.WholeWork.{lacks_least, worked_next}
@@ -20,7 +20,7 @@ loop-job-preserved c = worked_next c.args.inst.now _ _ c.args.pieces.now c.loop-
 
 pub returns-clause-none : goal.returns-clause-none
 returns-clause-none c e j o l = subst (λ u. IsWorked c.args.inst.now u c.args.pieces.now j o) (to_z-of_z w128 c.args.unit c.ranges.unit)
-    (c.loop-job.invariant j o (omega (arith, l, c.len-job-end.ensures, c.loop-job-test.false)))
+    (c.loop-job.invariant j o (lt_of_lt_of_le (subst (λ (n : ℕ). j < n) (sym c.len-job-end.ensures) l) c.loop-job-test.false))
 
 pub unworked_in-requires-clause-small : goal.unworked_in-requires-clause-small
 unworked_in-requires-clause-small c = subst (AreSmallTimes c.args.inst.now) (sym (to_z-of_z w128 c.args.unit c.ranges.unit)) c.requires.small

@@ -1,11 +1,11 @@
-use Rattle.std.proofs.Common.{subst, rules, sym}
+use Rattle.std.proofs.Common.{refl, subst, rules, sym}
 use Rattle.std.specs.Prelude.{IsTrue, ◌↔◌}
 use Rattle.msp_class.specs.Env.{kind_of}
 use Rattle.std.proofs.lemmas.Int.{to_z-of_z}
 use Rattle.std.specs.Int.{w128}
 use Rattle.msp_pieces.specs.Feasible.{HasPlace, IsWholeWork}
 use Rattle.msp_pieces.specs.Within.{IsMoment, AreSmallTimes}
-use Rattle.msp_schedule.proofs.judging.WholeWork.{sole_has, gets_cut, gets_whole}
+use Rattle.msp_schedule.proofs.judging.WholeWork.{operation_inside, small_time, sole_has, gets_cut, gets_whole}
 use Rattle.msp_schedule.proofs.work.gets_work.Goals as goal
 
 pub returns-then-inst : goal.returns-then-inst
@@ -29,3 +29,10 @@ returns-in-Some c = gets_whole c.args.inst.now c.args.unit c.args.pieces.now c.a
 
 pub is_whole_work-requires-clause-small : goal.is_whole_work-requires-clause-small
 is_whole_work-requires-clause-small c = subst (AreSmallTimes c.args.inst.now) (sym (to_z-of_z w128 c.args.unit c.ranges.unit)) c.requires.small
+
+pub time_of-requires-clause-need : goal.time_of-requires-clause-need
+time_of-requires-clause-need c = operation_inside c.args.inst.now c.args.job c.args.op c.requires.measured.inner c.requires.job c.requires.operation
+
+pub takes-requires : goal.takes-requires
+takes-requires c = small_time c.args.inst.now c.args.unit _ c.args.job c.args.op c.args.op c.time_of.result (to_z-of_z w128 c.args.unit c.ranges.unit) refl c.time_of.ensures
+    c.requires.small c.requires.job (operation_inside c.args.inst.now c.args.job c.args.op c.requires.measured.inner c.requires.job c.requires.operation)
