@@ -1,7 +1,7 @@
 -- What a row pays stays within bounds.
 use Rattle.std.proofs.Common.{◌≡◌, ℕ, ◌<◌, ◌≤◌, ℤ, pos, List, arith, sym}
 use Rattle.std.proofs.lemmas.Int.{ints}
-use Rattle.msp_matching.specs.Passing.{at}
+use Rattle.msp_assign.specs.Passing.{at}
 use Rattle.msp_assign.specs.Search.{HasCharges, greatest_charge, sizes, paid, greatest_payment}
 use Rattle.msp_class.proofs.IntegerRing.{natural}
 

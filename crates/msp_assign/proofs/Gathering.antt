@@ -2,7 +2,7 @@
 use Rattle.std.proofs.Common.{◌≡◌, ◌≢◌, ℕ, ◌+◌, ◌<◌, ◌≤◌, inl, inr, List, length, IsPermutation, sym, ap, subst, ◌∙◌, arith, refl}
 use Rattle.std.specs.List.{SwappedAt}
 use Rattle.std.proofs.lemmas.List.Sorted.{Contains-permutation, IsPermutation-sym, IsPermutation-refl, IsPermutation-trans, length_permutation}
-use Rattle.msp_matching.specs.Passing.{at}
+use Rattle.msp_assign.specs.Passing.{at}
 use Rattle.msp_class.proofs.Cases.{same_or_not}
 use Rattle.msp_assign.specs.Search.{IsNearest, AreNearest}
 use Rattle.msp_assign.proofs.Lists.{Contains-at, at-Contains}

@@ -3,12 +3,11 @@ use Rattle.std.proofs.Common.{◌≡◌, ◌≢◌, ℕ, ℤ, ◌+◌, ◌<◌, 
 use Rattle.std.proofs.Math.Seq.{get_or-append_seam}
 use Rattle.std.proofs.lemmas.List.{get_or-replicate, length-replicate, length-append, get_or_append_left, get_or_default}
 use Rattle.std.proofs.lemmas.List.Elements.{All-contains, All-from_get_or}
-use Rattle.msp_matching.specs.Passing.{at}
+use Rattle.msp_assign.specs.Passing.{at}
 use Rattle.msp_class.proofs.Cases.{same_or_not}
-use Rattle.msp_matching.proofs.Lists.{distinct-permutation}
+use Rattle.msp_assign.proofs.Lists.{distinct-permutation, contained_or_not, Contains-at, at-Contains, All-from_contained, IsWithout}
 use Rattle.msp_assign.specs.Search.{paid, AreAll, IsPlaced, IsGrown, IsLevel, IsSearch, IsNearest, AreNearest, IsRelaxed, IsOpenRow, HasEdges, sizes, greatest_payment}
 use Rattle.std.proofs.lemmas.List.Sorted.{All-permutation, Contains-permutation, IsPermutation-sym}
-use Rattle.msp_assign.proofs.Lists.{contained_or_not, Contains-at, at-Contains, All-from_contained, IsWithout}
 
 -- the nearest column of those that are left
 pub record IsClosest (distance left : List ℕ) (e : ℕ) : Type 0 where

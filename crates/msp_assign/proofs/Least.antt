@@ -9,7 +9,7 @@ use Rattle.msp_class.specs.Sums.{total_below, int_total_below}
 use Rattle.msp_class.proofs.Sums.{total_below-mono, int_total_below-same, int_total_below-mono, int_total_below-add, sum_by_counts}
 use Rattle.msp_class.proofs.Sums.{sum_by-distinct_test, count-from_contains, sum_by-places}
 use Rattle.msp_class.proofs.IntegerRing.{≤ℤ_of_same}
-use Rattle.msp_matching.specs.Passing.{at}
+use Rattle.msp_assign.specs.Passing.{at}
 use Rattle.msp_assign.specs.declared.assignment.Assignment.{Assignment}
 use Rattle.msp_assign.specs.declared.column.Column.{Column}
 use Rattle.msp_assign.specs.Prices.{IsAssigned, IsPriced, IsLeast, HasFreeColumn, column_of, price_at, cost_of, price_of}

@@ -1,4 +1,5 @@
 pub mod Lists
+mod Passes
 pub mod Filling
 pub mod Owners
 pub mod Bounds

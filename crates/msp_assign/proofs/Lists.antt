@@ -1,13 +1,32 @@
--- What lists of numbers contain, and lists of distinct numbers.
-use Rattle.std.proofs.Common.{◌≡◌, ◌≢◌, ℕ, suc, ◌<◌, ◌⊎◌, inl, inr, refl, List, [], ◌∷◌, eqb, length, get_or, swap_remove, Contains, All, AllPairs, IsPermutation, count_by}
-use Rattle.std.proofs.Common.{sym, subst, ◌∙◌, arith}
+-- What lists of numbers contain, lists of distinct numbers, and lists after a write.
+use Rattle.std.proofs.Common.{◌≡◌, ◌≢◌, ℕ, suc, ◌<◌, ◌≤◌, ◌⊎◌, inl, inr, refl, List, [], ◌∷◌, ◌++◌, eqb, length, take, drop, get_or, swap_remove}
+use Rattle.std.proofs.Common.{Contains, All, AllPairs, IsPermutation, count_by, cond, sym, subst, ◌∙◌, arith}
+use Rattle.std.proofs.Math.Seq.{take-append_seam}
 use Rattle.std.proofs.lemmas.List.{get_or_default}
 use Rattle.std.proofs.lemmas.List.Elements.{All-from_get_or, Contains-get_or, Contains-append_right}
 use Rattle.std.proofs.lemmas.List.Sorted.{Contains-permutation, IsPermutation-sym, IsPermutation-swap_remove}
-use Rattle.msp_matching.specs.Passing.{at}
-use Rattle.msp_matching.proofs.Lists.{distinct-permutation}
 use Rattle.std.proofs.lemmas.Bool.{cases_lt}
-use Rattle.msp_class.proofs.Sums.{Contains-from_count, count-from_contains, Contains-tail}
+use Rattle.msp_class.proofs.Cases.{same_or_not, less_or_not}
+use Rattle.msp_class.proofs.Sums.{Contains-from_count, count-from_contains, Contains-tail, sum_by-IsPermutation, count_by-distinct, distinct_from_counts}
+use Rattle.msp_assign.specs.Passing.{at}
+
+-- what a vector holds after its slice was written
+pub whole_slice : {X : Type 0} (n k : ℕ) (xs ys : List X) → length xs ≡ n → take n (xs ++ drop k ys) ≡ xs
+whole_slice n k xs ys e = subst (λ m. take m (xs ++ drop k ys) ≡ xs) e (take-append_seam xs (drop k ys))
+
+-- without repeats, equal numbers stand at one place
+pub same_place : (xs : List ℕ) → AllPairs (λ x y. x ≢ y) xs → (i j : ℕ) → i < length xs → j < length xs → at xs i ≡ at xs j → i ≡ j
+same_place xs h i j li lj e = elim (same_or_not i j) [
+  | inl s ↦ s
+  | inr n ↦ elim (less_or_not i j) [
+    | inl l ↦ absurd (h i j 0 l lj e)
+    | inr l ↦ absurd (h j i 0 (omega (arith, l, n)) li (sym e))
+  ]
+]
+
+-- a rearrangement has no repeats either
+pub distinct-permutation : (xs ys : List ℕ) → IsPermutation xs ys → AllPairs (λ x y. x ≢ y) xs → AllPairs (λ x y. x ≢ y) ys
+distinct-permutation xs ys p h = distinct_from_counts ys (λ i. omega (arith, sum_by-IsPermutation (λ x. cond (eqb x i) 1 0) xs ys p, count_by-distinct xs i h))
 
 pub Contains-at : (xs : List ℕ) (k c : ℕ) → k < length xs → at xs k ≡ c → Contains xs c
 Contains-at xs k c l e = subst (Contains xs) e (Contains-get_or xs k 0 l)

@@ -1,9 +1,9 @@
 -- The prices of the columns of the rows of the tree fall, row after row.
 use Rattle.std.proofs.Common.{◌≡◌, ◌≢◌, ℕ, ◌+◌, ◌-◌, ◌<◌, ◌≤◌, inl, inr, refl, List, length, set, All, AllPairs, sym, ap, subst, ◌∙◌, arith}
 use Rattle.std.proofs.lemmas.List.{get_or-set_same, get_or-set_other, length-set}
-use Rattle.msp_matching.specs.Passing.{at}
+use Rattle.msp_assign.specs.Passing.{at}
 use Rattle.msp_class.proofs.Cases.{same_or_not}
-use Rattle.msp_matching.proofs.Lists.{same_place}
+use Rattle.msp_assign.proofs.Lists.{same_place}
 use Rattle.msp_assign.specs.Search.{IsLowered}
 
 module _ (d : ℕ) (distance column tree fall : List ℕ) where

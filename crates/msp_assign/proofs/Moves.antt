@@ -4,10 +4,9 @@ use Rattle.std.proofs.lemmas.List.{length-append, get_or_default}
 use Rattle.std.proofs.lemmas.List.Elements.{All-append, All-cons, All-nil, All-contains, Contains-append_left, Contains-get_or}
 use Rattle.std.proofs.lemmas.List.Quantifiers.{all_pairs_push}
 use Rattle.std.proofs.lemmas.List.Sorted.{All-permutation, Contains-permutation, length_permutation}
-use Rattle.msp_matching.specs.Passing.{at, IsTree, IsStep, IsPassedOn}
-use Rattle.msp_matching.proofs.Lists.{same_place, distinct-permutation}
+use Rattle.msp_assign.specs.Passing.{at, IsTree, IsStep, IsPassedOn}
+use Rattle.msp_assign.proofs.Lists.{same_place, distinct-permutation, contained_or_not, Contains-at}
 use Rattle.msp_assign.specs.Search.{HasCharges, greatest_charge, greatest_payment, sizes, IsCheapest, IsPlaced, IsLevel, IsSearch, IsNearest, IsLowered, IsOneMore}
-use Rattle.msp_assign.proofs.Lists.{contained_or_not, Contains-at}
 use Rattle.msp_assign.proofs.Growth.{IsClosest, IsClosest-at}
 use Rattle.msp_assign.proofs.Bounds.{sizes-at_most}
 use Rattle.msp_assign.proofs.Passing.{first_free, row_before, kept_column, IsTree-longer}

@@ -2,7 +2,7 @@
 use Rattle.std.proofs.Common.{◌≡◌, ℕ, zero, suc, ◌+◌, ◌<◌, ◌≤◌, List, [], ◌∷◌, ◌++◌, length, All, sym, ap, subst, ◌∙◌, arith}
 use Rattle.std.proofs.Math.Seq.{get_or-append_seam}
 use Rattle.std.proofs.lemmas.List.{get_or_append_left, length-append}
-use Rattle.msp_matching.specs.Passing.{at, IsTree}
+use Rattle.msp_assign.specs.Passing.{at, IsTree}
 use Rattle.msp_assign.specs.Search.{IsGrown}
 
 module _ (columns : ℕ) (column «from» tree : List ℕ) (t : IsGrown columns column «from» tree) (free : ℕ) where

@@ -1,6 +1,6 @@
 -- A row's edges to the columns that are left, column after column.
 use Rattle.std.proofs.Common.{◌≡◌, ◌≢◌, ℕ, ◌+◌, ◌*◌, ◌<◌, ◌≤◌, ◌⊎◌, inl, inr, List, length, min, AllPairs, sym, ap, subst, ◌∙◌, arith, refl}
-use Rattle.msp_matching.specs.Passing.{at}
+use Rattle.msp_assign.specs.Passing.{at}
 use Rattle.msp_class.proofs.Cases.{same_or_not, less_or_not}
 use Rattle.msp_assign.specs.declared.search.TheConstants.{FAR}
 use Rattle.msp_assign.specs.Search.{paid, IsWay, IsRelaxedAt, IsRelaxed, IsShortened, AreNearest, IsLeastSoFar, greatest_payment}

@@ -7,7 +7,7 @@ use Rattle.std.proofs.lemmas.List.Elements.{All-append, All-cons, All-nil, Conta
 use Rattle.std.proofs.lemmas.List.Quantifiers.{all_pairs_push}
 use Rattle.std.proofs.lemmas.List.Sorted.{Contains-permutation, IsPermutation-refl, IsPermutation-sym}
 use Rattle.msp_class.proofs.Cases.{same_or_not}
-use Rattle.msp_matching.specs.Passing.{at}
+use Rattle.msp_assign.specs.Passing.{at}
 use Rattle.msp_assign.specs.declared.square.Cheapest.{Cheapest}
 use Rattle.msp_assign.specs.Search.{paid, IsCheapest, IsPlaced, IsOneMore}
 use Rattle.msp_assign.specs.Square.{is_taken, AreMarked, IsCheaper, IsFreeCheapest}

@@ -1,3 +1,4 @@
+pub mod Passing
 pub mod Prices
 pub mod Search
 pub mod View

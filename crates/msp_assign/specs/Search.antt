@@ -3,7 +3,7 @@
 use Rattle.std.specs.Prelude.{pos, ◌≡◌, ◌≢◌, ℕ, ◌+◌, ◌-◌, ◌<◌, ◌≤◌, ◌≤ℤ◌, ◌*◌, ◌⊎◌, ℤ, List, [], ◌∷◌, ◌++◌, Option, None, length, slice_index_or, unsigned_abs, MatchOption, All, AllPairs, Contains}
 use Rattle.std.specs.List.Sorted.{IsPermutation}
 use Rattle.msp_class.specs.declared.list.TheConstants.{PLACES}
-use Rattle.msp_matching.specs.Passing.{at}
+use Rattle.msp_assign.specs.Passing.{at}
 use Rattle.msp_assign.specs.declared.search.Search.{Search}
 use Rattle.msp_assign.specs.declared.search.TheConstants.{FAR}
 use Rattle.msp_assign.specs.Prices.{greatest_cost, price_at}

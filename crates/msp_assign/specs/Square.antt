@@ -1,6 +1,6 @@
 -- As many columns as rows, with prices of the columns to begin from. No public contract cites this file.
 use Rattle.std.specs.Prelude.{pos, ◌≡◌, ℕ, ◌+◌, ◌<◌, ◌≤◌, ℤ, ◌+ℤ◌, Bool, true, false, List, length, slice_index_or, Contains, ◌⊎◌, Some, IfSome}
-use Rattle.msp_matching.specs.Passing.{at}
+use Rattle.msp_assign.specs.Passing.{at}
 use Rattle.msp_assign.specs.declared.square.Cheapest.{Cheapest}
 use Rattle.msp_assign.specs.Search.{IsCheapest}
 

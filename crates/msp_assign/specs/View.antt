@@ -1,6 +1,6 @@
 -- The columns in view: those that rows have, and the first one of each line that no row has. No public contract cites this file.
 use Rattle.std.specs.Prelude.{pos, neg_ℤ, ◌≡◌, ◌≢◌, ℕ, ◌+◌, ◌*◌, ◌<◌, ◌≤◌, ◌⊎◌, ℤ, List, [], ◌∷◌, ◌++◌, length, slice_index_or, All, Contains}
-use Rattle.msp_matching.specs.Passing.{at}
+use Rattle.msp_assign.specs.Passing.{at}
 use Rattle.msp_assign.specs.declared.column.Column.{Column}
 use Rattle.msp_assign.specs.Prices.{price_at}
 use Rattle.msp_assign.specs.Search.{sizes, IsPlaced, HasUnfallen}

@@ -1,12 +1,11 @@
 // One more row: the prices move, and the columns are passed on along the way to the free one.
 ghost use Rattle.std.specs.Prelude.{◌≡◌, ◌≢◌, ◌+◌, ◌<◌, ◌≤◌, ℕ, All, AllPairs, Contains, IfOk, length};
 ghost use Rattle.msp_class.specs.declared.list.TheConstants.{PLACES};
-ghost use Rattle.msp_matching.specs.Passing.{at};
+ghost use Rattle.msp_assign.specs.Passing.{at};
 ghost use Rattle.msp_assign.specs.Search.{greatest_charge, HasCharges, greatest_payment, sizes, IsPlaced, IsLowered, IsOneMore};
 
-use crate::Costs;
 use crate::search::{find_free, owners};
-use msp_matching::pass_on;
+use crate::{Costs, pass_on};
 use std::alloc::{AllocError, Global};
 
 /// Lowers the prices of the columns of the rows of the tree, which are nearer than the free one, by as much as they are nearer.

@@ -1,7 +1,7 @@
 // The columns of the rows by their numbers, and the prices.
 ghost use Rattle.std.specs.Prelude.{◌≡◌, ◌*◌, ◌<◌, ◌≤◌, ℕ, All, IfOk, length};
 ghost use Rattle.msp_class.specs.declared.list.TheConstants.{PLACES};
-ghost use Rattle.msp_matching.specs.Passing.{at};
+ghost use Rattle.msp_assign.specs.Passing.{at};
 ghost use Rattle.msp_assign.specs.Search.{greatest_charge, HasCharges, sizes, IsRowPrices};
 ghost use Rattle.msp_assign.specs.View.{number_of, AreInside, AreNumbers, AreColumnPrices};
 

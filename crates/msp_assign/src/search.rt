@@ -2,7 +2,7 @@
 ghost use Rattle.std.specs.Prelude.{◌≡◌, ◌≢◌, ◌+◌, ◌<◌, ◌≤◌, ℕ, All, AllPairs, Contains, IfOk, OnOk, length};
 ghost use Rattle.std.specs.List.Sorted.{IsPermutation};
 ghost use Rattle.msp_class.specs.declared.list.TheConstants.{PLACES};
-ghost use Rattle.msp_matching.specs.Passing.{at};
+ghost use Rattle.msp_assign.specs.Passing.{at};
 ghost use Rattle.msp_assign.specs.Search.{greatest_charge, HasCharges, greatest_payment, sizes, paid, IsOwners, AreAll, IsOpenRow, IsUnderWay, IsNearest, AreNearest, IsLeastSoFar, IsRelaxed, IsShortened, IsWay, HasEdges};
 
 use crate::Costs;

@@ -9,7 +9,7 @@
 // prices that are begun with; and a row pays no more at its own column than where the price is 0, so prices stay within bounds.
 ghost use Rattle.std.specs.Prelude.{◌≡◌, ◌+◌, ◌-◌, ◌<◌, ◌≤◌, ◌⊎◌, ℕ, false, Contains, IfOk, IfSome, length};
 ghost use Rattle.msp_class.specs.declared.list.TheConstants.{PLACES};
-ghost use Rattle.msp_matching.specs.Passing.{at};
+ghost use Rattle.msp_assign.specs.Passing.{at};
 ghost use Rattle.msp_assign.specs.declared.assignment.TheConstants.{MOST_ROWS};
 ghost use Rattle.msp_assign.specs.Prices.{AreFalls, HasCosts, greatest_fall};
 ghost use Rattle.msp_assign.specs.Search.{greatest_charge, HasCharges, sizes, IsPlaced, IsOneMore};

@@ -31,7 +31,7 @@ use Rattle.msp_route.specs.Bounds.{IsBestAnswer}
 use Rattle.msp_route.proofs.Owed.{unit_one, timed_answer}
 use Rattle.msp_route.proofs.Laid.{AreLaid, HasOneOperation-identical, gets_by_kind, laid_adds_up, laid_is_feasible}
 use Rattle.msp_blocks.specs.Blocks.{IsBestCost}
-use Rattle.msp_heads.specs.Heads.{AreHeads}
+use Rattle.msp_route.specs.Heads.{AreHeads}
 use Rattle.msp_blocks.specs.Filling.{IsPut, IsFilling, IsBound, CostAtMost, greatest_end}
 use Rattle.msp_blocks.proofs.Bound.{best_by_block, value_is_best}
 use Rattle.msp_route.proofs.OneInstances.{IsOneInstance, IsOneInstance-from, takes_time}

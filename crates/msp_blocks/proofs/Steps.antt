@@ -11,7 +11,7 @@ use Rattle.msp_instance.specs.declared.Instance.{Instance}
 use Rattle.msp_pieces.specs.declared.Piece.{Piece}
 use Rattle.msp_pieces.specs.Blocks.{cost_at}
 use Rattle.msp_pieces.specs.BackToBack.{time_at}
-use Rattle.msp_heads.specs.Heads.{AreHeads}
+use Rattle.msp_route.specs.Heads.{AreHeads}
 use Rattle.msp_blocks.specs.Filling.{done_by, gap, gaps, Follow, IsFirstBlock, IsFilling, IsBound, CostAtMost, greatest_end}
 use Rattle.msp_route.specs.LastJob.{EndsAt}
 use Rattle.msp_route.proofs.OneInstances.{IsOneInstance, takes_time}

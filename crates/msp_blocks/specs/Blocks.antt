@@ -8,7 +8,7 @@ use Rattle.msp_class.specs.declared.class.Crit.TheVariants.{Fmax}
 use Rattle.msp_instance.specs.declared.Instance.{Instance}
 use Rattle.msp_pieces.specs.declared.Schedule.{Schedule}
 use Rattle.msp_pieces.specs.Cost.{cost_of, Best}
-pub use Rattle.msp_heads.specs.Heads.{greatest_head}
+pub use Rattle.msp_route.specs.Heads.{greatest_head}
 
 -- One machine, preemption, precedence, release dates, any times, and the greatest cost of a job by its curve: `1|pmtn,prec,r|fmax`.
 abbrev pub blocks_class : Class

@@ -7,7 +7,7 @@ use Rattle.msp_pieces.specs.Blocks.{IsBlock, IsBlockValue, cost_at}
 use Rattle.msp_pieces.specs.Intervals.{IsApart, work_of}
 use Rattle.msp_pieces.specs.Piece.{job_of, start, finish, IsTimed}
 use Rattle.msp_pieces.specs.BackToBack.{piece, time_at}
-use Rattle.msp_heads.specs.Heads.{head_in}
+use Rattle.msp_route.specs.Heads.{head_in}
 
 -- When jobs that begin at their heads at the earliest are done one after another on a machine that is free from a moment on.
 abbrev pub done_by : (ℕ → ℕ) → (ℕ → ℕ) → ℕ → List ℕ → ℕ

@@ -8,15 +8,14 @@ ghost use Rattle.msp_pieces.specs.Blocks.{IsBlock, IsBlockValue};
 ghost use Rattle.msp_pieces.specs.Cost.{IsBest};
 ghost use Rattle.msp_route.specs.Bounds.{IsAnswer};
 ghost use Rattle.msp_blocks.specs.Blocks.{blocks_class, unit_blocks_class, IsBestCost};
-ghost use Rattle.msp_heads.specs.Heads.{AreHeads, greatest_head};
+ghost use Rattle.msp_route.specs.Heads.{AreHeads, greatest_head};
 ghost use Rattle.msp_blocks.specs.Filling.{ArePlaced, IsBound, CostAtMost};
 
 use crate::filling::{Bound, Filled, place_all};
 use msp_class::{Class, Crit, Env, List, NoMemory, Order, Times};
-use msp_heads::heads_of;
 use msp_instance::Instance;
 use msp_pieces::{Piece, Schedule, Solution};
-use msp_route::{Solver, best_solution, jobs_by_key};
+use msp_route::{Solver, best_solution, heads_of, jobs_by_key};
 use std::alloc::Global;
 
 /// The class that is solved with preemption: `1|pmtn,prec,r|fmax`.

@@ -5,14 +5,13 @@ ghost use Rattle.msp_class.specs.declared.sizes.TheConstants.{MOST_JOBS};
 ghost use Rattle.msp_instance.specs.Conditions.{Inner};
 ghost use Rattle.msp_pieces.specs.Blocks.{cost_at};
 ghost use Rattle.msp_pieces.specs.BackToBack.{time_at};
-ghost use Rattle.msp_heads.specs.Heads.{head_in, AreHeads};
+ghost use Rattle.msp_route.specs.Heads.{head_in, AreHeads};
 ghost use Rattle.msp_blocks.specs.Filling.{done_by, gap, gaps, next_head, IsFirstBlock, ArePlaced, IsBound, CostAtMost, KeepsCosts, greatest_end};
 
 use msp_class::{List, NoMemory};
-use msp_heads::time_of;
 use msp_instance::Instance;
 use msp_pieces::{Piece, job_cost_at};
-use msp_route::{last_place, total_time};
+use msp_route::{last_place, time_of, total_time};
 use std::alloc::Global;
 
 /// The first jobs, which run without idle time up to an end.

@@ -22,7 +22,7 @@ use Rattle.msp_grammar.proofs.reading.LineLaws.{bind_ok, provided_ok, reads, ok_
 use Rattle.msp_grammar.proofs.reading.Lines.{GetsLines}
 use Rattle.msp_grammar.proofs.reading.FieldLaws.{wide_field, signed_takes, signed_again, signed_field, ordinal_takes, ordinal_again}
 use Rattle.msp_cert_text.proofs.KindLaws.{Adds, TakesOne, kind_takes, kind_more, may_again, end_on, line_on}
-use Rattle.msp_job_name.proofs.NameLists.{same_bytes}
+use Rattle.msp_text.proofs.NameLists.{same_bytes}
 
 -- ---- so many prices
 

@@ -5,8 +5,8 @@ use Rattle.std.specs.List.{AllByRecursion}
 use Rattle.std.proofs.lemmas.Bool.{and_parts, eqb-true, ne_eqb}
 use Rattle.std.proofs.lemmas.List.{nil_from_length}
 use Rattle.std.proofs.lemmas.List.Elements.{All-nil, All-head, All-tail, All-push, All-pop}
-use Rattle.msp_job_name.specs.JobName.{IsJobName, AreDistinct}
-use Rattle.msp_job_name.proofs.NameLists.{same_bytes}
+use Rattle.msp_text.specs.JobName.{IsJobName, AreDistinct}
+use Rattle.msp_text.proofs.NameLists.{same_bytes}
 use Rattle.msp_grammar.specs.ScheduleText.{name_at}
 use Rattle.msp_grammar.specs.declared.lines.fault.FileFault.TheVariants.{Count}
 use Rattle.msp_cert_text.specs.declared.kinds.TheConstants.{MOST_LINES}

@@ -3,8 +3,8 @@ use Rattle.std.proofs.Common.{◌≡◌, ℕ, suc, ◌+◌, ◌<◌, ◌≤◌, 
 use Rattle.std.proofs.Common.{length-append, arith, ltb-true, lt-ltb}
 use Rattle.std.proofs.lemmas.Slice.Eq.{bytes_eq-Decides}
 use Rattle.std.proofs.lemmas.List.Elements.{All-nil, All-head, All-tail, All-push}
-use Rattle.msp_job_name.specs.JobName.{IsJobName}
-use Rattle.msp_job_name.proofs.NameLists.{same_bytes}
+use Rattle.msp_text.specs.JobName.{IsJobName}
+use Rattle.msp_text.proofs.NameLists.{same_bytes}
 use Rattle.msp_grammar.specs.InstanceText.{line_text}
 use Rattle.msp_grammar.specs.declared.lines.fault.FileFault.{FileFault}
 use Rattle.msp_grammar.specs.declared.lines.fault.FileFault.TheVariants.{Count, Limit, Unknown}

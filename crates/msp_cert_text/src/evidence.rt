@@ -12,7 +12,7 @@ use msp_cert::Proof;
 use msp_grammar::{
     FileFault, Lines, What, field_line_at, known_at, natural_at, ordinal_at, word_line_at,
 };
-use msp_job_name::Names;
+use msp_text::Names;
 use std::alloc::Global;
 
 #[tactic(auto, unfolding(crate::specs::Reading::machine_line_at))]

@@ -11,7 +11,7 @@ use msp_class::List;
 use msp_grammar::{
     FileFault, Lines, What, count_fields, job_name_at, natural_at, next_field, signed_at, worded_at,
 };
-use msp_job_name::{JobName, Names};
+use msp_text::{JobName, Names};
 use std::alloc::Global;
 
 /// The field behind the name in the line that the job of this name has.

@@ -15,8 +15,7 @@ use msp_cert::{Certificate, Proof};
 use msp_class::{List, NoMemory};
 use msp_grammar::{put_fraction, put_name};
 use msp_instance::Instance;
-use msp_job_name::Names;
-use msp_text::{Part, put, put_all};
+use msp_text::{Names, Part, put, put_all};
 use std::alloc::Global;
 
 /// Puts a line of two fields.

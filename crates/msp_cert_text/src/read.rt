@@ -17,8 +17,8 @@ use msp_grammar::{
     FileFault, LAST_LINE, Lines, MOST_BYTES, cost_line_at, field_line_at, word_line_at,
 };
 use msp_instance::Instance;
-use msp_job_name::Names;
 use msp_pieces::Frac;
+use msp_text::Names;
 use std::alloc::Global;
 
 /// The kind of a word, of the last three.

@@ -14,7 +14,7 @@ use msp_class::{List, NoMemory};
 use msp_grammar::{
     FileFault, Lines, What, count_fields, end_line, known_at, line_at, next_field, split_word,
 };
-use msp_job_name::Names;
+use msp_text::Names;
 use std::alloc::Global;
 
 /// Whether there may be one line more of a kind, after so many and more.

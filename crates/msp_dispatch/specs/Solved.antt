@@ -25,7 +25,7 @@ use Rattle.msp_stairs.specs.Stairs.{stairs_class}
 use Rattle.msp_places.specs.Classes.{places_most_class, places_late_class, places_count_class}
 use Rattle.msp_levels.specs.Sums.{levels_sum_class}
 use Rattle.msp_srpt.specs.EqualHeads.{equal_heads_class}
-use Rattle.msp_lines.specs.Classes.{lines_late_class, lines_count_class}
+use Rattle.msp_total.specs.Classes.{lines_late_class, lines_count_class}
 use Rattle.msp_threshold.specs.Squeezed.{lateness_class}
 use Rattle.msp_weighted.specs.Late.{late_class, total_time}
 use Rattle.msp_weighted.specs.declared.late_table.TheConstants.{GREATEST_TOTAL}

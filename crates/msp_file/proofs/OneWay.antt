@@ -7,7 +7,7 @@ use Rattle.msp_instance.specs.Conditions.{MeetsConditions, text_limits}
 use Rattle.msp_instance.specs.Faults.{IsFirstFault}
 use Rattle.msp_instance.specs.Paths.{HasPath}
 use Rattle.msp_instance.proofs.FaultLemmas.{Condition-from_meets, IsFirstFault-unique}
-use Rattle.msp_job_name.specs.JobName.{IsJobName, AreDistinct}
+use Rattle.msp_text.specs.JobName.{IsJobName, AreDistinct}
 use Rattle.msp_grammar.specs.declared.filed.Filed.{Filed}
 use Rattle.msp_grammar.specs.declared.lines.fault.FileFault.{FileFault}
 use Rattle.msp_grammar.specs.declared.lines.fault.FileFault.TheVariants.{Class, Cycle, Memory, After}

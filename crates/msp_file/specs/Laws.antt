@@ -1,7 +1,7 @@
 -- Each text is read in one way.
 use Rattle.std.specs.Prelude.{◌≢◌, ℕ, List, All}
 use Rattle.msp_name.specs.OneWay.{AreReadOneWay}
-use Rattle.msp_job_name.specs.JobName.{IsJobName, AreDistinct}
+use Rattle.msp_text.specs.JobName.{IsJobName, AreDistinct}
 use Rattle.msp_grammar.specs.declared.filed.Filed.{Filed}
 use Rattle.msp_grammar.specs.InstanceText.{IsInstanceText}
 use Rattle.msp_grammar.specs.ScheduleText.{IsScheduleText}

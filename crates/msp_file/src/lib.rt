@@ -16,5 +16,5 @@ pub use instance::read::{Front, read_front, read_instance, texts_are_read_one_wa
 pub use laws::{law_of_front_texts, law_of_instance_texts, law_of_schedule_texts};
 pub use msp_cert_text::{print_certificate, read_certificate};
 pub use msp_grammar::{FileFault, Filed, Stated, What, print_instance, print_schedule};
-pub use msp_job_name::{JobName, Names};
+pub use msp_text::{JobName, Names};
 pub use schedule::read::{printed_schedules_are_read, read_schedule, schedules_are_read_one_way};

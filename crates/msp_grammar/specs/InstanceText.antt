@@ -19,7 +19,7 @@ use Rattle.msp_instance.specs.declared.Instance.{Instance}
 use Rattle.msp_instance.specs.Instance.{no_need, common_time}
 use Rattle.msp_instance.specs.Conditions.{InClass}
 use Rattle.msp_text.specs.Bytes.{space_byte}
-use Rattle.msp_job_name.specs.JobName.{IsJobName, AreDistinct}
+use Rattle.msp_text.specs.JobName.{IsJobName, AreDistinct}
 use Rattle.msp_grammar.specs.Layout.{has_times, has_time_key, has_times_line, has_route, has_speeds, has_time_line}
 use Rattle.msp_grammar.specs.ScheduleText.{line_feed, name_at}
 

@@ -1,7 +1,7 @@
 // An instance, and a schedule, as texts have them.
 use msp_instance::Instance;
-use msp_job_name::Names;
 use msp_pieces::{Frac, Schedule};
+use msp_text::Names;
 
 /// An instance with the names of its jobs.
 #[derive(Drop)]

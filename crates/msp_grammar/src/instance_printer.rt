@@ -17,9 +17,8 @@ use crate::layout::{
 use crate::schedule_printer::put_name;
 use msp_class::{Class, Env, NoMemory, Times, fixed_machines, uses_curve, uses_due, uses_weight};
 use msp_instance::{Arc, Curve, Instance, Job, Need, Step, common_time, first_time};
-use msp_job_name::Names;
 use msp_name::print;
-use msp_text::{put, put_integer, put_number};
+use msp_text::{Names, put, put_integer, put_number};
 use std::alloc::Global;
 
 fn put_field(out: &mut Vec<u8>, field: &[u8]) -> Result<(), NoMemory>

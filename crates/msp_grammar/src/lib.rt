@@ -1,6 +1,6 @@
 //! The grammar of instance texts and schedule texts, the printers, and how the lines of texts are read.
 //!
-//! It stands on `msp_text`, `msp_name`, `msp_job_name`, `msp_instance` and `msp_pieces`. The layers above use the definitions: that
+//! It stands on `msp_text`, `msp_name`, `msp_instance` and `msp_pieces`. The layers above use the definitions: that
 //! bytes are a text of an instance (`IsInstanceText`), and the text of a schedule (`schedule_text`); that `print_instance` and
 //! `print_schedule` give exactly `instance_text` and `schedule_text`, the first of which is then an instance text; that
 //! `put_fraction` and `put_name` put their text at the end of another one; and, for the readers, which lines and keys the texts of a class

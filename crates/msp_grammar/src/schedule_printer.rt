@@ -5,9 +5,8 @@ ghost use Rattle.msp_pieces.specs.Fraction.{IsLowest};
 ghost use Rattle.msp_grammar.specs.ScheduleText.{space, line_feed, name_at, fraction_text, piece_line, piece_lines, cost_line, unit_line, schedule_text, IsStated, IsScheduleText};
 
 use msp_class::NoMemory;
-use msp_job_name::Names;
 use msp_pieces::{Frac, Piece, Schedule, Solution};
-use msp_text::{Part, put, put_all, put_integer};
+use msp_text::{Names, Part, put, put_all, put_integer};
 use std::alloc::Global;
 
 /// Puts the name of the job of a number, from 0.

@@ -11,9 +11,8 @@ use msp_cert_text::{kind_word, print_certificate};
 use msp_class::NoMemory;
 use msp_grammar::put_fraction;
 use msp_instance::Instance;
-use msp_job_name::Names;
 use msp_pieces::{Frac, lowest};
-use msp_text::put;
+use msp_text::{Names, put};
 use std::alloc::Global;
 
 /// The report of `certify`: the class, the cost and its certificate.

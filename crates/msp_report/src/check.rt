@@ -10,10 +10,9 @@ use crate::lines::{put_class_line, put_number_line};
 use msp_class::NoMemory;
 use msp_grammar::{Filed, Stated, put_fraction, put_name};
 use msp_instance::Instance;
-use msp_job_name::Names;
 use msp_schedule::{Break, Frac, Schedule, cost, lowest};
 use msp_text::Part::{Number, Text};
-use msp_text::{put, put_all};
+use msp_text::{Names, put, put_all};
 use std::alloc::Global;
 
 #[tactic(auto, unfolding(crate::specs::CheckText::count_lines))]

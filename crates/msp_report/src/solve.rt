@@ -7,10 +7,9 @@ ghost use Rattle.msp_report.specs.SolveText.{solver_word, solver_line, solve_rep
 use crate::chain_text::put_chain;
 use msp_class::NoMemory;
 use msp_grammar::print_schedule;
-use msp_job_name::Names;
 use msp_route::{Answer, SolverName};
 use msp_text::Part::Text;
-use msp_text::{put, put_all};
+use msp_text::{Names, put, put_all};
 use std::alloc::Global;
 
 /// The word for a solver.

@@ -27,3 +27,4 @@ pub mod KeyOrder
 pub mod KeyedJobs
 pub mod Halves
 pub mod DateKeys
+mod Raising

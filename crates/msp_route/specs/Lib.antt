@@ -11,3 +11,4 @@ pub mod Stays
 pub mod laws
 pub mod Halving
 pub mod Dates
+pub mod Heads

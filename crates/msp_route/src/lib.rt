@@ -5,8 +5,9 @@
 //! which schedules stay as they are says so by `KeepsData` or `KeepsSchedules`, and is a lawful reduction by that. What more than one
 //! solver needs stands here too, since no solver's crate stands on another's: the job that ends last (`last_place`), how long jobs take
 //! one after another (`total_time`), their pieces and the solution where they run so (`pieces_back_to_back`, `solution_in_order`), the
-//! solution of a schedule that is best (`best_solution`), jobs that are sorted by a number (`Keyed`), and jobs by due date
-//! (`jobs_by_date`).
+//! solution of a schedule that is best (`best_solution`), jobs that are sorted by a number (`Keyed`), jobs by due date
+//! (`jobs_by_date`), and heads on one machine (`heads_of`): the head of a job is its release date, or the moment at which a job before it
+//! would be done that began at its own head, whichever is latest, found from the first job of a forward order to the last.
 #![tactic(auto)]
 
 mod answer;
@@ -16,6 +17,7 @@ mod bounds;
 mod copies;
 mod dates;
 mod halving;
+mod heads;
 mod keeps;
 mod keyed;
 mod last_job;
@@ -36,6 +38,7 @@ pub use bounds::{
 pub use copies::{led, recast};
 pub use dates::jobs_by_date;
 pub use halving::{Range, least_in};
+pub use heads::{heads_of, time_of};
 pub use keeps::{KeepsData, KeepsSchedules};
 pub use keyed::{Keyed, job_numbers, jobs_by_falling_key, jobs_by_key, sort_by_falling_key};
 pub use last_job::last_place;

@@ -22,7 +22,7 @@ use Rattle.msp_pieces.proofs.feasible.OneMachine.{IsPlan, IsPlan-from_feasible, 
 use Rattle.msp_pieces.proofs.bounds.Certified.{after_heads}
 use Rattle.msp_pieces.proofs.lists.Intervals.{last_of, last_of-bound, last_of-least, room_on_one}
 use Rattle.msp_pieces.proofs.lists.Places.{sum_by-places}
-use Rattle.msp_heads.specs.Heads.{head_in, AreHeads}
+use Rattle.msp_route.specs.Heads.{head_in, AreHeads}
 use Rattle.msp_route.proofs.OneInstances.{takes_time, is_short}
 use Rattle.msp_srpt.specs.EqualHeads.{piece_number, end_before, RunInOrder, equal_heads_class, RunByHeads, end_number, EndsFirst, AreSortedEnds}
 use Rattle.msp_srpt.proofs.Counts.{at_most, total_from_counts}

@@ -10,7 +10,7 @@ use Rattle.msp_instance.specs.declared.Instance.{Instance}
 use Rattle.msp_pieces.specs.declared.Piece.{Piece}
 use Rattle.msp_pieces.specs.Piece.{start, finish, no_piece}
 use Rattle.msp_pieces.specs.BackToBack.{piece, time_at}
-use Rattle.msp_heads.specs.Heads.{head_in, AreHeads}
+use Rattle.msp_route.specs.Heads.{head_in, AreHeads}
 use Rattle.msp_route.proofs.OneInstances.{IsOneInstance, is_short}
 use Rattle.msp_srpt.specs.EqualHeads.{piece_number, end_before, HeadsBefore, RunInOrder}
 

@@ -13,7 +13,7 @@ use Rattle.msp_pieces.specs.Cost.{end_of}
 use Rattle.msp_pieces.specs.Feasible.{Feasible}
 use Rattle.msp_pieces.specs.Piece.{start, finish, no_piece}
 use Rattle.msp_pieces.specs.BackToBack.{piece, time_at}
-use Rattle.msp_heads.specs.Heads.{head_in, AreHeads}
+use Rattle.msp_route.specs.Heads.{head_in, AreHeads}
 
 -- One machine, precedence, release dates, equal times, and the sum of the completion times: `1|prec,r,p=p|sumC`.
 abbrev pub equal_heads_class : Class

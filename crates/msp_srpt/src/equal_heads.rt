@@ -16,14 +16,13 @@ ghost use Rattle.msp_instance.specs.Conditions.{Inner};
 ghost use Rattle.msp_pieces.specs.Cost.{IsBest};
 ghost use Rattle.msp_pieces.specs.BackToBack.{piece};
 ghost use Rattle.msp_route.specs.Bounds.{IsAnswer};
-ghost use Rattle.msp_heads.specs.Heads.{AreHeads};
+ghost use Rattle.msp_route.specs.Heads.{AreHeads};
 ghost use Rattle.msp_srpt.specs.EqualHeads.{equal_heads_class, HeadsBefore, RunInOrder, RunByHeads, EndsFirst};
 
 use msp_class::{Class, Crit, Env, List, NoMemory, Order, Times};
-use msp_heads::{heads_of, time_of};
 use msp_instance::Instance;
 use msp_pieces::{Piece, Schedule, Solution};
-use msp_route::{Solver, best_solution, jobs_by_key};
+use msp_route::{Solver, best_solution, heads_of, jobs_by_key, time_of};
 use std::alloc::Global;
 
 /// The class that the rule solves: `1|prec,r,p=p|sumC`.

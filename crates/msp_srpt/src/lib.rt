@@ -11,7 +11,7 @@
 //! Best (`proofs/Best.antt`): so by each moment at least as many jobs are done here as in any other schedule, and sums of ends compare as
 //! these counts do (`proofs/Counts.antt`).
 //!
-//! It stands on `msp_pieces`, `msp_route` and `msp_heads`. The layers above use the clauses of `Solver`: the answers are best; and those
+//! It stands on `msp_pieces` and `msp_route`. The layers above use the clauses of `Solver`: the answers are best; and those
 //! of `Shortest`, that at each moment the released job with the least remaining time runs, and of `EqualHeads`, that in no feasible schedule
 //! the k-th end is earlier, for each k.
 #![tactic(auto)]

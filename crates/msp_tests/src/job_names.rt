@@ -1,6 +1,6 @@
 // Names, and lists of them.
 use msp_class::List;
-use msp_job_name::{JobName, Names};
+use msp_text::{JobName, Names};
 use std::alloc::Global;
 use std::process::Abort;
 

@@ -1,2 +1,4 @@
 mod Numbers
 pub mod NumberTexts
+pub mod NameLists
+mod Padding

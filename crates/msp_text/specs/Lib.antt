@@ -1,3 +1,5 @@
 pub mod Bytes
 pub mod Numbers
 pub mod Parts
+pub mod JobName
+pub mod Limits

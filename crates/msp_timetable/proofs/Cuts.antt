@@ -2,7 +2,7 @@
 use Rattle.std.proofs.Common.{◌≡◌, ◌≢◌, ℕ, ◌+◌, ◌-◌, ◌*◌, ◌<◌, ◌≤◌, inl, inr, refl, List, true, false, ltb, length, set, cond, sym, ap, subst, ◌∙◌, arith}
 use Rattle.std.proofs.lemmas.Bool.{eq-eqb, ne_eqb, lt-ltb, le-ltb}
 use Rattle.std.proofs.lemmas.Bool.Decides.{nat_tests}
-use Rattle.msp_matching.specs.Passing.{at}
+use Rattle.msp_assign.specs.Passing.{at}
 use Rattle.msp_timetable.specs.declared.square.Square.{Square}
 use Rattle.msp_timetable.specs.Square.{cell_at, stocks, used, used_at, given_share, padding_share, IsSquare, IsPermuted, IsTaken, IsCut}
 use Rattle.msp_timetable.proofs.Places.{cell-same, cell-other, stocks-set}

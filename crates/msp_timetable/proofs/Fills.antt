@@ -7,7 +7,7 @@ use Rattle.std.proofs.lemmas.List.{get_or-set_same, get_or-set_other, length-set
 use Rattle.msp_class.specs.declared.sizes.TheConstants.{MOST_JOBS}
 use Rattle.msp_class.specs.Sums.{total_below}
 use Rattle.msp_class.proofs.Sums.{total_below-add, total_below-same, total_below-none, total_below-only, total_below-exchange, total_below-term, int_total_below-natural, cond-le}
-use Rattle.msp_matching.specs.Passing.{at}
+use Rattle.msp_assign.specs.Passing.{at}
 use Rattle.msp_class.proofs.Cases.{same_or_not, less_or_not}
 use Rattle.msp_class.proofs.IntegerRing.{natural}
 use Rattle.msp_timetable.specs.declared.matrix.Matrix.{Matrix}

@@ -9,7 +9,7 @@ use Rattle.std.proofs.lemmas.List.Elements.{Contains-get_or}
 use Rattle.msp_class.specs.Sums.{total_below}
 use Rattle.msp_class.proofs.Sums.{total_below-mono, total_below-same, total_below-scale_right, sum_by-total_below, sum_by-mono, sum_by-constant, sum_by_counts, sum_by-contains}
 use Rattle.msp_class.proofs.Sums.{sum_by-cond, sum_by-distinct_test, cond-yes}
-use Rattle.msp_matching.specs.Passing.{at}
+use Rattle.msp_assign.specs.Passing.{at}
 use Rattle.msp_class.proofs.Cases.{same_or_not}
 use Rattle.msp_timetable.specs.Square.{IsPermuted, IsOwners, IsBalanced, IsGrowing, IsSearch, IsFound}
 use Rattle.msp_timetable.proofs.Lists.{all_at, pairs_at, distinct_short, same_back_to_back}

@@ -6,8 +6,8 @@ use Rattle.std.proofs.lemmas.List.Sorted.{All-permutation, length_permutation}
 use Rattle.msp_class.specs.Sums.{total_below}
 use Rattle.msp_class.proofs.Sums.{OnceBelow, OnceBelow-from_distinct, total_below-mono, total_below-constant, total_below-split, total_below-same, sum_by_counts, sum_by-constant}
 use Rattle.msp_class.proofs.Sums.{sum_by-cons, count_by-distinct}
-use Rattle.msp_matching.specs.Passing.{at}
-use Rattle.msp_matching.proofs.Lists.{same_place, distinct-permutation}
+use Rattle.msp_assign.specs.Passing.{at}
+use Rattle.msp_assign.proofs.Lists.{same_place, distinct-permutation}
 use Rattle.msp_timetable.specs.Square.{IsPermuted}
 
 -- distinct numbers below n are at most n

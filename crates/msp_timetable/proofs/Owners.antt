@@ -2,7 +2,7 @@
 use Rattle.std.proofs.Common.{◌≡◌, ℕ, ◌+◌, ◌<◌, inl, inr, List, length, set, sym, ap, ◌∙◌, arith}
 use Rattle.std.proofs.lemmas.List.{get_or-set_same, get_or-set_other, get_or_default}
 use Rattle.msp_class.proofs.Sums.{OnceBelow-contains}
-use Rattle.msp_matching.specs.Passing.{at}
+use Rattle.msp_assign.specs.Passing.{at}
 use Rattle.msp_class.proofs.Cases.{same_or_not}
 use Rattle.msp_timetable.specs.Square.{IsPermuted, IsOwners}
 use Rattle.msp_timetable.proofs.Lists.{same_back_to_back, OnceBelow-permuted}

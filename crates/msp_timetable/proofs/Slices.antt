@@ -7,7 +7,7 @@ use Rattle.std.proofs.lemmas.List.{length-append}
 use Rattle.std.proofs.lemmas.List.Elements.{All-append, All-cons, All-nil}
 use Rattle.msp_class.specs.Sums.{total_below}
 use Rattle.msp_class.proofs.Sums.{total_below-add, total_below-same, total_below-only, total_below-term, sum_by-OnceBelow, OnceBelow}
-use Rattle.msp_matching.specs.Passing.{at}
+use Rattle.msp_assign.specs.Passing.{at}
 use Rattle.msp_class.proofs.Cases.{same_or_not, less_or_not}
 use Rattle.msp_class.proofs.IntegerRing.{+ℤ_idr, +ℤ_idl, pos-le}
 use Rattle.msp_timetable.specs.declared.matrix.Matrix.{Matrix}

@@ -2,7 +2,7 @@
 use Rattle.std.proofs.Common.{◌≡◌, ℕ, zero, suc, ◌+◌, ◌<◌, ◌≤◌, inl, inr, List, length, get_or, IsPermutation, sym, ap, subst, ◌∙◌, arith}
 use Rattle.std.proofs.lemmas.List.{get_or_default}
 use Rattle.std.specs.List.{SwappedAt}
-use Rattle.msp_matching.specs.Passing.{at, IsTree, IsStep, IsPassedOn}
+use Rattle.msp_assign.specs.Passing.{at, IsTree, IsStep, IsPassedOn}
 use Rattle.msp_class.proofs.Cases.{same_or_not}
 use Rattle.msp_timetable.specs.Square.{IsPermuted, IsOwners, IsFound, IsBetter}
 use Rattle.msp_timetable.proofs.Lists.{IsPermuted-permutation}

@@ -2,7 +2,7 @@
 use Rattle.std.specs.Prelude.{◌≡◌, ◌≢◌, ℕ, ◌+◌, ◌-◌, ◌*◌, ◌<◌, ◌≤◌, ◌⊎◌, pos, ◌+ℤ◌, Bool, true, false, cond, nat_lt, nat_eq, List, length, slice_set as set, count_by, All}
 use Rattle.msp_class.specs.declared.sizes.TheConstants.{MOST_JOBS}
 use Rattle.msp_class.specs.Sums.{total_below}
-use Rattle.msp_matching.specs.Passing.{at}
+use Rattle.msp_assign.specs.Passing.{at}
 use Rattle.msp_timetable.specs.declared.matrix.Matrix.{Matrix}
 use Rattle.msp_timetable.specs.declared.matrix.Slice.{Slice}
 use Rattle.msp_timetable.specs.declared.square.Square.{Square}

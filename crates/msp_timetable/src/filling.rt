@@ -2,7 +2,7 @@
 ghost use Rattle.std.specs.Prelude.{◌≡◌, ◌+◌, ◌*◌, ◌<◌, ◌≤◌, ℕ, IfOk, length};
 ghost use Rattle.msp_class.specs.declared.sizes.TheConstants.{MOST_JOBS, MOST_MACHINES};
 ghost use Rattle.msp_class.specs.Sums.{total_below};
-ghost use Rattle.msp_matching.specs.Passing.{at};
+ghost use Rattle.msp_assign.specs.Passing.{at};
 ghost use Rattle.msp_timetable.specs.Split.{greatest_sum, IsMatrix};
 ghost use Rattle.msp_timetable.specs.Square.{cell_at, stocks, row_total, column_total, IsSpread, IsSpreadRow, HasSmallLines, IsGreatest, IsLacking, IsPadding, IsFilled};
 ghost use Rattle.msp_timetable.specs.Steps.{FillsCorner, HasRoomFor};

@@ -1,7 +1,8 @@
 //! Splits a matrix of times into slices in which each row has at most one column, and no two rows the same.
 //!
-//! It stands on `msp_matching`. The layers above use the clauses of `split`: the slices in which a row has a column last as long as the
-//! cell says, and all slices together as long as the longest row or column.
+//! It stands on `msp_assign`, for the step along an augmenting path (`pass_on`). The layers above use the clauses of
+//! `split`: the slices in which a row has a column last as long as the cell says, and all slices together as long as the longest row or
+//! column.
 #![tactic(auto)]
 
 mod cutting;

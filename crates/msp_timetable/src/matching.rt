@@ -1,12 +1,12 @@
 // Each row gets a column in which it holds stock.
 ghost use Rattle.std.specs.Prelude.{◌≡◌, ◌<◌, ℕ, OnOk, length};
-ghost use Rattle.msp_matching.specs.Passing.{at};
+ghost use Rattle.msp_assign.specs.Passing.{at};
 ghost use Rattle.msp_timetable.specs.Square.{stock, IsSquare, IsBalanced, IsPermuted, IsOwners};
 ghost use Rattle.msp_timetable.specs.Steps.{Betters, HoldStock};
 
 use crate::search::{Seats, find};
 use crate::square::{Square, has_stock};
-use msp_matching::pass_on;
+use msp_assign::pass_on;
 use std::alloc::{AllocError, Global};
 
 /// Notes the row of each column.

@@ -1,6 +1,6 @@
 // The search for a way from a row to a column whose row holds nothing there.
 ghost use Rattle.std.specs.Prelude.{◌≡◌, ◌+◌, ◌<◌, ◌≤◌, ℕ, IfOk, true, false, length};
-ghost use Rattle.msp_matching.specs.Passing.{at};
+ghost use Rattle.msp_assign.specs.Passing.{at};
 ghost use Rattle.msp_timetable.specs.Square.{stock, IsSquare, IsBalanced, IsPermuted, IsOwners};
 ghost use Rattle.msp_timetable.specs.Steps.{start_of, Reaches, Finds};
 

@@ -9,11 +9,16 @@ mod UniformBest
 mod UniformOrder
 mod UniformAnswer
 mod Laid
-pub mod SlotFacts
-pub mod LeastSlots
+mod SlotFacts
+mod LeastSlots
 mod SlotBest
 mod UnrelatedFacts
 mod ColumnSteps
 mod UnrelatedBest
 mod SortedLists
 mod PositionPrices
+mod Floors
+mod LineBegins
+mod LineFacts
+mod LinePieces
+mod LineBest

@@ -1,4 +1,4 @@
--- Jobs in slots of the earliest schedule, each in one of its own, all together at least cost.
+-- Jobs in slots of the earliest schedule, each in one of its own, all together at least cost. No public contract cites this file.
 use Rattle.std.specs.Prelude.{◌≡◌, ℕ, ◌-◌, ◌*◌, ◌≤◌, Bool, true, false, List, length, map, pos, ◌-ℤ◌, All, IsPermutation}
 use Rattle.msp_class.specs.declared.sizes.TheConstants.{MOST_JOBS, GREATEST}
 use Rattle.msp_class.specs.declared.class.Crit.{Crit}

@@ -8,4 +8,5 @@ pub mod Slots
 pub mod Positions
 pub mod Columns
 pub mod Priced
+pub mod LineSteps
 pub mod laws

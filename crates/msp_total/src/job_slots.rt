@@ -62,14 +62,14 @@ fn table_of(
 
 /// Slots, and which of them each job has.
 #[derive(Drop)]
-pub struct JobSlots {
+pub(crate) struct JobSlots {
     pub slots: Vec<Slot>,
     pub column: List<u32>,
 }
 
 /// Gives each job a slot of its own of the earliest schedule on so many machines, all together at least cost: by the weighted tardiness, or
 /// where `late` is false, by the weight of late jobs. A job ends `span` units of time after its slot begins.
-pub fn least_slots(
+pub(crate) fn least_slots(
     alloc: Global,
     inst: &Instance,
     late: bool,

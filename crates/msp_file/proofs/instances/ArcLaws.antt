@@ -10,13 +10,13 @@ use Rattle.std.proofs.lemmas.List.Elements.{All-push}
 use Rattle.msp_instance.specs.declared.Arc.{Arc}
 use Rattle.msp_class.specs.declared.sizes.TheConstants.{MOST_ARCS}
 use Rattle.msp_file.specs.declared.instance.draft.Draft.{Draft}
-use Rattle.msp_job_name.specs.JobName.{IsJobName, AreDistinct}
+use Rattle.msp_text.specs.JobName.{IsJobName, AreDistinct}
 use Rattle.msp_grammar.specs.ScheduleText.{name_at}
 use Rattle.msp_grammar.specs.InstanceText.{line_text, arc_fields, arcs_text}
 use Rattle.msp_file.specs.instance.ArcFlags.{is_arc_among}
 use Rattle.msp_grammar.specs.lines.Reading.{◌>>=◌, Place, line_at, fields_of, first_of, others_of, LineRead, job_read, more_read, end_read, end_at}
 use Rattle.msp_file.specs.instance.Reading.{with_arc, arc_line_at, arc_or_end, arc_step}
-use Rattle.msp_job_name.proofs.NameLists.{same_bytes}
+use Rattle.msp_text.proofs.NameLists.{same_bytes}
 use Rattle.msp_file.proofs.instances.Apart.{apart_push, apart_before}
 use Rattle.msp_grammar.proofs.reading.LineLaws.{bind_ok, provided_ok, ok_is, Takes, Takes-then, IsField, fields_takes, line_then, two_fields, end_text, end_field, end_takes}
 use Rattle.msp_grammar.proofs.reading.Lines.{line_less, Follows, GetsLines, line_gets}

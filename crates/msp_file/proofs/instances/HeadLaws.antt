@@ -32,7 +32,7 @@ use Rattle.msp_grammar.specs.Layout.{has_speeds, has_time_line}
 use Rattle.msp_grammar.specs.InstanceText.{where_wanted, line_text, class_text, machines_text, speeds_text, time_text}
 use Rattle.msp_grammar.specs.lines.Reading.{◌>>=◌, provided, Place, line_at, fields_of, natural_at, worded_at}
 use Rattle.msp_file.specs.instance.Reading.{version_at, spelled_class, class_in, class_at, machines_line_at, machines_at, speeds_in, speeds_line_at, speeds_at, time_line_at, time_at}
-use Rattle.msp_job_name.proofs.NameLists.{same_bytes}
+use Rattle.msp_text.proofs.NameLists.{same_bytes}
 use Rattle.msp_grammar.proofs.reading.LineLaws.{bind_ok, provided_ok, ok_is, Takes, Gets, IsField, line_takes, line_again, fields_join, fields_again, fields_line_again, worded_takes, worded_again}
 use Rattle.msp_file.proofs.instances.KeyLaws.{IsKeyed}
 use Rattle.msp_file.proofs.instances.NeedLaws.{decimals_fields, none_takes, none_again}

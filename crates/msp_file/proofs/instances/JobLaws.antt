@@ -21,7 +21,7 @@ use Rattle.msp_class.specs.declared.sizes.TheConstants.{MOST_JOBS, MOST_MACHINES
 use Rattle.msp_grammar.specs.declared.lines.fault.What.TheVariants as what
 use Rattle.msp_grammar.specs.declared.lines.fault.FileFault.TheVariants.{Limit}
 use Rattle.msp_file.specs.declared.instance.draft.Draft.{Draft}
-use Rattle.msp_job_name.specs.JobName.{IsJobName}
+use Rattle.msp_text.specs.JobName.{IsJobName}
 use Rattle.msp_grammar.specs.Layout.{has_times, has_one_time, has_time_key}
 use Rattle.msp_grammar.specs.InstanceText.{job_fields, key_fields, times_text, route_text, curve_text}
 use Rattle.msp_grammar.specs.lines.Reading.{Place}

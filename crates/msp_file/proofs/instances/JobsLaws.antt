@@ -12,13 +12,13 @@ use Rattle.msp_instance.specs.Conditions.{text_limits, IsJobOf}
 use Rattle.msp_class.specs.declared.sizes.TheConstants.{MOST_JOBS, MOST_MACHINES}
 use Rattle.msp_grammar.specs.declared.lines.fault.FileFault.{FileFault}
 use Rattle.msp_file.specs.declared.instance.draft.Draft.{Draft}
-use Rattle.msp_job_name.specs.JobName.{IsJobName, AreDistinct}
+use Rattle.msp_text.specs.JobName.{IsJobName, AreDistinct}
 use Rattle.msp_grammar.specs.ScheduleText.{name_at}
 use Rattle.msp_grammar.specs.Layout.{has_order, has_times}
 use Rattle.msp_grammar.specs.InstanceText.{line_text, key_fields, job_fields, times_text, route_text, curve_text, job_text, jobs_text, arc_fields, arcs_text}
 use Rattle.msp_grammar.specs.lines.Reading.{◌>>=◌, Place, line_at, fields_of, first_of, others_of, LineRead, job_read, more_read, end_read, end_at}
 use Rattle.msp_file.specs.instance.Reading.{with_arc, arc_step, arc_line_at, job_at_line, arc_or_end, job_step, arcs_from, jobs_from}
-use Rattle.msp_job_name.proofs.NameLists.{same_bytes}
+use Rattle.msp_text.proofs.NameLists.{same_bytes}
 use Rattle.msp_file.proofs.instances.Apart.{apart_push, apart_before}
 use Rattle.msp_grammar.proofs.reading.LineLaws.{bind_ok, ok_is, Takes, Gets, Takes-then, fields_takes, line_then, end_text, end_field}
 use Rattle.msp_grammar.proofs.reading.Lines.{line_less, Follows, lines_take, GetsLines, line_gets}

@@ -21,9 +21,9 @@ use Rattle.msp_instance.specs.declared.Job.{Job}
 use Rattle.msp_instance.specs.Instance.{no_need}
 use Rattle.msp_grammar.specs.declared.lines.fault.What.TheVariants as what
 use Rattle.msp_file.specs.declared.instance.job.Keys.{Keys}
-use Rattle.msp_job_name.specs.JobName.{IsJobName}
+use Rattle.msp_text.specs.JobName.{IsJobName}
 use Rattle.msp_grammar.specs.Layout.{has_time_key}
-use Rattle.msp_job_name.proofs.NameLists.{is_among, not_among}
+use Rattle.msp_text.proofs.NameLists.{is_among, not_among}
 use Rattle.msp_grammar.proofs.reading.FieldLaws.{natural_field, integer_field, name_takes, name_again, wide_takes, wide_again, signed_takes, signed_again}
 
 -- ---- numbers behind keys

@@ -24,7 +24,7 @@ use Rattle.msp_grammar.specs.declared.lines.fault.FileFault.TheVariants.{Limit}
 use Rattle.msp_grammar.specs.declared.lines.fault.What.TheVariants as what
 use Rattle.msp_grammar.specs.declared.filed.Filed.{Filed}
 use Rattle.msp_file.specs.declared.instance.draft.Draft.{Draft}
-use Rattle.msp_job_name.specs.JobName.{IsJobName, AreDistinct}
+use Rattle.msp_text.specs.JobName.{IsJobName, AreDistinct}
 use Rattle.msp_grammar.specs.Layout.{has_order, has_times, has_time_line}
 use Rattle.msp_grammar.specs.InstanceText.{line_text, class_text, machines_text, speeds_text, time_text, head_text, jobs_text, arcs_text, instance_text, AreNamesOf, IsInstanceText}
 use Rattle.msp_grammar.specs.lines.Reading.{Place, all_of, front_of}

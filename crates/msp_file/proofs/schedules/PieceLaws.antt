@@ -8,7 +8,7 @@ use Rattle.msp_class.specs.declared.sizes.TheConstants.{MOST_MACHINES, MOST_OPER
 use Rattle.msp_pieces.specs.declared.limits.TheConstants.{GREATEST_MOMENT}
 use Rattle.msp_pieces.specs.declared.Piece.{Piece}
 use Rattle.msp_pieces.specs.Within.{IsMoment}
-use Rattle.msp_job_name.specs.JobName.{IsJobName, AreDistinct}
+use Rattle.msp_text.specs.JobName.{IsJobName, AreDistinct}
 use Rattle.msp_grammar.specs.ScheduleText.{name_at, piece_line}
 use Rattle.msp_grammar.specs.ScheduleText.{IsStatedPiece}
 use Rattle.msp_grammar.specs.InstanceText.{line_text}

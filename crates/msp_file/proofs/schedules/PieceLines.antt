@@ -6,8 +6,8 @@ use Rattle.std.proofs.lemmas.List.{get_or_at}
 use Rattle.std.proofs.lemmas.List.Elements.{All-push}
 use Rattle.msp_class.specs.declared.sizes.TheConstants.{MOST_PIECES}
 use Rattle.msp_pieces.specs.declared.Piece.{Piece}
-use Rattle.msp_job_name.specs.JobName.{IsJobName, AreDistinct}
-use Rattle.msp_job_name.proofs.NameLists.{same_bytes}
+use Rattle.msp_text.specs.JobName.{IsJobName, AreDistinct}
+use Rattle.msp_text.proofs.NameLists.{same_bytes}
 use Rattle.msp_grammar.specs.ScheduleText.{piece_line, piece_lines}
 use Rattle.msp_grammar.specs.ScheduleText.{IsStatedPiece}
 use Rattle.msp_grammar.specs.InstanceText.{line_text}

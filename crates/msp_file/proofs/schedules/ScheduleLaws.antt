@@ -11,7 +11,7 @@ use Rattle.msp_pieces.specs.declared.Piece.{Piece}
 use Rattle.msp_pieces.specs.declared.Frac.{Frac}
 use Rattle.msp_pieces.specs.declared.Schedule.{Schedule}
 use Rattle.msp_pieces.specs.Within.{IsUnit}
-use Rattle.msp_job_name.specs.JobName.{IsJobName, AreDistinct}
+use Rattle.msp_text.specs.JobName.{IsJobName, AreDistinct}
 use Rattle.msp_grammar.specs.declared.limits.TheConstants.{GREATEST_COST}
 use Rattle.msp_grammar.specs.ScheduleText.{line_feed, IsFractionText, piece_lines, cost_line, unit_line, stated_text, schedule_text, IsStatedCost}
 use Rattle.msp_grammar.specs.ScheduleText.{IsStatedPiece, IsStated, IsScheduleText}

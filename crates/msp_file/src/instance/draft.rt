@@ -19,7 +19,7 @@ use msp_grammar::{
     two_fields,
 };
 use msp_instance::{Arc, Job, MOST_ARCS, MOST_JOBS};
-use msp_job_name::{JobName, Names};
+use msp_text::{JobName, Names};
 use std::alloc::Global;
 
 /// The jobs and arcs read so far.

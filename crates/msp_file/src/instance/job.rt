@@ -12,7 +12,7 @@ use msp_grammar::{
     FileFault, What, count_fields, has_time_key, integer_at, job_name_at, natural_at, next_field,
 };
 use msp_instance::GREATEST;
-use msp_job_name::{JobName, Names};
+use msp_text::{JobName, Names};
 
 /// The numbers in the line of a job. What the class does not write has its neutral value.
 #[derive(Clone, Copy)]

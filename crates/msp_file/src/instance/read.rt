@@ -18,7 +18,7 @@ use msp_grammar::{FileFault, Filed, Lines, What};
 use msp_instance::{
     ClassFault, Instance, OrderFault, check_distinct_arcs, forward, has_small_multiple,
 };
-use msp_job_name::{JobName, Names};
+use msp_text::{JobName, Names};
 use std::alloc::Global;
 
 fn no_draft(alloc: Global) -> Draft

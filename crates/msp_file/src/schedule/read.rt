@@ -18,8 +18,8 @@ use msp_grammar::{
     word_line_at,
 };
 use msp_instance::MOST_MACHINES;
-use msp_job_name::Names;
 use msp_pieces::{GREATEST_MOMENT, GREATEST_UNIT, MOST_PIECES, Piece, Schedule};
+use msp_text::Names;
 use std::alloc::Global;
 
 #[tactic(auto, unfolding(crate::specs::schedule::Reading::unit_at))]

@@ -14,16 +14,16 @@ use Rattle.std.proofs.lemmas.List.Sums.{AllPass-from_list_all, list_all-from_All
 use Rattle.msp_name.proofs.Separators.{Lacks}
 use Rattle.msp_instance.specs.Conditions.{LiesWithin}
 use Rattle.msp_class.specs.declared.sizes.TheConstants.{GREATEST}
-use Rattle.msp_job_name.specs.declared.job_name.TheConstants.{LONGEST_NAME}
+use Rattle.msp_text.specs.declared.job_name.TheConstants.{LONGEST_NAME}
 use Rattle.msp_grammar.specs.declared.lines.fault.FileFault.{FileFault}
 use Rattle.msp_grammar.specs.declared.lines.fault.FileFault.TheVariants.{Number, Limit, Name, Unknown, Count}
 use Rattle.msp_grammar.specs.declared.lines.fault.What.{What}
 use Rattle.msp_grammar.specs.declared.lines.fault.What.TheVariants as what
-use Rattle.msp_job_name.specs.JobName.{is_name_byte, IsJobName, AreDistinct}
+use Rattle.msp_text.specs.JobName.{is_name_byte, IsJobName, AreDistinct}
 use Rattle.msp_text.specs.Numbers.{number_of}
 use Rattle.msp_grammar.specs.ScheduleText.{name_at}
 use Rattle.msp_grammar.specs.lines.Reading.{provided, natural_in, natural_at, integer_at, is_name_text, job_name_at, known_at, Place, first_of, worded_at, number_line_at, ordinal_at}
-use Rattle.msp_job_name.proofs.NameLists.{same_bytes}
+use Rattle.msp_text.proofs.NameLists.{same_bytes}
 use Rattle.msp_text.proofs.NumberTexts.{some, same_digits, number_spells, number_again}
 use Rattle.msp_grammar.proofs.reading.LineLaws.{bind_ok, provided_ok, ok_is, IsField, Takes, Gets, worded_takes, worded_again, one_field, bind_again}
 use Rattle.msp_grammar.specs.InstanceText.{line_text}

@@ -7,7 +7,7 @@ use Rattle.msp_grammar.specs.declared.lines.fault.What.{What}
 use Rattle.msp_grammar.specs.declared.lines.fault.FileFault.{FileFault}
 use Rattle.msp_grammar.specs.declared.lines.fault.FileFault.TheVariants.{Missing, Cut, Line, Count, Name, Number, Limit, Unknown, After, Memory}
 use Rattle.msp_grammar.specs.declared.lines.fault.What.TheVariants as what
-use Rattle.msp_job_name.specs.declared.job_name.TheConstants.{LONGEST_NAME}
+use Rattle.msp_text.specs.declared.job_name.TheConstants.{LONGEST_NAME}
 use Rattle.msp_text.specs.Numbers.{number_of}
 use Rattle.msp_grammar.specs.lines.Reading.{first_of, ◌>>=◌, provided, Place, line_at, worded_at, word_line_at, field_line_at, natural_in, natural_at, ordinal_at, number_line_at}
 use Rattle.msp_grammar.specs.lines.Reading.{integer_at, is_name_text, job_name_at, known_at, end_at, LineRead, job_read, more_read, end_read, goes_on, lines_by, all_of}

@@ -16,7 +16,7 @@ use Rattle.msp_grammar.specs.declared.lines.fault.FileFault.TheVariants.{Missing
 use Rattle.msp_grammar.specs.ScheduleText.{line_feed}
 use Rattle.msp_grammar.specs.InstanceText.{line_text}
 use Rattle.msp_grammar.specs.lines.Reading.{◌>>=◌, provided, Place, line_at, fields_of, first_of, others_of, worded_at, word_line_at, field_line_at, LineRead, end_read, end_at}
-use Rattle.msp_job_name.proofs.NameLists.{same_bytes}
+use Rattle.msp_text.proofs.NameLists.{same_bytes}
 
 -- ---- steps that did not fail
 

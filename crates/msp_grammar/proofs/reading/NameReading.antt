@@ -4,8 +4,8 @@ use Rattle.std.specs.List.{list_all}
 use Rattle.std.proofs.lemmas.Bool.{leb-true}
 use Rattle.std.proofs.lemmas.List.Quantifiers.{position-Some}
 use Rattle.std.proofs.lemmas.List.Sums.{AllPass-from_list_all}
-use Rattle.msp_job_name.specs.declared.job_name.TheConstants.{LONGEST_NAME}
-use Rattle.msp_job_name.specs.JobName.{is_name_byte, IsJobName}
+use Rattle.msp_text.specs.declared.job_name.TheConstants.{LONGEST_NAME}
+use Rattle.msp_text.specs.JobName.{is_name_byte, IsJobName}
 use Rattle.msp_grammar.specs.declared.lines.fault.FileFault.{FileFault}
 use Rattle.msp_grammar.specs.declared.lines.fault.FileFault.TheVariants.{Limit, Name, Unknown}
 use Rattle.msp_grammar.specs.declared.lines.fault.What.TheVariants as what

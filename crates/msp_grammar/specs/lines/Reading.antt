@@ -2,8 +2,8 @@
 use Rattle.std.specs.Prelude.{◌≡◌, ℕ, zero, suc, ◌+◌, ◌-◌, Bool, true, false, ◌&&◌, ◌==◌, nat_le, List, [], ◌∷◌, length, take, drop, Option, Some, None, Result, Ok, Err, ok_or, position, codes}
 use Rattle.std.specs.Prelude.{bytes_eq, ℤ, pos, negsuc, unsigned_abs}
 use Rattle.std.specs.List.{slice_split, list_all}
-use Rattle.msp_job_name.specs.declared.job_name.TheConstants.{LONGEST_NAME}
-use Rattle.msp_job_name.specs.JobName.{is_name_byte}
+use Rattle.msp_text.specs.declared.job_name.TheConstants.{LONGEST_NAME}
+use Rattle.msp_text.specs.JobName.{is_name_byte}
 use Rattle.msp_grammar.specs.declared.lines.fault.What.{What}
 use Rattle.msp_grammar.specs.declared.lines.fault.What.TheVariants as what
 use Rattle.msp_grammar.specs.declared.lines.fault.FileFault.{FileFault}

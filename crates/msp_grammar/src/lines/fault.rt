@@ -1,14 +1,14 @@
 // The faults of texts, and what is said of them.
 ghost use Rattle.std.specs.Prelude.{◌≡◌, ◌+◌, ◌≤◌, ◌++◌, length, codes};
 ghost use Rattle.msp_name.specs.declared.fault.TheConstants.{FAULT_ROOM};
-ghost use Rattle.msp_job_name.specs.declared.job_name.TheConstants.{LONGEST_NAME};
+ghost use Rattle.msp_text.specs.declared.job_name.TheConstants.{LONGEST_NAME};
 ghost use Rattle.msp_grammar.specs.declared.lines.fault.FileFault.TheVariants.{Memory};
 ghost use Rattle.msp_grammar.specs.lines.Faults.{quantity_text, longest_quantity, longest_line_head, at_line, broken_text, file_text};
 
 use msp_class::NoMemory;
 use msp_instance::ClassFault;
-use msp_job_name::JobName;
 use msp_name::{FAULT_ROOM, ShortText};
+use msp_text::JobName;
 
 /// A quantity that texts keep within limits.
 #[derive(Clone, Copy, Debug)]

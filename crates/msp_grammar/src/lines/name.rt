@@ -1,11 +1,11 @@
 // The names of jobs in fields.
 ghost use Rattle.std.specs.Prelude.{◌≡◌, ◌<◌, length, bytes_eq, position, None, Err, IfOk};
 ghost use Rattle.msp_class.specs.declared.list.TheConstants.{PLACES};
-ghost use Rattle.msp_job_name.specs.JobName.{IsJobName};
+ghost use Rattle.msp_text.specs.JobName.{IsJobName};
 ghost use Rattle.msp_grammar.specs.lines.Reading.{job_name_at, known_at};
 
 use crate::lines::fault::{FileFault, What};
-use msp_job_name::{JobName, Names, are_name_bytes};
+use msp_text::{JobName, Names, are_name_bytes};
 
 /// The fault of bytes that are no job name.
 fn name_fault(at: u32, bytes: &[u8]) -> FileFault

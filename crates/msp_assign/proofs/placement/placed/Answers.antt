@@ -1,5 +1,5 @@
 use Rattle.std.proofs.Common.{◌≡◌, ◌<◌, rules, arith, length, ◌∙◌}
-use Rattle.msp_matching.proofs.Lists.{whole_slice}
+use Rattle.msp_assign.proofs.Lists.{whole_slice}
 use Rattle.msp_assign.proofs.Placements.{IsPlacing-start, IsPlacing-next, HasCharges-placing, free-placing, IsPlacement-end}
 use Rattle.msp_assign.proofs.placement.placed.Goals as goal
 

@@ -1,5 +1,5 @@
 use Rattle.std.proofs.Common.{length, sym, subst, ◌∙◌, arith}
-use Rattle.msp_matching.proofs.Lists.{whole_slice}
+use Rattle.msp_assign.proofs.Lists.{whole_slice}
 use Rattle.msp_assign.specs.Search.{IsOwners}
 use Rattle.msp_assign.proofs.Moves.{IsLowerable-row, IsTree-row, IsStepped-row}
 use Rattle.msp_assign.proofs.placing.place_row.Goals as goal

@@ -1,5 +1,5 @@
 use Rattle.std.proofs.Common.{◌≡◌, ◌<◌, ℕ, pos, length}
-use Rattle.msp_matching.specs.Passing.{at}
+use Rattle.msp_assign.specs.Passing.{at}
 use Rattle.msp_assign.specs.Prices.{price_at}
 use Rattle.msp_assign.specs.Search.{paid, sizes}
 use Rattle.msp_assign.proofs.prices.row_prices.Given as goal

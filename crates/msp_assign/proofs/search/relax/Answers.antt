@@ -1,5 +1,5 @@
 use Rattle.std.proofs.Common.{◌≡◌, arith, lit<, refl, length}
-use Rattle.msp_matching.specs.Passing.{at}
+use Rattle.msp_assign.specs.Passing.{at}
 use Rattle.msp_assign.proofs.Bounds.{paid-at_most}
 use Rattle.msp_assign.proofs.Relaxed.{IsRelaxing-next, IsRelaxed-from_all, IsNear-relaxed}
 use Rattle.msp_assign.proofs.search.relax.Goals as goal

@@ -3,7 +3,7 @@ use Rattle.std.proofs.lemmas.List.{get_or_default}
 use Rattle.std.proofs.lemmas.List.Elements.{All-contains}
 use Rattle.std.proofs.lemmas.List.Sorted.{length_permutation}
 use Rattle.msp_assign.specs.Search.{sizes, IsSearch, IsRelaxed}
-use Rattle.msp_matching.specs.Passing.{at}
+use Rattle.msp_assign.specs.Passing.{at}
 use Rattle.msp_assign.proofs.Lists.{All-from_contained, at-Contains, taken_away}
 use Rattle.msp_assign.proofs.Growth.{AreNearest-rest, HasEdges-own, IsClosest-at, IsSearch-grow, IsSearch-reordered, still_left}
 use Rattle.msp_assign.proofs.search.settle.Goals as goal

@@ -1,6 +1,6 @@
 use Rattle.std.proofs.Common.{◌≡◌, ◌≢◌, ◌<◌, ◌∙◌, ℕ, List, All, AllPairs, IsPermutation, ap, length, refl, sym, subst}
-use Rattle.msp_matching.specs.Passing.{at}
-use Rattle.msp_matching.proofs.Lists.{whole_slice}
+use Rattle.msp_assign.specs.Passing.{at}
+use Rattle.msp_assign.proofs.Lists.{whole_slice}
 use Rattle.msp_assign.specs.Search.{sizes, AreNearest, IsNearest, IsRelaxed}
 use Rattle.msp_assign.proofs.search.spread.Goals as goal
 

@@ -1,5 +1,5 @@
 use Rattle.std.proofs.Common.{length, sym, subst, ◌∙◌, arith}
-use Rattle.msp_matching.proofs.Lists.{whole_slice}
+use Rattle.msp_assign.proofs.Lists.{whole_slice}
 use Rattle.msp_assign.specs.Search.{sizes, IsPlaced}
 use Rattle.msp_assign.proofs.Squares.{IsPlaced-start, AreMarked-start, AreMarked-next}
 use Rattle.msp_assign.proofs.square.fill.Goals as goal

@@ -1,5 +1,5 @@
 use Rattle.std.proofs.Common.{length, ◌∙◌}
-use Rattle.msp_matching.proofs.Lists.{whole_slice}
+use Rattle.msp_assign.proofs.Lists.{whole_slice}
 use Rattle.msp_assign.proofs.Normal.{IsPlacement-read}
 use Rattle.msp_assign.proofs.square.placed_from.Goals as goal
 

@@ -1,5 +1,5 @@
 use Rattle.std.proofs.Common.{get_or, sym, subst}
-use Rattle.msp_heads.specs.Heads.{AreHeads}
+use Rattle.msp_route.specs.Heads.{AreHeads}
 use Rattle.msp_route.proofs.KeyedJobs.{rises_or_stays}
 use Rattle.msp_blocks.proofs.Made.{some_passed, filling_passed}
 use Rattle.msp_blocks.proofs.blocks.by_blocks.Goals as goal

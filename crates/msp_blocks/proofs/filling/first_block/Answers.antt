@@ -1,7 +1,7 @@
 use Rattle.std.proofs.Common.{◌≡◌, ℕ, ◌+◌, ◌<◌, ◌≤◌, List, length, get_or, take, sum_by, subst, ap, arith, below_more}
 use Rattle.std.proofs.lemmas.List.Sums.{sum_by_more}
 use Rattle.msp_pieces.specs.BackToBack.{time_at}
-use Rattle.msp_heads.specs.Heads.{head_in}
+use Rattle.msp_route.specs.Heads.{head_in}
 use Rattle.msp_blocks.specs.Filling.{IsFirstBlock}
 use Rattle.msp_blocks.proofs.filling.first_block.Goals as goal
 

@@ -1,7 +1,7 @@
 use Rattle.std.proofs.Common.{List, ℕ, length, AllPairs, IsPermutation, sym, ap, subst, ◌∙◌}
 use Rattle.std.specs.List.{range_with_len}
 use Rattle.std.proofs.lemmas.Result.{IfOk-weaker}
-use Rattle.msp_heads.specs.Heads.{AreHeads}
+use Rattle.msp_route.specs.Heads.{AreHeads}
 use Rattle.msp_srpt.specs.EqualHeads.{HeadsBefore, RunInOrder}
 use Rattle.msp_srpt.proofs.equal_heads.pieces_by_head.Goals as goal
 

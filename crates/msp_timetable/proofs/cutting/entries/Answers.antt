@@ -3,7 +3,7 @@ use Rattle.std.proofs.Math.Seq.{get_or-append_seam}
 use Rattle.std.proofs.lemmas.Bool.{le-ltb, lt-ltb}
 use Rattle.std.proofs.lemmas.List.{get_or_append_left, get_or_default, length-append}
 use Rattle.msp_class.proofs.Cases.{same_or_not}
-use Rattle.msp_matching.specs.Passing.{at}
+use Rattle.msp_assign.specs.Passing.{at}
 use Rattle.msp_timetable.specs.Square.{cell_at, entry}
 use Rattle.msp_timetable.proofs.cutting.entries.Goals as goal
 use Rattle.msp_timetable.proofs.cutting.entries.Goals.{then-index-gt0+in_ok-push, else-index-gt0+in_ok-push-2}

@@ -1,5 +1,5 @@
 use Rattle.std.proofs.Common.{◌<◌, arith, ap}
-use Rattle.msp_matching.specs.Passing.{at}
+use Rattle.msp_assign.specs.Passing.{at}
 use Rattle.msp_timetable.specs.Square.{cell_at}
 use Rattle.msp_timetable.proofs.Fills.{total_below-part}
 use Rattle.msp_timetable.proofs.filling.column_sum.Goals as goal

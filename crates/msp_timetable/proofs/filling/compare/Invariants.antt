@@ -1,5 +1,5 @@
 use Rattle.std.proofs.Common.{◌≡◌, ◌+◌, ◌<◌, ℕ, length}
-use Rattle.msp_matching.specs.Passing.{at}
+use Rattle.msp_assign.specs.Passing.{at}
 use Rattle.msp_timetable.specs.Square.{row_total, column_total}
 use Rattle.msp_timetable.proofs.filling.compare.Given as goal
 

@@ -1,5 +1,5 @@
 use Rattle.std.proofs.Common.{◌≡◌, length, ap, sym, subst, ◌∙◌, arith}
-use Rattle.msp_matching.proofs.Lists.{whole_slice}
+use Rattle.msp_assign.proofs.Lists.{whole_slice}
 use Rattle.msp_timetable.specs.Square.{IsSpread}
 use Rattle.msp_timetable.proofs.Fills.{IsSpreadBelow, IsSpreadBelow-start, IsSpreadBelow-next, IsSpread-end}
 use Rattle.msp_timetable.proofs.filling.spread.Goals as goal

@@ -1,6 +1,6 @@
 use Rattle.std.proofs.Common.{length, ap, sym, subst₂, arith, ◌∙◌}
 use Rattle.std.proofs.lemmas.List.{get_or_default}
-use Rattle.msp_matching.proofs.Lists.{whole_slice}
+use Rattle.msp_assign.proofs.Lists.{whole_slice}
 use Rattle.msp_timetable.specs.Square.{IsOwners}
 use Rattle.msp_timetable.proofs.Lists.{IsPermuted-size}
 use Rattle.msp_timetable.proofs.Ways.{read_turned, IsTree-read, IsBetter-read}

@@ -1,5 +1,5 @@
 use Rattle.std.proofs.Common.{◌<◌, ℕ}
-use Rattle.msp_matching.specs.Passing.{at}
+use Rattle.msp_assign.specs.Passing.{at}
 use Rattle.msp_timetable.specs.Square.{stock, IsPermuted, IsOwners}
 use Rattle.msp_timetable.proofs.matching.match_rows.Given as goal
 

@@ -1,6 +1,6 @@
 use Rattle.std.proofs.Common.{◌<◌, ◌++◌, ◌∷◌, [], length, ap, sym, subst, ◌∙◌, arith}
 use Rattle.std.proofs.lemmas.List.{length-replicate, get_or-replicate}
-use Rattle.msp_matching.specs.Passing.{at}
+use Rattle.msp_assign.specs.Passing.{at}
 use Rattle.msp_timetable.specs.Steps.{Finds}
 use Rattle.msp_timetable.proofs.Growth.{IsGrowing-short, IsSearch-start, IsSearch-step}
 use Rattle.msp_timetable.proofs.search.find.Goals as goal

@@ -1,5 +1,5 @@
 use Rattle.std.proofs.Common.{◌≤◌, length}
-use Rattle.msp_matching.specs.Passing.{at}
+use Rattle.msp_assign.specs.Passing.{at}
 use Rattle.msp_timetable.specs.Square.{stock, IsSearch}
 use Rattle.msp_timetable.proofs.search.grow.Given as goal
 

@@ -1,6 +1,6 @@
 use Rattle.std.proofs.Common.{rules, ◌≡◌, ◌<◌, subst, sym, ap, ◌∙◌, ◌++◌, ◌∷◌, [], ℕ, List, length, get_or}
 use Rattle.std.proofs.lemmas.List.{get_or_default}
-use Rattle.msp_matching.specs.Passing.{at}
+use Rattle.msp_assign.specs.Passing.{at}
 use Rattle.std.proofs.lemmas.Bool.{false≢true}
 use Rattle.msp_timetable.specs.Square.{stock}
 use Rattle.msp_timetable.proofs.Lists.{none_held}

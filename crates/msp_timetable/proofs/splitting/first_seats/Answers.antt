@@ -1,6 +1,6 @@
 use Rattle.std.proofs.Common.{◌≡◌, ℕ, ◌+◌, ◌<◌, List, [], ◌∷◌, ◌++◌, length, ap, sym, subst, ◌∙◌, below_more}
 use Rattle.std.proofs.lemmas.List.{length_push, get_or_push, get_or_append_left}
-use Rattle.msp_matching.specs.Passing.{at}
+use Rattle.msp_assign.specs.Passing.{at}
 use Rattle.msp_timetable.proofs.splitting.first_seats.Goals as goal
 
 -- one line more in a list of lines

@@ -1,6 +1,0 @@
-use Rattle.msp_heads.proofs.Raising.{IsHeaded}
-use Rattle.msp_heads.proofs.heads.put_heads.Given as goal
-
--- the jobs before the place have their heads
-abbrev pub invariant-loop-place : goal.invariant-loop-place
-invariant-loop-place l = IsHeaded l.inst l.order l.place l.heads

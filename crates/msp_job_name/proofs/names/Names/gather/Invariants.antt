@@ -1,6 +1,0 @@
--- What holds in the loop of `gather`.
-use Rattle.msp_job_name.proofs.NameLists.{IsGathered}
-use Rattle.msp_job_name.proofs.names.Names.gather.Given as goal
-
-abbrev pub invariant-loop-name : goal.invariant-loop-name
-invariant-loop-name l = IsGathered l.items l.gathered l.name-index

@@ -1,2 +1,0 @@
-pub mod JobName
-pub mod Limits

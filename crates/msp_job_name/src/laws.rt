@@ -1,7 +1,0 @@
-// What is fixed by number.
-ghost use Rattle.msp_job_name.specs.Limits.{AreLimits};
-
-/// The limits by their numbers.
-pub fn law_of_limits()
-    ensures { AreLimits }
-{}

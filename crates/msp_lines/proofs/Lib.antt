@@ -1,5 +1,0 @@
-mod Floors
-mod LineBegins
-mod LineFacts
-mod LinePieces
-mod LineBest
