@@ -2,7 +2,7 @@
 /// The machine environment: the first field of a class's name.
 ///
 /// `J2Short` and `JShort` are `J2` and `J` where each job has at most two operations (`n<=2`).
-#[derive(Clone, Copy, Debug, PartialEq, Eq)]
+#[derive(Clone, Copy, PartialEq, Eq)]
 pub enum Env {
     One,
     P2,
@@ -25,7 +25,7 @@ pub enum Env {
 }
 
 /// The kind of precedence constraints.
-#[derive(Clone, Copy, Debug, PartialEq, Eq)]
+#[derive(Clone, Copy, PartialEq, Eq)]
 pub enum Order {
     Free,
     Chains,
@@ -35,7 +35,7 @@ pub enum Order {
 }
 
 /// The optimality criterion: the third field of a class's name.
-#[derive(Clone, Copy, Debug, PartialEq, Eq)]
+#[derive(Clone, Copy, PartialEq, Eq)]
 pub enum Crit {
     Cmax,
     Lmax,
@@ -49,7 +49,7 @@ pub enum Crit {
 }
 
 /// The processing times: arbitrary, all 1 (`p=1`), or all equal to a number of the instance (`p=p`).
-#[derive(Clone, Copy, Debug, PartialEq, Eq)]
+#[derive(Clone, Copy, PartialEq, Eq)]
 pub enum Times {
     General,
     Unit,
@@ -57,7 +57,7 @@ pub enum Times {
 }
 
 /// A class of scheduling problems in the three-field notation of Graham, Lawler, Lenstra and Rinnooy Kan (1979).
-#[derive(Clone, Copy, Debug, PartialEq, Eq)]
+#[derive(Clone, Copy, PartialEq, Eq)]
 pub struct Class {
     pub env: Env,
     /// Whether operations may be cut into pieces (`pmtn`).

@@ -2,7 +2,7 @@
 use msp_class::{Class, List};
 
 /// What is known of a listed class.
-#[derive(Clone, Copy, Debug, PartialEq, Eq)]
+#[derive(Clone, Copy, PartialEq, Eq)]
 pub enum Verdict {
     /// It is solvable in polynomial time.
     Easy,
@@ -24,7 +24,7 @@ pub struct Entry {
 }
 
 /// What a list of known results says of a class.
-#[derive(Clone, Copy, Debug, PartialEq, Eq)]
+#[derive(Clone, Copy, PartialEq, Eq)]
 pub enum Mark {
     /// It is solvable in polynomial time, and nothing says that it is hard.
     Easy,

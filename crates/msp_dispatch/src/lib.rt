@@ -25,7 +25,7 @@ pub use solve::solve_any;
 pub use solved_list::{SolvedClass, solved};
 
 /// Why an instance is not solved.
-#[derive(Clone, Copy, Debug, PartialEq, Eq)]
+#[derive(Clone, Copy, PartialEq, Eq)]
 pub enum Cannot {
     /// No chain of carrying rows leads from the class to one that is solved.
     NoSolver { class: Class },
@@ -50,7 +50,7 @@ impl From<NoMemory> for Cannot {
 }
 
 /// Why an instance gets no certificate.
-#[derive(Clone, Copy, Debug, PartialEq, Eq)]
+#[derive(Clone, Copy, PartialEq, Eq)]
 pub enum Uncertified {
     /// The class is none of those whose best costs are certified.
     NoCertificate { class: Class },

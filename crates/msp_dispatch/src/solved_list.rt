@@ -50,7 +50,7 @@ const SOLVERS: [SolverName; SOLVED as usize] = [
 ];
 
 /// A class that is solved, and its solver.
-#[derive(Clone, Copy, Debug, PartialEq, Eq)]
+#[derive(Clone, Copy, PartialEq, Eq)]
 pub struct SolvedClass {
     pub class: Class,
     pub solver: SolverName,

@@ -31,14 +31,14 @@ pub use speeds::{gcd, has_small_multiple, multiple_of_all};
 ///
 /// On parallel machines a job has one need. On unrelated machines it has one for each machine, with the time there. In shops the
 /// needs are the job's operations.
-#[derive(Clone, Copy, Debug, PartialEq, Eq)]
+#[derive(Clone, Copy, PartialEq, Eq)]
 pub struct Need {
     pub machine: u32,
     pub time: u64,
 }
 
 /// A jump of a cost curve: `add` is owed from any moment after `above` on.
-#[derive(Clone, Copy, Debug, PartialEq, Eq)]
+#[derive(Clone, Copy, PartialEq, Eq)]
 pub struct Step {
     pub above: u64,
     pub add: u64,
@@ -63,7 +63,7 @@ pub struct Job {
 }
 
 /// A precedence constraint between two jobs, from 0: `before` is complete when `after` begins.
-#[derive(Clone, Copy, Debug, PartialEq, Eq, Hash)]
+#[derive(Clone, Copy, PartialEq, Eq, Hash)]
 pub struct Arc {
     pub before: u32,
     pub after: u32,

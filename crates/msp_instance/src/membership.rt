@@ -10,7 +10,7 @@ use crate::{Arc, Instance, Need};
 use msp_class::{MOST_ARCS, MOST_JOBS, MOST_MACHINES, Order, fixed_machines};
 
 /// The first condition of its class that an instance breaks. Jobs and arcs are numbered from 0.
-#[derive(Clone, Copy, Debug, PartialEq, Eq)]
+#[derive(Clone, Copy, PartialEq, Eq)]
 pub enum ClassFault {
     /// There is no job, or there are more than 400.
     Jobs,

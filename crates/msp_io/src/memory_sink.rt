@@ -123,7 +123,7 @@ impl Sink for MemorySink {
 }
 
 /// A sink that takes and drops all bytes, and never fails.
-#[derive(Clone, Copy, Debug)]
+#[derive(Clone, Copy)]
 pub struct SureSink;
 
 impl SureSink {

@@ -5,7 +5,7 @@ ghost use Rattle.msp_io.specs.Sources.{KeepsLaws, MeetsEnd, TellsEnd};
 ghost use Rattle.msp_io.specs.Views.{SourceView};
 
 /// A read or a write did not succeed, and moved no byte.
-#[derive(Clone, Copy, Debug, PartialEq, Eq)]
+#[derive(Clone, Copy, PartialEq, Eq)]
 pub struct Failed;
 
 /// A source of bytes.

@@ -13,7 +13,7 @@ pub const GREATEST_LIMIT: u64 = 4_294_967_295;
 const CHUNK: usize = 4096;
 
 /// Why a whole read stopped before the end of the input.
-#[derive(Clone, Copy, Debug, PartialEq, Eq)]
+#[derive(Clone, Copy, PartialEq, Eq)]
 pub enum Taken {
     /// The source failed.
     ReadFault,
@@ -35,7 +35,7 @@ impl From<AllocError> for Taken {
 }
 
 /// The sink failed.
-#[derive(Clone, Copy, Debug, PartialEq, Eq)]
+#[derive(Clone, Copy, PartialEq, Eq)]
 pub struct WriteFault;
 
 // One read into a slice with room, and no other. A count of 0 is the end of the input.

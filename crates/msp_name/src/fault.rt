@@ -12,7 +12,7 @@ pub const LONGEST_FAULT: usize = 31;
 pub const FAULT_ROOM: usize = 64;
 
 /// The first fault of a text that is no name of a class. A place `at` counts bytes from 0.
-#[derive(Clone, Copy, Debug, PartialEq, Eq)]
+#[derive(Clone, Copy, PartialEq, Eq)]
 pub enum NameFault {
     /// There are not exactly two bars.
     Bars,

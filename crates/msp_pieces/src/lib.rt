@@ -37,7 +37,7 @@ pub use settling::{settle, sort_pieces};
 pub use total_cost::{cost, ends_of};
 
 /// A piece of work on an operation of a job, all three numbered from 0. A moment `x` stands for the time `x / unit`.
-#[derive(Clone, Copy, Debug, PartialEq, Eq)]
+#[derive(Clone, Copy, PartialEq, Eq)]
 pub struct Piece {
     pub job: u32,
     pub op: u32,
@@ -54,7 +54,7 @@ pub struct Schedule {
 }
 
 /// A fraction: a numerator over a denominator of at least 1.
-#[derive(Clone, Copy, Debug, PartialEq, Eq)]
+#[derive(Clone, Copy, PartialEq, Eq)]
 pub struct Frac {
     pub num: i128,
     pub den: i128,

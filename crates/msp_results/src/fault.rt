@@ -10,7 +10,7 @@ use msp_name::{FAULT_ROOM, NameFault, ShortText};
 use std::alloc::AllocError;
 
 /// The first fault of a file of results. The header is record 0, and `at` is the number of an entry's record, from 1.
-#[derive(Clone, Copy, Debug, PartialEq, Eq)]
+#[derive(Clone, Copy, PartialEq, Eq)]
 pub enum ResultFault {
     /// There is no record, or the first is neither `class`, `verdict`, `source` nor `class`, `strength`, `source`.
     Header,

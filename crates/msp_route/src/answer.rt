@@ -4,7 +4,7 @@ use msp_pieces::Solution;
 use msp_table::Chain;
 
 /// A solver, by the name under which it is known.
-#[derive(Clone, Copy, Debug, PartialEq, Eq)]
+#[derive(Clone, Copy, PartialEq, Eq)]
 pub enum SolverName {
     Smith,
     Lawler,

@@ -20,7 +20,9 @@ use std::process::Abort;
 /// The schedule of the text, for the named jobs.
 fn stated(rt: &impl Abort, alloc: Global, names: &Names, text: &[u8]) -> Stated {
     assert!(rt; text.len() <= 400);
-    read_schedule(alloc, names, text, 1).expect(rt, "a schedule")
+    read_schedule(alloc, names, text, 1)
+        .ok()
+        .expect(rt, "a schedule")
 }
 
 /// The schedule of the text with its cost, which has to be the stated one.
@@ -92,7 +94,7 @@ fn read(rt: &impl Abort, alloc: Global, text: &[u8]) -> Filed
     ensures { Inner result.instance }
 {
     assert!(rt; text.len() <= 400);
-    read_instance(alloc, text).expect(rt, "an instance")
+    read_instance(alloc, text).ok().expect(rt, "an instance")
 }
 
 /// Whether what comes back is what is known.

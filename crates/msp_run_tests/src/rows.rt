@@ -311,7 +311,7 @@ fn cost_of_journey(rt: &impl Abort, alloc: Global, inst: &Instance, number: u8) 
 pub fn class_of(rt: &impl Abort, name: &str) -> Class {
     let text = name.as_bytes();
     assert!(rt; text.len() <= 40);
-    parse(text).expect(rt, "a class")
+    parse(text).ok().expect(rt, "a class")
 }
 
 /// The instance of the class that is drawn from the seed.

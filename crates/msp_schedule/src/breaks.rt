@@ -17,7 +17,7 @@ use msp_instance::{Arc, Instance, Need};
 use msp_pieces::{Piece, Schedule, product};
 
 /// A broken condition of a feasible schedule, and where it is broken. Pieces, jobs, operations and arcs are numbered from 0.
-#[derive(Clone, Copy, Debug, PartialEq, Eq)]
+#[derive(Clone, Copy, PartialEq, Eq)]
 pub enum Break {
     /// The piece does not last.
     Span { piece: u32 },

@@ -8,7 +8,7 @@ use std::marker::Model;
 pub const ROWS: u8 = 54;
 
 /// A row of the table. Contracts see it as its number, from 1 to `ROWS`.
-#[derive(Clone, Copy, Debug, PartialEq, Eq)]
+#[derive(Clone, Copy, PartialEq, Eq)]
 pub struct Row {
     number: u8,
 }
@@ -49,7 +49,7 @@ impl Row {
 }
 
 /// Whether a row carries schedules.
-#[derive(Clone, Copy, Debug, PartialEq, Eq)]
+#[derive(Clone, Copy, PartialEq, Eq)]
 pub enum RowKind {
     /// A best schedule of the class led to gives a best schedule of the class before.
     Carries,

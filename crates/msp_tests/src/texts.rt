@@ -82,7 +82,9 @@ const SCHEDULES: &[&[u8]] = &[
 
 #[test]
 fn schedules_are_printed_again(rt: HostRuntime) {
-    let Filed { names, .. } = read_instance(rt.alloc(), INSTANCE).expect(&rt, "an instance");
+    let Filed { names, .. } = read_instance(rt.alloc(), INSTANCE)
+        .ok()
+        .expect(&rt, "an instance");
     for text in SCHEDULES {
         assert!(rt; is_text(schedule_again(rt.alloc(), &names, text), text));
     }

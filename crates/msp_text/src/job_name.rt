@@ -14,7 +14,7 @@ use std::marker::Model;
 pub const LONGEST_NAME: usize = 32;
 
 /// The name of a job: 1 to 32 bytes, each a letter or a digit of ASCII or one of `_`, `-`, `.`. Contracts see it as its bytes.
-#[derive(Clone, Copy, Debug)]
+#[derive(Clone, Copy)]
 pub struct JobName {
     pub(crate) text: Padded,
 }

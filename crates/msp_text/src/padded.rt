@@ -10,7 +10,7 @@ use std::hash::{Hash, Hasher};
 use std::marker::Model;
 
 /// As many bytes as a job name may have, whichever they are, with zeros after them. Contracts see them as the bytes.
-#[derive(Clone, Copy, Debug)]
+#[derive(Clone, Copy)]
 pub(crate) struct Padded {
     buffer: [u8; LONGEST_NAME],
     len: usize,

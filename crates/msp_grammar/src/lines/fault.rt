@@ -11,7 +11,7 @@ use msp_name::{FAULT_ROOM, ShortText};
 use msp_text::JobName;
 
 /// A quantity that texts keep within limits.
-#[derive(Clone, Copy, Debug)]
+#[derive(Clone, Copy)]
 pub enum What {
     Jobs,
     Arcs,
@@ -41,7 +41,7 @@ pub enum What {
 }
 
 /// The first fault of a text. `at` is the number of its line, from 1.
-#[derive(Clone, Copy, Debug)]
+#[derive(Clone, Copy)]
 pub enum FileFault {
     /// The first line is not `msp 1`, or the second is not `class` and a name of a class.
     Head {
