@@ -6,7 +6,7 @@ use Rattle.std.proofs.lemmas.Bool.{cases_Bool, cases_lt, eqb-true, eq-eqb, cases
 use Rattle.std.proofs.lemmas.List.{take_all, take_more, take-append-le, get_or_default, get_or-set_other, length-set, length-replicate}
 use Rattle.std.proofs.lemmas.List.Elements.{All-nil, All-push, All-filter, All-weaker, All-contains, Contains-get_or, Contains-push, Contains-append_left}
 use Rattle.std.proofs.lemmas.List.Sorted.{Contains-permutation}
-use Rattle.std.proofs.lemmas.Grind.{get_or-set_at}
+use Rattle.std.proofs.lemmas.Grind.{get_or-set_at, common_steps}
 use Rattle.msp_class.proofs.Sums.{Contains-filter, Contains-from_filter}
 use Rattle.msp_instance.specs.declared.Arc.{Arc}
 use Rattle.msp_instance.specs.Paths.{HasStep, HasPath, one, more}
@@ -186,6 +186,9 @@ IsSearch-end n arcs start seen found done k h past inside = (there, back)
 -- ---- the same, by what the code reads and calls
 pub length-flags : (n : ℕ) (flags shown : List Bool) → shown ≡ flags → flags ≡ replicate n false → length shown ≡ n
 length-flags n flags shown e is = ap length e ∙ ap length is ∙ length-replicate n false
+
+pub IsListing-flags : (n : ℕ) (flags shown : List Bool) (none : List ℕ) → shown ≡ flags → flags ≡ replicate n false → none ≡ [] → IsListing (length shown) (λ k. get_or shown k false) none
+IsListing-flags n flags shown none e is is_none = rw (e, is, is_none) (record { inside = All-nil (λ x. x < length (replicate n false)); each = λ k t. grind (arith, common_steps) })
 
 pub ends_inside : (n : ℕ) (arcs leaving : List Arc) (job m : ℕ) → leaving ≡ filter (λ a. a.before == job) arcs → m ≡ n → All (λ a. (a.before < n) × (a.after < n)) arcs → All (λ a. a.after < m) leaving
 ends_inside n arcs leaving job m own whole ends k d u =

@@ -1,11 +1,16 @@
-use Rattle.std.proofs.Common.{arith}
-use Rattle.msp_instance.proofs.SearchLemmas.{length-flags, ends_inside, IsSearch-begin, IsSearch-step, IsSearch-smaller, IsSearch-end}
+use Rattle.std.proofs.Common.{false, sym, subst, arith, slice_index_or}
+use Rattle.msp_instance.specs.Listing.{IsListing}
+use Rattle.msp_instance.proofs.SearchLemmas.{length-flags, IsListing-flags, ends_inside, IsSearch-begin, IsSearch-step, IsSearch-smaller, IsSearch-end}
 use Rattle.msp_instance.proofs.sequence.leads_to_itself.Goals as goal
 
 pub meet-requires-clause-ends : goal.meet-requires-clause-ends
 meet-requires-clause-ends c =
     let whole = length-flags c.args.jobs c.in_ok-flags.flags.items c.as_mut_slice-seen.result.now c.as_mut_slice-seen.ensures.value (c.in_ok-flags.ensures.items_if_clones_equal (λ y q. q)) in
     ends_inside c.args.jobs c.args.sorted.now c.leaving_of.result.now c.args.start _ c.leaving_of.ensures whole c.requires.ends
+
+pub meet-requires-clause-listing : goal.meet-requires-clause-listing
+meet-requires-clause-listing c =
+    IsListing-flags c.args.jobs c.in_ok-flags.flags.items c.as_mut_slice-seen.result.now _ c.as_mut_slice-seen.ensures.value (c.in_ok-flags.ensures.items_if_clones_equal (λ y q. q)) c.new-found.ensures.items
 
 pub loop-done-init : goal.loop-done-init
 loop-done-init c =
@@ -28,3 +33,10 @@ loop-done-preserved c =
 
 pub returns : goal.returns
 returns c = IsSearch-end c.args.jobs c.args.sorted.now c.args.start c.loop-done.seen c.loop-done.found.items c.loop-done.done c.args.start c.loop-done.invariant (omega arith) c.requires.start
+
+pub meet-requires-in-loop-done-clause-listing : goal.meet-requires-in-loop-done-clause-listing
+meet-requires-in-loop-done-clause-listing c =
+    subst (λ m. IsListing m (λ k. slice_index_or c.loop-done.seen k false) c.loop-done.found.items) (sym c.loop-done.invariant.whole) c.loop-done.invariant.listing
+
+pub bounds-seen-start : goal.bounds-seen-start
+bounds-seen-start c = omega (arith, c.loop-done.invariant.whole, c.requires.start)
