@@ -3,7 +3,7 @@ use Rattle.std.proofs.lemmas.Int.{ints, to_z-of_z}
 use Rattle.std.specs.Int.{w64, w128}
 use Rattle.msp_instance.specs.declared.Job.{Job}
 use Rattle.msp_instance.specs.Conditions.{LiesWithin}
-use Rattle.msp_pieces.specs.Within.{greatest_scaled, greatest_level}
+use Rattle.msp_pieces.specs.Within.{IsMoment, IsUnit, greatest_scaled, greatest_level, greatest_lateness, greatest_cost}
 use Rattle.msp_pieces.specs.Cost.{job_cost}
 use Rattle.msp_class.specs.declared.class.Crit.{Crit}
 use Rattle.msp_class.specs.declared.class.Crit.TheVariants.{Lmax, Fmax, SumWC, SumU, SumWU, SumT, SumWT}
@@ -11,6 +11,52 @@ use Rattle.msp_pieces.proofs.job_cost.job_cost_at.Goals as goal
 
 pub returns-in-Lmax-clause-size : goal.returns-in-Lmax-clause-size
 returns-in-Lmax-clause-size c = let s = c.lateness_at.ensures.size in (omega (arith, ints), omega (arith, ints))
+
+-- what a call asks and answers, at the numbers as they are passed
+passed : (P : ℤ → Type 0) (x : ℤ) → FitsSigned w128 x → P x → P (to_z w128 (of_z w128 x))
+passed P x f h = subst P (sym (to_z-of_z w128 x f)) h
+
+pub lateness_at-requires-clause-moment : goal.lateness_at-requires-clause-moment
+lateness_at-requires-clause-moment c = passed IsMoment c.args.end c.ranges.end c.requires.moment
+
+pub curve_cost-requires-clause-moment : goal.curve_cost-requires-clause-moment
+curve_cost-requires-clause-moment c = passed IsMoment c.args.end c.ranges.end c.requires.moment
+
+pub late_at-requires-clause-moment : goal.late_at-requires-clause-moment
+late_at-requires-clause-moment c = passed IsMoment c.args.end c.ranges.end c.requires.moment
+
+pub late_at-requires-in-SumWU-clause-moment : goal.late_at-requires-in-SumWU-clause-moment
+late_at-requires-in-SumWU-clause-moment c = passed IsMoment c.args.end c.ranges.end c.requires.moment
+
+pub tardiness_at-requires-clause-moment : goal.tardiness_at-requires-clause-moment
+tardiness_at-requires-clause-moment c = passed IsMoment c.args.end c.ranges.end c.requires.moment
+
+pub tardiness_at-requires-in-SumWT-clause-moment : goal.tardiness_at-requires-in-SumWT-clause-moment
+tardiness_at-requires-in-SumWT-clause-moment c = passed IsMoment c.args.end c.ranges.end c.requires.moment
+
+pub late_at-requires-clause-unit : goal.late_at-requires-clause-unit
+late_at-requires-clause-unit c = passed IsUnit c.args.unit c.ranges.unit c.requires.unit
+
+pub late_at-requires-in-SumWU-clause-unit : goal.late_at-requires-in-SumWU-clause-unit
+late_at-requires-in-SumWU-clause-unit c = passed IsUnit c.args.unit c.ranges.unit c.requires.unit
+
+pub weighted-requires-in-SumWU-clause-small : goal.weighted-requires-in-SumWU-clause-small
+weighted-requires-in-SumWU-clause-small c = passed (LiesWithin greatest_lateness) c.late_at-in-SumWU.result (search rules) c.late_at-in-SumWU.ensures.size
+
+pub weighted-requires-in-SumWT-clause-small : goal.weighted-requires-in-SumWT-clause-small
+weighted-requires-in-SumWT-clause-small c = passed (LiesWithin greatest_lateness) c.tardiness_at-in-SumWT.result (search rules) c.tardiness_at-in-SumWT.ensures.size
+
+pub returns-in-Fmax-clause-size : goal.returns-in-Fmax-clause-size
+returns-in-Fmax-clause-size c = passed (LiesWithin greatest_cost) c.curve_cost.result (search rules) c.curve_cost.ensures.size
+
+pub returns-in-SumWC-clause-size : goal.returns-in-SumWC-clause-size
+returns-in-SumWC-clause-size c = passed (LiesWithin greatest_cost) c.weighted.result (search rules) c.weighted.ensures.size
+
+pub returns-in-SumWU-clause-size : goal.returns-in-SumWU-clause-size
+returns-in-SumWU-clause-size c = passed (LiesWithin greatest_cost) c.weighted-in-SumWU.result (search rules) c.weighted-in-SumWU.ensures.size
+
+pub returns-in-SumWT-clause-size : goal.returns-in-SumWT-clause-size
+returns-in-SumWT-clause-size c = passed (LiesWithin greatest_cost) c.weighted-in-SumWT.result (search rules) c.weighted-in-SumWT.ensures.size
 
 -- the product of the unit and the due date is small, at the numbers as they are passed
 due_small : (unit due : ℤ) → FitsSigned w128 unit → FitsSigned w64 due

@@ -4,6 +4,7 @@ use Rattle.std.proofs.lemmas.Int.{to_z-of_z}
 use Rattle.std.specs.Int.{w128}
 use Rattle.msp_instance.specs.declared.Step.{Step}
 use Rattle.msp_instance.specs.Conditions.{LiesWithin}
+use Rattle.std.proofs.lemmas.Grind.{common_steps}
 use Rattle.msp_pieces.specs.Within.{greatest_scaled}
 use Rattle.msp_pieces.specs.Cost.{jump}
 use Rattle.msp_pieces.proofs.job_cost.jumps_at.Goals as goal
@@ -24,3 +25,15 @@ pub jump_at-requires : goal.jump_at-requires
 jump_at-requires c =
     subst₂ (λ u l. All (λ s. LiesWithin greatest_scaled (u *ℤ pos s.above)) l) (sym (to_z-of_z w128 c.args.unit c.ranges.unit))
     (sym c.as_slice-step-items.ensures) c.requires.small c.loop-step.step-index _ c.loop-step-test.true
+
+pub overflow_add-total : goal.overflow_add-total
+overflow_add-total c = grind (arith, common_steps)
+
+pub loop-step-init : goal.loop-step-init
+loop-step-init c = grind (arith, common_steps)
+
+pub loop-step-preserved : goal.loop-step-preserved
+loop-step-preserved c = grind (arith, common_steps)
+
+pub returns-clause-size : goal.returns-clause-size
+returns-clause-size c = grind (arith, common_steps)

@@ -1,6 +1,7 @@
-use Rattle.std.proofs.Common.{arith, rules}
+use Rattle.std.proofs.Common.{arith, rules, subst, sym}
 use Rattle.std.proofs.lemmas.Int.{to_z-of_z}
 use Rattle.std.specs.Int.{w128}
+use Rattle.msp_pieces.specs.Within.{IsUnit}
 use Rattle.msp_pieces.proofs.costs.Costs.{ReachesTo-first, ReachesTo-step, ReachesTo-all, passed_moment, passed_cost, passed_max}
 use Rattle.msp_pieces.proofs.total_cost.greatest_of_costs.Goals as goal
 
@@ -34,3 +35,18 @@ loop-k-preserved c = (
 
 pub returns-clause-value : goal.returns-clause-value
 returns-clause-value c = ReachesTo-all _ c.args.unit _ _ c.args.jobs.now c.loop-k.k _ (to_z-of_z w128 c.args.unit c.ranges.unit) c.loop-k-test.false c.loop-k.invariant.1
+
+pub bounds-ends-0 : goal.bounds-ends-0
+bounds-ends-0 c = omega (arith, c.requires.some, c.requires.each)
+
+pub job_cost_at-top-requires-clause-unit : goal.job_cost_at-top-requires-clause-unit
+job_cost_at-top-requires-clause-unit c = subst IsUnit (sym (to_z-of_z w128 c.args.unit c.ranges.unit)) c.requires.unit
+
+pub job_cost_at-top-requires-clause-moment : goal.job_cost_at-top-requires-clause-moment
+job_cost_at-top-requires-clause-moment c = passed_moment _ _ (to_z-of_z w128 _ (search rules)) (c.requires.moments 0 c.requires.some)
+
+pub bounds-ends-k : goal.bounds-ends-k
+bounds-ends-k c = omega (arith, c.requires.each, c.loop-k-test.true)
+
+pub job_cost_at-requires-clause-unit : goal.job_cost_at-requires-clause-unit
+job_cost_at-requires-clause-unit c = subst IsUnit (sym (to_z-of_z w128 c.args.unit c.ranges.unit)) c.requires.unit
