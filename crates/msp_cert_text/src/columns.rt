@@ -7,6 +7,7 @@ ghost use Rattle.msp_cert_text.specs.CertificateText.{column_lines};
 ghost use Rattle.msp_cert_text.specs.Reading.{filled, position_at, column_price_at, column_added, columns_step};
 ghost use Rattle.msp_grammar.specs.lines.Steps.{Moves, AfterLine, place_of, fields_after};
 
+use crate::kinds::is_word;
 use crate::segments::has_room;
 use msp_cert::GREATEST_PRICE;
 use msp_class::{List, NoMemory};
@@ -130,7 +131,7 @@ fn columns_step(
     let at = lines.at;
     let line = line_at(lines)?;
     let (word, fields) = split_word(line);
-    if *word == *b"column".as_slice() {
+    if is_word(word, b"column") {
         if !has_room(before, used) {
             return Err(FileFault::Limit {
                 at,

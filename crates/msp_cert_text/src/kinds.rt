@@ -1,5 +1,5 @@
 // The kinds of certificates, and the limits of their texts.
-ghost use Rattle.std.specs.Prelude.{◌≡◌};
+ghost use Rattle.std.specs.Prelude.{◌≡◌, bytes_eq};
 ghost use Rattle.msp_cert_text.specs.CertificateText.{kind_of, kind_word};
 
 use msp_cert::{MOST_ENTRIES, Proof};
@@ -52,4 +52,11 @@ pub fn kind_word(proof: &Proof) -> &'static [u8]
         Kind::Block => b"block",
         Kind::Prices => b"prices",
     }
+}
+
+/// Whether a word is the one that is looked for.
+pub(crate) fn is_word(word: &[u8], wanted: &[u8]) -> bool
+    ensures { result ≡ bytes_eq word.now wanted.now }
+{
+    *word == *wanted
 }

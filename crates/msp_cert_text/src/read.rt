@@ -11,7 +11,7 @@ ghost use Rattle.msp_cert_text.specs.Answers.{IsCertificateFaultOf, IsCertificat
 ghost use Rattle.msp_grammar.specs.lines.Steps.{Moves, parts_of, place_of};
 
 use crate::evidence::proof_at;
-use crate::kinds::{GREATEST_BOUND, Kind};
+use crate::kinds::{GREATEST_BOUND, Kind, is_word};
 use msp_cert::Certificate;
 use msp_grammar::{
     FileFault, LAST_LINE, Lines, MOST_BYTES, cost_line_at, field_line_at, word_line_at,
@@ -25,13 +25,13 @@ use std::alloc::Global;
 fn later_kind_in(word: &[u8]) -> Option<Kind>
     ensures { result ≡ later_kind_in word.now }
 {
-    if *word == *b"segments".as_slice() {
+    if is_word(word, b"segments") {
         return Some(Kind::Segments);
     }
-    if *word == *b"block".as_slice() {
+    if is_word(word, b"block") {
         return Some(Kind::Block);
     }
-    if *word == *b"prices".as_slice() {
+    if is_word(word, b"prices") {
         return Some(Kind::Prices);
     }
     None
@@ -41,16 +41,16 @@ fn later_kind_in(word: &[u8]) -> Option<Kind>
 fn kind_in(word: &[u8]) -> Option<Kind>
     ensures { result ≡ kind_in word.now }
 {
-    if *word == *b"group".as_slice() {
+    if is_word(word, b"group") {
         return Some(Kind::Group);
     }
-    if *word == *b"machine".as_slice() {
+    if is_word(word, b"machine") {
         return Some(Kind::Machine);
     }
-    if *word == *b"line".as_slice() {
+    if is_word(word, b"line") {
         return Some(Kind::Line);
     }
-    if *word == *b"levels".as_slice() {
+    if is_word(word, b"levels") {
         return Some(Kind::Levels);
     }
     later_kind_in(word)

@@ -9,7 +9,7 @@ ghost use Rattle.msp_cert_text.specs.Reading.{job_in, jobs_step, with_job, is_se
 ghost use Rattle.msp_cert_text.specs.Steps.{lists_of};
 ghost use Rattle.msp_grammar.specs.lines.Steps.{Moves, AfterLine, place_of, fields_after};
 
-use crate::kinds::MOST_LINES;
+use crate::kinds::{MOST_LINES, is_word};
 use msp_class::{List, NoMemory};
 use msp_grammar::{
     FileFault, Lines, What, count_fields, end_line, known_at, line_at, next_field, split_word,
@@ -52,7 +52,7 @@ fn jobs_step(
     let at = lines.at;
     let line = line_at(lines)?;
     let (word, fields) = split_word(line);
-    if *word == *b"job".as_slice() {
+    if is_word(word, b"job") {
         if !has_room(before, jobs.len()) {
             return Err(FileFault::Limit {
                 at,
@@ -118,7 +118,7 @@ fn segment_added(
     ensures gives { Gives (λ _. lists_of lists.new) result (segment_added names.now word.now at (lists_of lists.old) (fields_after fields.now)) }
     ensures count { OnOk result (length (segment_lines names.now (lists_of lists.new)) ≡ length (segment_lines names.now (lists_of lists.old)) + 1) }
 {
-    if *word == *b"segment".as_slice() {
+    if is_word(word, b"segment") {
         if count_fields(fields) != 0 {
             return Err(FileFault::Count { at });
         }
@@ -133,7 +133,7 @@ fn segment_added(
 fn is_segment_word(word: &[u8]) -> bool
     ensures { (lists : Items (Items ℕ)) (last : Items ℕ) → result ≡ is_segment_word (lists ++ last ∷ []) word.now }
 {
-    *word == *b"segment".as_slice() || *word == *b"job".as_slice()
+    is_word(word, b"segment") || is_word(word, b"job")
 }
 
 /// Reads a line after the first list began, and answers whether it begins a list or is a job.
@@ -192,7 +192,7 @@ fn first_list(lines: &mut Lines<'_>) -> Result<bool, FileFault>
     let at = lines.at;
     let line = line_at(lines)?;
     let (word, fields) = split_word(line);
-    if *word == *b"segment".as_slice() {
+    if is_word(word, b"segment") {
         if count_fields(fields) != 0 {
             return Err(FileFault::Count { at });
         }
