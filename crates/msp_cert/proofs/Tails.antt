@@ -1,9 +1,11 @@
 -- How many jobs have at least a level, level by level, and what the levels of all jobs are worth with each tail.
-use Rattle.std.proofs.Common.{◌≡◌, ℕ, zero, suc, ◌+◌, ◌-◌, ◌/◌, ◌<◌, ◌≤◌, Bool, cond, List, length, get_or, take, count_by, Some, All, pos, refl}
+use Rattle.std.proofs.Common.{◌≡◌, ℕ, zero, suc, ◌+◌, ◌-◌, ◌/◌, ◌<◌, ◌≤◌, inl, inr, Bool, cond, List, length, get_or, set, take, count_by, Some, All, pos, refl}
 use Rattle.std.proofs.Common.{sym, ap, subst, ◌∙◌, arith}
 use Rattle.std.specs.Prelude.{Any, nat_le, ◌==◌}
 use Rattle.std.proofs.lemmas.Bool.Decides.{nat_tests}
-use Rattle.std.proofs.lemmas.List.{get_or_default, length-take-le}
+use Rattle.std.proofs.lemmas.List.{get_or_default, get_or-set_same, get_or-set_other, length-set, length-take-le}
+use Rattle.std.proofs.lemmas.List.Sums.{count_by_more_yes, count_by_more_no}
+use Rattle.msp_class.proofs.Cases.{same_or_not}
 use Rattle.std.proofs.lemmas.List.Elements.{All-contains}
 use Rattle.msp_class.specs.declared.sizes.TheConstants.{MOST_JOBS}
 use Rattle.msp_class.specs.Sums.{total_below}
@@ -56,6 +58,17 @@ at_most_all t xs = omega (arith, sum_by-mono (λ x. cond (x == t) 1 0) (λ _. 1)
 
 pub counted_few : (level counts : List ℕ) (k t : ℕ) → AreCounted level k counts → k ≤ length level → t < MOST_JOBS → get_or counts t 0 ≤ k
 counted_few level counts k t h l b = omega (arith, h.each t b, at_most_all t (take k level), length-take-le k level l)
+
+pub AreCounted-next : (level : List ℕ) (k : ℕ) (counts : List ℕ) → AreCounted level k counts → k < length level → get_or level k 0 < MOST_JOBS
+    → AreCounted level (k + 1) (set counts (get_or level k 0) (get_or counts (get_or level k 0) 0 + 1))
+AreCounted-next level k counts h l small = record {
+  wide = length-set counts _ _ ∙ h.wide;
+  each = λ t b. elim (same_or_not t (get_or level k 0)) [
+    | inl s ↦ subst (λ t. get_or (set counts (get_or level k 0) (get_or counts (get_or level k 0) 0 + 1)) t 0 ≡ count_by (λ l. l == t) (take (k + 1) level)) (sym s)
+        (get_or-set_same counts _ _ 0 (omega (arith, h.wide, small)) ∙ ap (λ n. n + 1) (h.each _ small) ∙ sym (count_by_more_yes (λ l. l == get_or level k 0) level k 0 l (grind (arith, nat_tests))))
+    | inr n ↦ get_or-set_other counts _ t _ 0 n ∙ h.each t b ∙ sym (count_by_more_no (λ l. l == t) level k 0 l (grind (arith, nat_tests)))
+  ];
+}
 
 -- ---- no level is as great as the number of jobs
 beyond : (i : Instance) (order : List ℕ) → IsSequence i order → All (GoesForward order) i.arcs

@@ -1,6 +1,6 @@
 -- Occupancies of pieces in order: neighbours that do not meet leave no overlap, and the first two that meet are the first overlap.
-use Rattle.std.proofs.Common.{◌≡◌, ◌≢◌, ℕ, ◌+◌, ◌<◌, ◌≤◌, inl, inr, Bool, false, List, length, get_or, All, AllPairs, Contains, IsPermutation, Option, Some, None}
-use Rattle.std.proofs.Common.{◌≤ℤ◌, ◌<ℤ◌, refl, sym, ap, subst, ◌∙◌, arith}
+use Rattle.std.proofs.Common.{◌≡◌, ◌≢◌, ℕ, ◌+◌, ◌<◌, ◌≤◌, inl, inr, Bool, false, List, [], ◌∷◌, ◌++◌, length, get_or, All, AllPairs, Contains, IsPermutation, Option, Some, None}
+use Rattle.std.proofs.Common.{◌≤ℤ◌, ◌<ℤ◌, refl, sym, ap, subst, ◌∙◌, arith, below_more}
 use Rattle.std.specs.Ordering.{int_cmp, nat_cmp, ordering_then, MatchOrdering, is_lt}
 use Rattle.std.specs.declared.cmp.Ordering.{Ordering}
 use Rattle.std.specs.declared.cmp.Ordering.TheVariants.{Less, Equal, Greater}
@@ -8,7 +8,7 @@ use Rattle.msp_pieces.proofs.lists.DateOrder.{less-no}
 use Rattle.std.proofs.lemmas.Bool.{cases_lt}
 use Rattle.std.proofs.lemmas.Cmp.{ranked, nat_cmp_total, int_cmp_total, on_total, then_total}
 use Rattle.std.proofs.lemmas.Int.{ints}
-use Rattle.std.proofs.lemmas.List.{get_or_default}
+use Rattle.std.proofs.lemmas.List.{get_or_default, length_push, get_or_push, get_or_append_left}
 use Rattle.std.proofs.lemmas.List.Elements.{Contains-get_or}
 use Rattle.std.specs.Cmp.{IsStrictWeakOrder}
 use Rattle.std.specs.List.Sorted.{IsSortedBy}
@@ -24,6 +24,15 @@ use Rattle.msp_schedule.specs.Lanes.{lane_of, Precedes}
 use Rattle.msp_schedule.specs.Occupancies.{no_occupancy, occupancy_at, occupancy_of, AreOccupancies, IsNotAfter, IsClearBelow, IsFirstMeeting}
 use Rattle.msp_schedule.proofs.judging.OverlapFacts.{apart_without_overlap, is_first}
 use Rattle.msp_pieces.proofs.lists.Permuted.{AllPairs-permutation}
+
+-- ---- one more occupancy
+pub AreOccupancies-next : (lane : Lane) (ps : List Piece) (n : ℕ) (ms : List Occupancy) (m : Occupancy) → AreOccupancies lane ps n ms → m ≡ occupancy_of lane (piece_at ps n) n
+    → AreOccupancies lane ps (n + 1) (ms ++ m ∷ [])
+AreOccupancies-next lane ps n ms m h e = (
+  omega (arith, length_push ms m, h.0),
+  below_more (λ k. occupancy_at (ms ++ m ∷ []) k ≡ occupancy_of lane (piece_at ps k) k) n
+      (λ k l. get_or_append_left ms (m ∷ []) no_occupancy k (omega (arith, l, h.0)) ∙ h.1 k l) (get_or_push ms m no_occupancy n h.0 ∙ e),
+)
 
 -- ---- occupancies in any order
 -- a occupancy is that of its piece, each piece has its occupancy, and no two have one number
