@@ -68,8 +68,8 @@ ifneq ($(filter-out help clean check install release ports dist,$(or $(MAKECMDGO
 MAKEFLAGS += -j$(AT_ONCE)
 # When this call began, by which tools/progress tells what it proved.
 export BEGUN := $(shell date +%s)
-# The toolchain's folder, which rt tells in half a second: asked once, and not by each tools/prove.
-export KIT := $(shell command -v rt >/dev/null && dirname "$$(rt doc)")
+# The toolchain's folder, which rt tells in half a second: asked once, where a crate is to be proved.
+KIT = $(eval KIT := $(shell command -v rt >/dev/null && dirname "$$(rt doc)"))$(KIT)
 include $(OUT)/rules.mk
 $(OUT)/rules.mk: crates.txt $(SOURCES) tools/rules
 	@mkdir -p $(OUT)
