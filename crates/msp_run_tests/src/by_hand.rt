@@ -94,7 +94,10 @@ fn read(rt: &impl Abort, alloc: Global, text: &[u8]) -> Filed
     ensures { Inner result.instance }
 {
     assert!(rt; text.len() <= 400);
-    read_instance(alloc, text).ok().expect(rt, "an instance")
+    match read_instance(alloc, text) {
+        Ok(filed) => filed,
+        Err(_) => panic!(rt; "the text is no instance"),
+    }
 }
 
 /// Whether what comes back is what is known.
