@@ -70,6 +70,8 @@ MAKEFLAGS += -j$(AT_ONCE)
 export BEGUN := $(shell date +%s)
 # The toolchain's folder, which rt tells in half a second: asked once, where a crate is to be proved.
 KIT = $(eval KIT := $(shell command -v rt >/dev/null && dirname "$$(rt doc)"))$(KIT)
+# Provers that are more than the processors hinder each other less where none interrupts another for having waited (SCHED_BATCH).
+BATCH := $(shell chrt -b 0 true 2>/dev/null && echo chrt -b 0)
 include $(OUT)/rules.mk
 $(OUT)/rules.mk: crates.txt $(SOURCES) tools/rules
 	@mkdir -p $(OUT)
